@@ -1,0 +1,80 @@
+-- The laws of the readings.
+use mathlib.Core.Path.{_≡_, refl, sym, ap, _∙_}
+use mathlib.Core.Bool.{Bool, true, false, _&&_}
+use mathlib.Core.List.{List, [], _∷_}
+use Prim.Native.Nat.{ℕ, zero, suc, _+_, _-_, _≤_, _<_}
+use native.Mathlib.Omega.{arith}
+use native.Mathlib.Numerals.{add-one}
+use lib.Dec.{eqb}
+use lib.ListN.{length, take, drop, getD, length-take, length-drop, drop-of-length-le, List·getD-eq-default}
+use lib.Seq.{drop-cons, getD-take, getD-drop}
+use borrow.Author.Tests.{eq-eqb, eqb-true}
+use Rattle.rules.specs.Bytes.{byteAt, part, allAre}
+use Rattle.rules.proofs.Tests.{both}
+
+-- the list from byte i on, a byte, two and three at a time
+pub drop-two : (bytes : List ℕ) (i : ℕ) → i + 2 ≤ length bytes → drop i bytes ≡ byteAt bytes i ∷ (byteAt bytes (i + 1) ∷ drop (i + 2) bytes)
+drop-two bytes i h =
+    let h0 : i < length bytes = omega arith in
+    let h1 : i + 1 < length bytes = omega arith in
+    let e1 : suc i ≡ i + 1 = omega arith in
+    let e2 : suc (i + 1) ≡ i + 2 = omega arith in
+    rw (drop-cons bytes i 0 h0, e1, drop-cons bytes (i + 1) 0 h1, e2)
+
+pub drop-three : (bytes : List ℕ) (i : ℕ) → i + 3 ≤ length bytes
+    → drop i bytes ≡ byteAt bytes i ∷ (byteAt bytes (i + 1) ∷ (byteAt bytes (i + 2) ∷ drop (i + 3) bytes))
+drop-three bytes i h =
+    let h0 : i < length bytes = omega arith in
+    let h1 : i + 1 + 2 ≤ length bytes = omega arith in
+    let e0 : suc i ≡ i + 1 = omega arith in
+    let e1 : i + 1 + 1 ≡ i + 2 = omega arith in
+    let e2 : i + 1 + 2 ≡ i + 3 = omega arith in
+    rw (drop-cons bytes i 0 h0, e0, drop-two bytes (i + 1) h1, e1, e2)
+
+-- a part: its length and its bytes
+pub part-length : (bytes : List ℕ) (from count : ℕ) → from + count ≤ length bytes → length (part bytes from count) ≡ count
+part-length bytes from count h = simp (length-take, length-drop) (omega arith)
+
+pub part-short : (bytes : List ℕ) (from count : ℕ) → length (part bytes from count) ≤ count
+part-short bytes from count = rw length-take (omega arith)
+
+pub part-at : (bytes : List ℕ) (from count i : ℕ) → i < count → byteAt (part bytes from count) i ≡ byteAt bytes (from + i)
+part-at bytes from count i h = rw (getD-take count (drop from bytes) i 0 h, getD-drop from bytes i 0)
+
+-- all are one value: the next byte and the rest, the end, and every place
+pub all-step : (value : ℕ) (bytes : List ℕ) (i : ℕ) → i < length bytes
+    → allAre value (drop i bytes) ≡ (eqb (byteAt bytes i) value && allAre value (drop (i + 1) bytes))
+unfolding allAre
+all-step value bytes i h = rw (add-one, drop-cons bytes i 0)
+
+pub all-end : (value : ℕ) (bytes : List ℕ) (i : ℕ) → length bytes ≤ i → allAre value (drop i bytes) ≡ true
+unfolding allAre
+all-end value bytes i h = rw drop-of-length-le
+
+pub all-at : (value : ℕ) (bytes : List ℕ) → allAre value bytes ≡ true → (i : ℕ) → i < length bytes → byteAt bytes i ≡ value
+unfolding allAre
+all-at value [] e i h = absurd (omega arith)
+all-at value (b ∷ bytes) e zero h = eqb-true b value (both (eqb b value) (allAre value bytes) e .0)
+all-at value (b ∷ bytes) e (suc i) h = all-at value bytes (both (eqb b value) (allAre value bytes) e .1) i (omega arith)
+
+pub at-all : (value : ℕ) (bytes : List ℕ) → ((i : ℕ) → i < length bytes → byteAt bytes i ≡ value) → allAre value bytes ≡ true
+unfolding allAre
+at-all value [] f = refl
+at-all value (b ∷ bytes) f = rw (eq-eqb b value (f zero (omega arith))) (at-all value bytes (λ i h. f (suc i) (omega arith)))
+
+-- zeros from a place on, said of every place from there, past the end too
+all-zero-at : (bytes : List ℕ) → allAre 0 bytes ≡ true → (i : ℕ) → byteAt bytes i ≡ 0
+unfolding allAre
+all-zero-at [] e i = refl
+all-zero-at (b ∷ bytes) e zero = eqb-true b 0 (both (eqb b 0) (allAre 0 bytes) e .0)
+all-zero-at (b ∷ bytes) e (suc i) = all-zero-at bytes (both (eqb b 0) (allAre 0 bytes) e .1) i
+
+pub zeros-at : (bytes : List ℕ) (from : ℕ) → allAre 0 (drop from bytes) ≡ true → (i : ℕ) → from ≤ i → byteAt bytes i ≡ 0
+zeros-at bytes from e i h =
+    let w : from + (i - from) ≡ i = omega arith in
+    let z = all-zero-at (drop from bytes) e (i - from) in
+    let y = rw (getD-drop from bytes (i - from) 0, w) at z in
+    y
+
+pub at-zeros : (bytes : List ℕ) (from : ℕ) → ((i : ℕ) → from ≤ i → byteAt bytes i ≡ 0) → allAre 0 (drop from bytes) ≡ true
+at-zeros bytes from f = at-all 0 (drop from bytes) (λ i h. rw (getD-drop from bytes i 0) (f (from + i) (omega arith)))

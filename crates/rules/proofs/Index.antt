@@ -1,0 +1,70 @@
+-- Sector 1: its numbers, a number at a time, and its rule as a test and as facts.
+use mathlib.Core.Path.{_≡_, refl, sym, ap, _∙_}
+use mathlib.Core.Bool.{Bool, true, false, cond, _&&_}
+use mathlib.Core.List.{List, [], _∷_}
+use Prim.Native.Nat.{ℕ, zero, suc, _+_, _*_, _≤_, _<_}
+use native.Mathlib.Omega.{arith}
+use lib.Dec.{eqb, leb, ltb}
+use lib.ListN.{length, drop, getD, length-drop}
+use borrow.Author.Tests.{eq-eqb, ne-eqb, le-leb, leb-true, lt-ltb, ltb-true}
+use Rattle.rules.specs.Bytes.{byteAt, wordAt, allAre}
+use Rattle.rules.specs.Index.{numbers, rangeRule, indexRule, IsIndex}
+use Rattle.rules.proofs.Tests.{both}
+use Rattle.rules.proofs.Bytes.{drop-two, zeros-at, at-zeros}
+
+-- the numbers from byte i on: one and the rest, the end, and too few bytes for one
+module _ (sector1 : List ℕ) (i : ℕ) where
+  pub numbers-step : i + 2 ≤ length sector1 → (wordAt sector1 i ≡ 0 → ⊥) → numbers (drop i sector1) ≡ wordAt sector1 i ∷ numbers (drop (i + 2) sector1)
+  unfolding numbers
+  numbers-step h e = rw (drop-two sector1 i h, ne-eqb (wordAt sector1 i) 0 e)
+
+  pub numbers-end : i + 2 ≤ length sector1 → wordAt sector1 i ≡ 0 → numbers (drop i sector1) ≡ []
+  unfolding numbers
+  numbers-end h e = rw (drop-two sector1 i h, eq-eqb (wordAt sector1 i) 0 e)
+
+  pub numbers-short : length sector1 < i + 2 → numbers (drop i sector1) ≡ []
+  unfolding numbers
+  numbers-short h = short (drop i sector1) (rw length-drop (omega arith))
+    where
+      short : (rest : List ℕ) → length rest < 2 → numbers rest ≡ []
+      short [] k = refl
+      short (a ∷ []) k = refl
+      short (a ∷ (b ∷ rest)) k = absurd (omega arith)
+
+range-is : (n : ℕ) (ks : List ℕ) → rangeRule n ks ≡ true → (p : ℕ) → p < length ks → (2 ≤ getD ks p 0) × (getD ks p 0 < n)
+unfolding rangeRule
+range-is n [] e p h = absurd (omega arith)
+range-is n (k ∷ ks) e p h =
+    let low = both (leb 2 k) (ltb k n && rangeRule n ks) e in
+    let high = both (ltb k n) (rangeRule n ks) (low .1) in
+    at p h (leb-true 2 k (low .0)) (ltb-true k n (high .0)) (range-is n ks (high .1))
+  where
+    at : (p : ℕ) → p < length (k ∷ ks) → 2 ≤ k → k < n → ((p : ℕ) → p < length ks → (2 ≤ getD ks p 0) × (getD ks p 0 < n))
+        → (2 ≤ getD (k ∷ ks) p 0) × (getD (k ∷ ks) p 0 < n)
+    at zero h low high more = (low, high)
+    at (suc p) h low high more = more p (omega arith)
+
+is-range : (n : ℕ) (ks : List ℕ) → ((p : ℕ) → p < length ks → (2 ≤ getD ks p 0) × (getD ks p 0 < n)) → rangeRule n ks ≡ true
+unfolding rangeRule
+is-range n [] f = refl
+is-range n (k ∷ ks) f =
+    let first = f 0 (omega arith) in
+    rw (le-leb 2 k (first .0), lt-ltb k n (first .1)) (is-range n ks (λ p h. f (suc p) (omega arith)))
+
+pub index-is : (n : ℕ) (sector1 : List ℕ) → indexRule n sector1 ≡ true → IsIndex n sector1
+unfolding indexRule
+index-is n sector1 e =
+    let few = ltb (length (numbers sector1)) 128 in
+    let rest = allAre 0 (drop (2 * length (numbers sector1)) sector1) in
+    let ranged = both (rangeRule n (numbers sector1)) (few && rest) e in
+    let ended = both few rest (ranged .1) in
+    record {
+      range = range-is n (numbers sector1) (ranged .0);
+      few = omega (arith, ltb-true (length (numbers sector1)) 128 (ended .0));
+      rest = zeros-at sector1 (2 * length (numbers sector1)) (ended .1);
+    }
+
+pub is-index : (n : ℕ) (sector1 : List ℕ) → IsIndex n sector1 → indexRule n sector1 ≡ true
+unfolding indexRule
+is-index n sector1 is =
+    rw (is-range n (numbers sector1) (is .range), lt-ltb (length (numbers sector1)) 128 (omega (arith, is .few)), at-zeros sector1 (2 * length (numbers sector1)) (is .rest))

@@ -1,0 +1,166 @@
+-- Counts of holders, and the map: its rule as a test and as facts; the bits determine the bytes, and the bytes the bits.
+use mathlib.Core.Path.{_≡_, refl, sym, ap, _∙_}
+use mathlib.Core.Bool.{Bool, true, false, cond, _&&_, _||_}
+use mathlib.Core.List.{List, [], _∷_, _++_}
+use Prim.Native.Nat.{ℕ, zero, suc, _+_, _-_, _*_, _/_, _%_, _^_, _≤_, _<_}
+use native.Mathlib.Omega.{arith}
+use native.Mathlib.Nat.{mod-lt}
+use native.Mathlib.Decide.{decLt, ℕ-discrete}
+use lib.Dec.{eqb, ltb}
+use lib.ListN.{length, getD}
+use lib.Seq.{ext-getD}
+use borrow.Author.Tests.{eq-eqb, ne-eqb, lt-ltb, le-ltb, eqb-true}
+use Rattle.rules.specs.Bytes.{byteAt, bitOf, part}
+use Rattle.rules.specs.Map.{mapBit, count, taken, bitsRule, mapRule, byteOf, bytesOf, mapOf}
+use Rattle.rules.proofs.Tests.{both}
+use Rattle.rules.proofs.Bytes.{part-at}
+
+pub count-none : (k : ℕ) → count k [] ≡ 0
+unfolding count
+count-none k = refl
+
+pub count-here : (k : ℕ) (holders : List ℕ) → count k (k ∷ holders) ≡ 1 + count k holders
+unfolding count
+count-here k holders = rw (eq-eqb k k refl)
+
+pub count-other : (k h : ℕ) (holders : List ℕ) → (h ≡ k → ⊥) → count k (h ∷ holders) ≡ count k holders
+unfolding count
+count-other k h holders ne = rw (ne-eqb h k ne) (omega arith)
+
+-- one holder more counts no less
+pub count-more : (k h : ℕ) (holders : List ℕ) → count k holders ≤ count k (h ∷ holders)
+unfolding count
+count-more k h holders = omega arith
+
+pub count-append : (k : ℕ) (as′ bs : List ℕ) → count k (as′ ++ bs) ≡ count k as′ + count k bs
+unfolding count
+count-append k [] bs = omega arith
+count-append k (h ∷ as′) bs = omega (arith, count-append k as′ bs)
+
+-- what bit k is to be
+pub taken-below : (n : ℕ) (holders : List ℕ) (k : ℕ) → k < n → taken n holders k ≡ count k holders
+unfolding taken
+taken-below n holders k h = rw (lt-ltb k n h)
+
+pub taken-past : (n : ℕ) (holders : List ℕ) (k : ℕ) → n ≤ k → taken n holders k ≡ 1
+unfolding taken
+taken-past n holders k h = rw (le-ltb k n h)
+
+pub taken-once : (n : ℕ) (holders : List ℕ) → ((k : ℕ) → count k holders ≤ 1) → (k : ℕ) → taken n holders k ≤ 1
+taken-once n holders once k =
+    elim (decLt k n)
+      [ yes h ↦ rw (taken-below n holders k h) (once k)
+      | no h ↦ rw (taken-past n holders k (omega arith)) (omega arith)
+      ]
+
+-- the rule, bit by bit
+bits-at : (n : ℕ) (holders sector0 : List ℕ) (length k : ℕ) → bitsRule n holders sector0 length k ≡ true → (i : ℕ) → k ≤ i → i < k + length → mapBit sector0 i ≡ taken n holders i
+unfolding bitsRule
+bits-at n holders sector0 zero k e i low high = absurd (omega arith)
+bits-at n holders sector0 (suc length) k e i low high =
+    let parts = both (eqb (mapBit sector0 k) (taken n holders k)) (bitsRule n holders sector0 length (k + 1)) e in
+    elim (ℕ-discrete k i)
+      [ yes here ↦ rw (← here) (eqb-true _ _ (parts .0))
+      | no there ↦ bits-at n holders sector0 length (k + 1) (parts .1) i (omega (arith, there)) (omega arith)
+      ]
+
+at-bits : (n : ℕ) (holders sector0 : List ℕ) (length k : ℕ) → ((i : ℕ) → k ≤ i → i < k + length → mapBit sector0 i ≡ taken n holders i) → bitsRule n holders sector0 length k ≡ true
+unfolding bitsRule
+at-bits n holders sector0 zero k f = refl
+at-bits n holders sector0 (suc length) k f =
+    rw (eq-eqb (mapBit sector0 k) (taken n holders k) (f k (omega arith) (omega arith)))
+    (at-bits n holders sector0 length (k + 1) (λ i low high. f i (omega arith) (omega arith)))
+
+pub map-at : (n : ℕ) (holders sector0 : List ℕ) → mapRule n holders sector0 ≡ true → (k : ℕ) → k < 1600 → mapBit sector0 k ≡ taken n holders k
+unfolding mapRule
+map-at n holders sector0 e k h = bits-at n holders sector0 1600 0 e k (omega arith) (omega arith)
+
+pub at-map : (n : ℕ) (holders sector0 : List ℕ) → ((k : ℕ) → k < 1600 → mapBit sector0 k ≡ taken n holders k) → mapRule n holders sector0 ≡ true
+unfolding mapRule
+at-map n holders sector0 f = at-bits n holders sector0 1600 0 (λ k low high. f k (omega arith))
+
+-- a byte's bits are those that made it
+by-eight : (P : ℕ → Type 0) → P 0 → P 1 → P 2 → P 3 → P 4 → P 5 → P 6 → P 7 → (j : ℕ) → j < 8 → P j
+by-eight P p0 p1 p2 p3 p4 p5 p6 p7 zero h = p0
+by-eight P p0 p1 p2 p3 p4 p5 p6 p7 (suc zero) h = p1
+by-eight P p0 p1 p2 p3 p4 p5 p6 p7 (suc (suc zero)) h = p2
+by-eight P p0 p1 p2 p3 p4 p5 p6 p7 (suc (suc (suc zero))) h = p3
+by-eight P p0 p1 p2 p3 p4 p5 p6 p7 (suc (suc (suc (suc zero)))) h = p4
+by-eight P p0 p1 p2 p3 p4 p5 p6 p7 (suc (suc (suc (suc (suc zero))))) h = p5
+by-eight P p0 p1 p2 p3 p4 p5 p6 p7 (suc (suc (suc (suc (suc (suc zero)))))) h = p6
+by-eight P p0 p1 p2 p3 p4 p5 p6 p7 (suc (suc (suc (suc (suc (suc (suc zero))))))) h = p7
+by-eight P p0 p1 p2 p3 p4 p5 p6 p7 (suc (suc (suc (suc (suc (suc (suc (suc j)))))))) h = absurd (omega arith)
+
+module _ (bit : ℕ → ℕ) (once : (k : ℕ) → bit k ≤ 1) (k : ℕ) where
+  pub byte-bit : (j : ℕ) → j < 8 → bitOf (byteOf bit k) j ≡ bit (k + j)
+  unfolding byteOf
+  byte-bit =
+      let b0 = once k in
+      let b1 = once (k + 1) in
+      let b2 = once (k + 2) in
+      let b3 = once (k + 3) in
+      let b4 = once (k + 4) in
+      let b5 = once (k + 5) in
+      let b6 = once (k + 6) in
+      let b7 = once (k + 7) in
+      by-eight (λ (j : ℕ). bitOf (byteOf bit k) j ≡ bit (k + j)) (let z : k + 0 ≡ k = omega arith in rw z (omega arith)) (omega arith) (omega arith) (omega arith) (omega arith) (omega arith) (omega arith) (omega arith)
+
+-- and the bits determine the byte: halving it eight times leaves nothing
+halvings : (b q1 q2 q3 q4 q5 q6 q7 r0 r1 r2 r3 r4 r5 r6 r7 : ℕ) → b ≡ r0 + 2 * q1 → q1 ≡ r1 + 2 * q2 → q2 ≡ r2 + 2 * q3 → q3 ≡ r3 + 2 * q4
+    → q4 ≡ r4 + 2 * q5 → q5 ≡ r5 + 2 * q6 → q6 ≡ r6 + 2 * q7 → q7 ≡ r7
+    → b ≡ r0 + 2 * r1 + 4 * r2 + 8 * r3 + 16 * r4 + 32 * r5 + 64 * r6 + 128 * r7
+halvings b q1 q2 q3 q4 q5 q6 q7 r0 r1 r2 r3 r4 r5 r6 r7 e0 e1 e2 e3 e4 e5 e6 e7 = omega arith
+
+eight-bits : (b : ℕ) → b < 256
+    → b ≡ bitOf b 0 + 2 * bitOf b 1 + 4 * bitOf b 2 + 8 * bitOf b 3 + 16 * bitOf b 4 + 32 * bitOf b 5 + 64 * bitOf b 6 + 128 * bitOf b 7
+eight-bits b h =
+    halvings b (b / 2) (b / 4) (b / 8) (b / 16) (b / 32) (b / 64) (b / 128) _ _ _ _ _ _ _ _
+    (omega arith) (omega arith) (omega arith) (omega arith) (omega arith) (omega arith) (omega arith) (omega arith)
+
+pub byte-of-bits : (bit : ℕ → ℕ) (b k : ℕ) → b < 256 → ((j : ℕ) → j < 8 → bitOf b j ≡ bit (k + j)) → b ≡ byteOf bit k
+unfolding byteOf
+byte-of-bits bit b k h f =
+    let z : k + 0 ≡ k = omega arith in
+    eight-bits b h
+    ∙ rw (f 0 (omega arith) ∙ ap bit z, f 1 (omega arith), f 2 (omega arith), f 3 (omega arith), f 4 (omega arith), f 5 (omega arith), f 6 (omega arith), f 7 (omega arith))
+
+pub bytes-length : (bit : ℕ → ℕ) (length′ k : ℕ) → length (bytesOf bit length′ k) ≡ length′
+unfolding bytesOf
+bytes-length bit zero k = refl
+bytes-length bit (suc length′) k = ap suc (bytes-length bit length′ (k + 8))
+
+pub bytes-at : (bit : ℕ → ℕ) (length′ k i : ℕ) → i < length′ → byteAt (bytesOf bit length′ k) i ≡ byteOf bit (k + 8 * i)
+unfolding bytesOf
+bytes-at bit zero k i h = absurd (omega arith)
+bytes-at bit (suc length′) k zero h = ap (byteOf bit) (omega arith)
+bytes-at bit (suc length′) k (suc i) h = bytes-at bit length′ (k + 8) i (omega arith) ∙ ap (byteOf bit) (omega arith)
+
+-- the map's bytes have the holders' bits
+pub map-of-bits : (n : ℕ) (holders sector0 : List ℕ) → ((k : ℕ) → count k holders ≤ 1) → part sector0 56 200 ≡ mapOf n holders
+    → (k : ℕ) → k < 1600 → mapBit sector0 k ≡ taken n holders k
+unfolding mapBit mapOf
+map-of-bits n holders sector0 once e k h =
+    let i : k / 8 < 200 = omega arith in
+    let here : byteAt sector0 (56 + k / 8) ≡ byteOf (taken n holders) (0 + 8 * (k / 8)) =
+        sym (part-at sector0 56 200 (k / 8) i) ∙ ap (λ (bytes : List ℕ). byteAt bytes (k / 8)) e ∙ bytes-at (taken n holders) 200 0 (k / 8) i
+    in
+    let z : 0 + 8 * (k / 8) + k % 8 ≡ k = omega arith in
+    rw here (byte-bit (taken n holders) (taken-once n holders once) (0 + 8 * (k / 8)) (k % 8) (mod-lt k (omega arith)) ∙ ap (taken n holders) z)
+
+-- and bytes with the holders' bits are the map's
+pub map-of-bytes : (n : ℕ) (holders sector0 : List ℕ) → length (part sector0 56 200) ≡ 200 → ((i : ℕ) → byteAt sector0 i < 256)
+    → ((k : ℕ) → k < 1600 → mapBit sector0 k ≡ taken n holders k) → part sector0 56 200 ≡ mapOf n holders
+unfolding mapBit mapOf
+map-of-bytes n holders sector0 long small f =
+    ext-getD 0 (part sector0 56 200) (bytesOf (taken n holders) 200 0) (long ∙ sym (bytes-length (taken n holders) 200 0))
+    (λ i h.
+    let i′ : i < 200 = omega arith in
+    part-at sector0 56 200 i i′
+    ∙ byte-of-bits (taken n holders) (byteAt sector0 (56 + i)) (8 * i) (small (56 + i)) (bits i i′)
+    ∙ sym (bytes-at (taken n holders) 200 0 i i′ ∙ ap (byteOf (taken n holders)) (omega arith)))
+  where
+    bits : (i : ℕ) → i < 200 → (j : ℕ) → j < 8 → bitOf (byteAt sector0 (56 + i)) j ≡ taken n holders (8 * i + j)
+    bits i h j l =
+        let d : (8 * i + j) / 8 ≡ i = omega arith in
+        let m : (8 * i + j) % 8 ≡ j = omega arith in
+        rw (d, m) at (f (8 * i + j) (omega arith))

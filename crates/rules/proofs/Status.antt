@@ -1,0 +1,54 @@
+-- Status and kind: the rules as tests and as facts.
+use mathlib.Core.Path.{_≡_, refl, sym, ap, _∙_}
+use mathlib.Core.Bool.{Bool, true, false, cond, not, _&&_}
+use Prim.Native.Nat.{ℕ, _+_, _*_, _/_, _%_, _≤_, _<_}
+use native.Mathlib.Omega.{arith}
+use lib.Dec.{eqb, leb}
+use borrow.Author.Tests.{eq-eqb, ne-eqb, eqb-true, eqb-false, le-leb, leb-true, not-true}
+use Rattle.rules.specs.Bytes.{bitOf}
+use Rattle.rules.specs.Kind.{isProgram, isInternal, isVariable, allowed, statusRule, kindRule, IsStatus, IsKind}
+use Rattle.rules.specs.declared.Kind.{Kind}
+use Rattle.rules.specs.declared.Kind.the-variants.{Program, Fixed, Variable}
+use Rattle.rules.proofs.Tests.{both}
+
+bit-zero : (status j : ℕ) → not (eqb (bitOf status j) 1) ≡ true → bitOf status j ≡ 0
+bit-zero status j e =
+    let other = eqb-false (bitOf status j) 1 (not-true (eqb (bitOf status j) 1) e) in
+    omega (arith, other)
+
+zero-bit : (status j : ℕ) → bitOf status j ≡ 0 → not (eqb (bitOf status j) 1) ≡ true
+zero-bit status j e = rw e
+
+pub status-is : (status : ℕ) → statusRule status ≡ true → IsStatus status
+unfolding statusRule
+status-is status e =
+    let alone = cond (isProgram status) (not (isInternal status) && not (isVariable status)) true in
+    let parts = both (eqb status (allowed status)) alone e in
+    record { others = eqb-true status (allowed status) (parts .0); excludes = λ program. excluded program (parts .1) }
+  where
+    excluded : bitOf status 0 ≡ 1 → cond (isProgram status) (not (isInternal status) && not (isVariable status)) true ≡ true → (bitOf status 1 ≡ 0) × (bitOf status 7 ≡ 0)
+    excluded program t =
+        let both-out = both (not (isInternal status)) (not (isVariable status)) (rw (eq-eqb (bitOf status 0) 1 program) at t) in
+        (bit-zero status 1 (both-out .0), bit-zero status 7 (both-out .1))
+
+pub is-status : (status : ℕ) → IsStatus status → statusRule status ≡ true
+unfolding statusRule
+is-status status is = rw (eq-eqb status (allowed status) (is .others)) (alone (eqb (bitOf status 0) 1) refl)
+  where
+    alone : (t : Bool) → eqb (bitOf status 0) 1 ≡ t → cond t (not (isInternal status) && not (isVariable status)) true ≡ true
+    alone true e =
+        let out = is .excludes (eqb-true (bitOf status 0) 1 e) in
+        rw (zero-bit status 1 (out .0), zero-bit status 7 (out .1))
+    alone false e = refl
+
+pub kind-is : (kind : Kind) (c : ℕ) → kindRule kind c ≡ true → IsKind kind c
+unfolding kindRule IsKind
+kind-is (Program length) c e = leb-true 1 c e
+kind-is (Fixed recordLength internal) c e = tt
+kind-is (Variable recordLength internal) c e = tt
+
+pub is-kind : (kind : Kind) (c : ℕ) → IsKind kind c → kindRule kind c ≡ true
+unfolding kindRule IsKind
+is-kind (Program length) c is = le-leb 1 c is
+is-kind (Fixed recordLength internal) c is = refl
+is-kind (Variable recordLength internal) c is = refl

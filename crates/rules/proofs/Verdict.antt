@@ -1,0 +1,170 @@
+-- The verdict is 0 exactly for sound volumes: `verdict-sound`.
+use mathlib.Core.Path.{_≡_, refl, sym, ap, _∙_}
+use mathlib.Core.Logic.{_↔_}
+use mathlib.Core.Bool.{Bool, true, false, cond, _&&_, _||_}
+use mathlib.Core.List.{List, [], _∷_}
+use Prim.Native.Nat.{ℕ, zero, suc, _+_, _*_, _/_, _%_, _≤_, _<_}
+use native.Mathlib.Omega.{arith}
+use native.Mathlib.Decide.{decLt, ℕ-discrete}
+use lib.Dec.{eqb, leb, ltb}
+use lib.ListN.{length, getD}
+use borrow.Author.Tests.{eq-eqb, eqb-true, le-leb, leb-true, le-ltb, ltb-false}
+use Rattle.rules.specs.Sectors.{sectorOf, sectorCount}
+use Rattle.rules.specs.Name.{precedes, Before, IsName}
+use Rattle.rules.specs.Label.{labelRule}
+use Rattle.rules.specs.Map.{mapBit, count, taken, mapRule}
+use Rattle.rules.specs.Descriptor.{nameOf, descriptorRule, IsDescriptor}
+use Rattle.rules.specs.Index.{indexRule}
+use Rattle.rules.specs.Volume.{files, nameIn, holders}
+use Rattle.rules.specs.Verdict.{sizeRule, descriptorsRule, heldTwice, verdict}
+use Rattle.rules.specs.Sound.{Sound, fileAt}
+use Rattle.rules.proofs.Tests.{both, neither, absurd-test}
+use Rattle.rules.proofs.Name.{precedes-is, is-precedes, before-trans}
+use Rattle.rules.proofs.Label.{label-is, is-label}
+use Rattle.rules.proofs.Map.{count-none, count-here, count-other, count-more, taken-below, taken-past, map-at, at-map}
+use Rattle.rules.proofs.Descriptor.{descriptor-is, is-descriptor}
+use Rattle.rules.proofs.Index.{index-is, is-index}
+
+-- 1: the size
+pub size-is : (image : List ℕ) → sizeRule image ≡ true → (length image ≡ 256 * sectorCount image) × (3 ≤ sectorCount image) × (sectorCount image ≤ 1600)
+unfolding sizeRule
+size-is image e =
+    let whole = both (eqb (length image % 256) 0) (leb 3 (sectorCount image) && leb (sectorCount image) 1600) e in
+    let bounds = both (leb 3 (sectorCount image)) (leb (sectorCount image) 1600) (whole .1) in
+    (omega (arith, eqb-true (length image % 256) 0 (whole .0)), leb-true _ _ (bounds .0), leb-true _ _ (bounds .1))
+
+pub is-size : (image : List ℕ) → length image ≡ 256 * sectorCount image → 3 ≤ sectorCount image → sectorCount image ≤ 1600 → sizeRule image ≡ true
+unfolding sizeRule
+is-size image whole large small =
+    rw (eq-eqb (length image % 256) 0 (omega arith), le-leb 3 (sectorCount image) large, le-leb (sectorCount image) 1600 small)
+
+-- 4: the descriptors, and the order of their names
+module _ (n : ℕ) (image : List ℕ) where
+  unfolded : (previous : List ℕ) (k : ℕ) (ks : List ℕ) → descriptorsRule n image previous (k ∷ ks) ≡ true
+      → (descriptorRule n (sectorOf image k) ≡ true) × (precedes previous (nameIn image k) ≡ true) × (descriptorsRule n image (nameIn image k) ks ≡ true)
+  unfolding descriptorsRule
+  unfolded previous k ks e =
+      let here = both (descriptorRule n (sectorOf image k)) (precedes previous (nameIn image k) && descriptorsRule n image (nameIn image k) ks) e in
+      let later = both (precedes previous (nameIn image k)) (descriptorsRule n image (nameIn image k) ks) (here .1) in
+      (here .0, later .0, later .1)
+
+  pub descriptors-are : (previous ks : List ℕ) → descriptorsRule n image previous ks ≡ true → (p : ℕ) → p < length ks → IsDescriptor n (sectorOf image (getD ks p 0))
+  descriptors-are previous [] e p h = absurd (omega arith)
+  descriptors-are previous (k ∷ ks) e zero h = descriptor-is n (sectorOf image k) (unfolded previous k ks e .0)
+  descriptors-are previous (k ∷ ks) e (suc p) h = descriptors-are (nameIn image k) ks (unfolded previous k ks e .2) p (omega arith)
+
+  name-long : (k : ℕ) → IsDescriptor n (sectorOf image k) → length (nameIn image k) ≡ 10
+  unfolding nameIn
+  name-long k is = is .name .ten
+
+  -- each name is after the one before the list, where that is a name
+  after : (previous ks : List ℕ) → length previous ≡ 10 → descriptorsRule n image previous ks ≡ true → (p : ℕ) → p < length ks → Before previous (nameIn image (getD ks p 0))
+  after previous [] long e p h = absurd (omega arith)
+  after previous (k ∷ ks) long e p h =
+      let parts = unfolded previous k ks e in
+      let here = name-long k (descriptor-is n (sectorOf image k) (parts .0)) in
+      let first = precedes-is previous (nameIn image k) (long ∙ sym here) (parts .1) in
+      go p h first (after (nameIn image k) ks here (parts .2))
+    where
+      go : (p : ℕ) → p < length (k ∷ ks) → Before previous (nameIn image k) → ((q : ℕ) → q < length ks → Before (nameIn image k) (nameIn image (getD ks q 0)))
+          → Before previous (nameIn image (getD (k ∷ ks) p 0))
+      go zero h first more = first
+      go (suc p) h first more = before-trans previous (nameIn image k) (nameIn image (getD ks p 0)) first (more p (omega arith))
+
+  ascend : (previous ks : List ℕ) → descriptorsRule n image previous ks ≡ true → (p q : ℕ) → p < q → q < length ks → Before (nameIn image (getD ks p 0)) (nameIn image (getD ks q 0))
+  ascend previous [] e p q h k = absurd (omega arith)
+  ascend previous (k ∷ ks) e zero zero h l = absurd (omega arith)
+  ascend previous (k ∷ ks) e zero (suc q) h l =
+      let parts = unfolded previous k ks e in
+      after (nameIn image k) ks (name-long k (descriptor-is n (sectorOf image k) (parts .0))) (parts .2) q (omega arith)
+  ascend previous (k ∷ ks) e (suc p) zero h l = absurd (omega arith)
+  ascend previous (k ∷ ks) e (suc p) (suc q) h l = ascend (nameIn image k) ks (unfolded previous k ks e .2) p q (omega arith) (omega arith)
+
+  are-descriptors : (previous ks : List ℕ) → ((p : ℕ) → p < length ks → IsDescriptor n (sectorOf image (getD ks p 0)))
+      → ((p : ℕ) → p < length ks → precedes previous (nameIn image (getD ks p 0)) ≡ true)
+      → ((p q : ℕ) → p < q → q < length ks → Before (nameIn image (getD ks p 0)) (nameIn image (getD ks q 0)))
+      → descriptorsRule n image previous ks ≡ true
+  unfolding descriptorsRule
+  are-descriptors previous [] is first order = refl
+  are-descriptors previous (k ∷ ks) is first order =
+      rw (is-descriptor n (sectorOf image k) (is 0 (omega arith)), first 0 (omega arith))
+      (are-descriptors (nameIn image k) ks (λ p h. is (suc p) (omega arith)) (λ p h. is-precedes (nameIn image k) (nameIn image (getD ks p 0)) (order 0 (suc p) (omega arith) (omega arith)))
+      (λ p q h l. order (suc p) (suc q) (omega arith) (omega arith)))
+
+-- no name is before the first
+precedes-none : (name : List ℕ) → length name ≡ 10 → precedes [] name ≡ true
+unfolding precedes
+precedes-none [] long = absurd (omega arith)
+precedes-none (b ∷ name) long = refl
+
+-- 5: no sector stands twice among the holders
+pub held-once : (hs : List ℕ) → heldTwice hs ≡ false → (k : ℕ) → count k hs ≤ 1
+unfolding heldTwice
+held-once [] e k = omega (arith, count-none k)
+held-once (h ∷ hs) e k =
+    let parts = neither (ltb 0 (count h hs)) (heldTwice hs) e in
+    elim (ℕ-discrete h k)
+      [ yes here ↦
+        let none : count h hs ≤ 0 = ltb-false 0 (count h hs) (parts .0) in
+        let none′ = rw here at none in
+        rw here (omega (arith, count-here k hs, none′))
+      | no there ↦ omega (arith, count-other k h hs there, held-once hs (parts .1) k)
+      ]
+
+pub once-held : (hs : List ℕ) → ((k : ℕ) → count k hs ≤ 1) → heldTwice hs ≡ false
+unfolding heldTwice
+once-held [] f = refl
+once-held (h ∷ hs) f =
+    rw (le-ltb 0 (count h hs) (omega (arith, f h, count-here h hs))) (once-held hs (λ k. omega (arith, f k, count-more k h hs)))
+
+-- the verdict's nested choices, where it is 0
+all-passed : (a b c d t m : Bool) → _≡_ {A = ℕ} (cond a (cond b (cond c (cond d (cond t 5 (cond m 0 6)) 4) 3) 2) 1) 0
+    → (a ≡ true) × (b ≡ true) × (c ≡ true) × (d ≡ true) × (t ≡ false) × (m ≡ true)
+all-passed true true true true false true e = (refl, refl, refl, refl, refl, refl)
+all-passed true true true true false false e = absurd (omega arith)
+all-passed true true true true true m e = absurd (omega arith)
+all-passed true true true false t m e = absurd (omega arith)
+all-passed true true false d t m e = absurd (omega arith)
+all-passed true false c d t m e = absurd (omega arith)
+all-passed false b c d t m e = absurd (omega arith)
+
+pub sound : (image : List ℕ) → verdict image ≡ 0 → Sound image
+unfolding verdict
+sound image e =
+    let n = sectorCount image in
+    let passed =
+        all-passed (sizeRule image) (labelRule n (sectorOf image 0)) (indexRule n (sectorOf image 1)) (descriptorsRule n image [] (files image)) (heldTwice (holders image))
+        (mapRule n (holders image) (sectorOf image 0)) e
+    in
+    let size = size-is image (passed .0) in
+    let bits = map-at n (holders image) (sectorOf image 0) (passed .5) in
+    record {
+      whole = size .0;
+      size = (size .1, size .2);
+      label = label-is n (sectorOf image 0) (passed .1);
+      index = index-is n (sectorOf image 1) (passed .2);
+      descriptors = descriptors-are n image [] (files image) (passed .3);
+      ascending = ascend n image [] (files image) (passed .3);
+      single = held-once (holders image) (passed .4);
+      marked = λ k h. bits k (omega (arith, size .2)) ∙ taken-below n (holders image) k h;
+      filled = λ k h l. bits k l ∙ taken-past n (holders image) k h;
+    }
+
+pub passes : (image : List ℕ) → Sound image → verdict image ≡ 0
+unfolding verdict
+passes image is =
+    let n = sectorCount image in
+    rw (is-size image (is .whole) (is .size .0) (is .size .1), is-label n (sectorOf image 0) (is .label), is-index n (sectorOf image 1) (is .index),
+    are-descriptors n image [] (files image) (is .descriptors)
+    (λ p h. precedes-none (nameIn image (fileAt image p)) (name-long n image (fileAt image p) (is .descriptors p h))) (is .ascending),
+    once-held (holders image) (is .single), at-map n (holders image) (sectorOf image 0) (bits image is))
+  where
+    bits : (image : List ℕ) (is : Sound image) (k : ℕ) → k < 1600 → mapBit (sectorOf image 0) k ≡ taken (sectorCount image) (holders image) k
+    bits image is k h =
+        elim (decLt k (sectorCount image))
+          [ yes below ↦ is .marked k below ∙ sym (taken-below (sectorCount image) (holders image) k below)
+          | no past ↦ is .filled k (omega arith) h ∙ sym (taken-past (sectorCount image) (holders image) k (omega arith))
+          ]
+
+pub verdict-sound : (image : List ℕ) → (verdict image ≡ 0) ↔ Sound image
+verdict-sound image = (sound image, passes image)

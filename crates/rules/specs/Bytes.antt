@@ -1,0 +1,25 @@
+-- Readings of bytes. Each is total: past the end of a list stand zeros, and a part is as long as what is there.
+use mathlib.Core.Bool.{Bool, true, false, _&&_}
+use mathlib.Core.List.{List, [], _∷_}
+use Prim.Native.Nat.{ℕ, _+_, _*_, _/_, _%_, _^_}
+use lib.Dec.{eqb}
+use lib.ListN.{take, drop, getD}
+
+abbrev pub byteAt : List ℕ → ℕ → ℕ
+byteAt bytes i = getD bytes i 0
+
+-- a two-byte number, high byte first
+abbrev pub wordAt : List ℕ → ℕ → ℕ
+wordAt bytes i = 256 * byteAt bytes i + byteAt bytes (i + 1)
+
+-- bit j of a byte, the lowest is bit 0
+abbrev pub bitOf : ℕ → ℕ → ℕ
+bitOf byte j = byte / 2 ^ j % 2
+
+-- `count` bytes from byte `from` on
+abbrev pub part : List ℕ → ℕ → ℕ → List ℕ
+part bytes from count = take count (drop from bytes)
+
+unfoldable pub allAre : ℕ → List ℕ → Bool
+allAre value [] = true
+allAre value (b ∷ bytes) = eqb b value && allAre value bytes

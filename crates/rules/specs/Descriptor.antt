@@ -1,0 +1,38 @@
+-- A descriptor: bytes 0-9 name, 12 status, 14-15 the number of sectors c, 16 end offset, 17 record length, 28-255 the chain. 10-11, 13 and 16-27 are carried and not judged.
+use mathlib.Core.Bool.{Bool, _&&_}
+use mathlib.Core.List.{List}
+use Prim.Native.Nat.{ℕ}
+use Rattle.rules.specs.Bytes.{byteAt, wordAt, part}
+use Rattle.rules.specs.Name.{nameRule, IsName}
+use Rattle.rules.specs.Chain.{chainRule, IsChain}
+use Rattle.rules.specs.Kind.{statusRule, kindOf, kindRule, IsStatus, IsKind}
+use Rattle.rules.specs.declared.Kind.{Kind}
+
+unfoldable pub nameOf : List ℕ → List ℕ
+nameOf descriptor = part descriptor 0 10
+
+abbrev pub statusOf : List ℕ → ℕ
+statusOf descriptor = byteAt descriptor 12
+
+abbrev pub sectorsOf : List ℕ → ℕ
+sectorsOf descriptor = wordAt descriptor 14
+
+-- the 228 bytes from byte 28 on are handed to the chain rules as they stand
+unfoldable pub chainOf : List ℕ → List ℕ
+chainOf descriptor = part descriptor 28 228
+
+unfoldable pub fileKind : List ℕ → Kind
+fileKind descriptor = kindOf (statusOf descriptor) (sectorsOf descriptor) (byteAt descriptor 16) (byteAt descriptor 17)
+
+unfoldable pub descriptorRule : ℕ → List ℕ → Bool
+descriptorRule n descriptor =
+    nameRule (nameOf descriptor)
+    && (statusRule (statusOf descriptor)
+    && (kindRule (fileKind descriptor) (sectorsOf descriptor) && chainRule n (sectorsOf descriptor) (chainOf descriptor)))
+
+-- The same as facts.
+pub record IsDescriptor (n : ℕ) (descriptor : List ℕ) : Type 0 where
+  pub name : IsName (nameOf descriptor)
+  pub status : IsStatus (statusOf descriptor)
+  pub kind : IsKind (fileKind descriptor) (sectorsOf descriptor)
+  pub chain : IsChain n (sectorsOf descriptor) (chainOf descriptor)

@@ -1,0 +1,29 @@
+-- Sector 1: 128 numbers, each a descriptor's sector, from 2 to n-1. The first zero ends the list and all after it are zero. The last number is zero, so there are at most 127 files.
+use mathlib.Core.Path.{_≡_}
+use mathlib.Core.Bool.{Bool, true, false, cond, _&&_}
+use mathlib.Core.List.{List, [], _∷_}
+use Prim.Native.Nat.{ℕ, _+_, _*_, _≤_, _<_}
+use lib.Dec.{eqb, leb, ltb}
+use lib.ListN.{length, drop, getD}
+use Rattle.rules.specs.Bytes.{byteAt, allAre}
+
+-- the numbers up to the first zero
+unfoldable pub numbers : List ℕ → List ℕ
+numbers [] = []
+numbers (high ∷ []) = []
+numbers (high ∷ (low ∷ sector1)) = cond (eqb (256 * high + low) 0) [] ((256 * high + low) ∷ numbers sector1)
+
+unfoldable pub rangeRule : ℕ → List ℕ → Bool
+rangeRule n [] = true
+rangeRule n (k ∷ ks) = leb 2 k && (ltb k n && rangeRule n ks)
+
+unfoldable pub indexRule : ℕ → List ℕ → Bool
+indexRule n sector1 =
+    rangeRule n (numbers sector1)
+    && (ltb (length (numbers sector1)) 128 && allAre 0 (drop (2 * length (numbers sector1)) sector1))
+
+-- The same as facts.
+pub record IsIndex (n : ℕ) (sector1 : List ℕ) : Type 0 where
+  pub range : (p : ℕ) → p < length (numbers sector1) → (2 ≤ getD (numbers sector1) p 0) × (getD (numbers sector1) p 0 < n)
+  pub few : length (numbers sector1) ≤ 127
+  pub rest : (i : ℕ) → 2 * length (numbers sector1) ≤ i → byteAt sector1 i ≡ 0

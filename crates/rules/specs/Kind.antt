@@ -1,0 +1,51 @@
+-- Status and kind. Status: 01 hex program, 02 internal, 08 protected, 80 variable; other bits zero; 01 excludes 02 and 80.
+use mathlib.Core.Path.{_≡_}
+use mathlib.Core.Bool.{Bool, true, false, cond, not, _&&_}
+use mathlib.Core.List.{List}
+use Prim.Native.Nat.{ℕ, _+_, _-_, _*_, _≤_}
+use lib.Dec.{eqb, leb}
+use Rattle.rules.specs.Bytes.{bitOf}
+use Rattle.rules.specs.declared.Kind.{Kind}
+use Rattle.rules.specs.declared.Kind.the-variants.{Program, Fixed, Variable}
+
+abbrev pub isProgram : ℕ → Bool
+isProgram status = eqb (bitOf status 0) 1
+
+abbrev pub isInternal : ℕ → Bool
+isInternal status = eqb (bitOf status 1) 1
+
+abbrev pub isVariable : ℕ → Bool
+isVariable status = eqb (bitOf status 7) 1
+
+-- the bits of a status that the rule allows
+abbrev pub allowed : ℕ → ℕ
+allowed status = bitOf status 0 + 2 * bitOf status 1 + 8 * bitOf status 3 + 128 * bitOf status 7
+
+unfoldable pub statusRule : ℕ → Bool
+statusRule status = eqb status (allowed status) && cond (isProgram status) (not (isInternal status) && not (isVariable status)) true
+
+-- a program's length in bytes: c sectors, the last used up to the end offset
+unfoldable pub programLength : ℕ → ℕ → ℕ
+programLength c endOffset = 256 * (c - 1) + endOffset
+
+-- the kind of a file of that status, with its c, end offset and record length
+unfoldable pub kindOf : ℕ → ℕ → ℕ → ℕ → Kind
+kindOf status c endOffset recordLength =
+    cond (isProgram status) (Program (programLength c endOffset))
+    (cond (isVariable status) (Variable recordLength (isInternal status)) (Fixed recordLength (isInternal status)))
+
+-- a program has c of at least 1
+unfoldable pub kindRule : Kind → ℕ → Bool
+kindRule (Program length) c = leb 1 c
+kindRule (Fixed recordLength internal) c = true
+kindRule (Variable recordLength internal) c = true
+
+-- The same as facts.
+pub record IsStatus (status : ℕ) : Type 0 where
+  pub others : status ≡ allowed status
+  pub excludes : bitOf status 0 ≡ 1 → (bitOf status 1 ≡ 0) × (bitOf status 7 ≡ 0)
+
+unfoldable pub IsKind : Kind → ℕ → Type 0
+IsKind (Program length) c = 1 ≤ c
+IsKind (Fixed recordLength internal) c = Unit {0}
+IsKind (Variable recordLength internal) c = Unit {0}

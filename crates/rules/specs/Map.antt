@@ -1,0 +1,39 @@
+-- The map, bytes 56 to 255 of sector 0: sector k is bit k mod 8, lowest bit first, of byte 56 + k/8 rounded down; one means taken. Bits for k from n to 1,599 are one.
+use mathlib.Core.Bool.{Bool, true, false, cond, _&&_}
+use mathlib.Core.List.{List, [], _∷_}
+use Prim.Native.Nat.{ℕ, zero, suc, _+_, _*_, _/_, _%_}
+use lib.Dec.{eqb, ltb}
+use Rattle.rules.specs.Bytes.{byteAt, bitOf}
+
+unfoldable pub mapBit : List ℕ → ℕ → ℕ
+mapBit sector0 k = bitOf (byteAt sector0 (56 + k / 8)) (k % 8)
+
+-- how often sector k stands among the holders
+unfoldable pub count : ℕ → List ℕ → ℕ
+count k [] = 0
+count k (h ∷ holders) = cond (eqb h k) 1 0 + count k holders
+
+-- what bit k is to be on a volume of n sectors
+unfoldable pub taken : ℕ → List ℕ → ℕ → ℕ
+taken n holders k = cond (ltb k n) (count k holders) 1
+
+-- `length` bits from bit k on are those of the holders
+unfoldable pub bitsRule : ℕ → List ℕ → List ℕ → ℕ → ℕ → Bool
+bitsRule n holders sector0 zero k = true
+bitsRule n holders sector0 (suc length) k = eqb (mapBit sector0 k) (taken n holders k) && bitsRule n holders sector0 length (k + 1)
+
+unfoldable pub mapRule : ℕ → List ℕ → List ℕ → Bool
+mapRule n holders sector0 = bitsRule n holders sector0 1600 0
+
+-- the byte whose eight bits are those that `bit` gives from k on
+unfoldable pub byteOf : (ℕ → ℕ) → ℕ → ℕ
+byteOf bit k =
+    bit k + 2 * bit (k + 1) + 4 * bit (k + 2) + 8 * bit (k + 3) + 16 * bit (k + 4) + 32 * bit (k + 5) + 64 * bit (k + 6) + 128 * bit (k + 7)
+
+unfoldable pub bytesOf : (ℕ → ℕ) → ℕ → ℕ → List ℕ
+bytesOf bit zero k = []
+bytesOf bit (suc length) k = byteOf bit k ∷ bytesOf bit length (k + 8)
+
+-- the 200 bytes of the map of a set of holders, each in it once, on a volume of n sectors
+unfoldable pub mapOf : ℕ → List ℕ → List ℕ
+mapOf n holders = bytesOf (taken n holders) 200 0

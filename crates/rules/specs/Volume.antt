@@ -1,0 +1,26 @@
+-- The files of an image, by the sectors of their descriptors and in the order of sector 1, and the holders.
+use mathlib.Core.List.{List, [], _∷_, _++_}
+use Prim.Native.Nat.{ℕ}
+use Rattle.rules.specs.Sectors.{sectorOf}
+use Rattle.rules.specs.Chain.{places}
+use Rattle.rules.specs.Descriptor.{nameOf, chainOf}
+use Rattle.rules.specs.Index.{numbers}
+
+unfoldable pub files : List ℕ → List ℕ
+files image = numbers (sectorOf image 1)
+
+-- the name, and the places, of the file whose descriptor is in sector k
+unfoldable pub nameIn : List ℕ → ℕ → List ℕ
+nameIn image k = nameOf (sectorOf image k)
+
+unfoldable pub placesIn : List ℕ → ℕ → List ℕ
+placesIn image k = places (chainOf (sectorOf image k))
+
+-- each number in sector 1 holds its descriptor's sector, each place of a file holds its sector
+unfoldable pub fileHolders : List ℕ → List ℕ → List ℕ
+fileHolders image [] = []
+fileHolders image (k ∷ ks) = k ∷ (placesIn image k ++ fileHolders image ks)
+
+-- the map's holders are these and sectors 0 and 1
+unfoldable pub holders : List ℕ → List ℕ
+holders image = 0 ∷ (1 ∷ fileHolders image (files image))
