@@ -10,7 +10,8 @@ use lib.ListN.{length, drop, getD, length-drop, length-append, List·getD-append
 use lib.Seq.{getD-append-add}
 use borrow.Author.Tests.{eq-eqb, eqb-true, le-leb, leb-true, lt-ltb, ltb-true}
 use Rattle.rules.specs.Bytes.{byteAt, allAre}
-use Rattle.rules.specs.Chain.{Block, blockBytes, blockOf, endsChain, blocks, blocksRule, chainRule, run, placesFrom, places, Linked, IsChain}
+use Rattle.rules.specs.declared.Block.{Block}
+use Rattle.rules.specs.Chain.{blockBytes, blockOf, endsChain, blocks, blocksRule, chainRule, run, placesFrom, places, Linked, IsChain}
 use Rattle.rules.specs.Map.{count}
 use Rattle.rules.proofs.Tests.{both}
 use Rattle.rules.proofs.Bytes.{drop-three, zeros-at, at-zeros}
@@ -100,12 +101,12 @@ pub run-holds : (p s many : ℕ) → 1 ≤ count p (run s many) → (s ≤ p) ×
 unfolding run
 run-holds p s zero h = absurd (omega (arith, count-none p))
 run-holds p s (suc many) h =
-    elim (ℕ-discrete s p)
-      [ yes here ↦ (omega arith, omega arith)
+    elim (ℕ-discrete s p) [
+      | yes here ↦ (omega arith, omega arith)
       | no there ↦
-        let rest = run-holds p (s + 1) many (omega (arith, count-other p s (run (s + 1) many) there)) in
-        (omega arith, omega arith)
-      ]
+          let rest = run-holds p (s + 1) many (omega (arith, count-other p s (run (s + 1) many) there)) in
+          (omega arith, omega arith)
+    ]
 
 -- the places of a linked chain: c of them, each from 2 to n - 1
 pub places-length : (n c next : ℕ) (bs : List Block) → Linked n c next bs → next + length (placesFrom next bs) ≡ c
@@ -121,7 +122,7 @@ places-hold n c next [] p e h = absurd (omega (arith, count-none p))
 places-hold n c next (block ∷ more) p e h =
     let many = block .last - next + 1 in
     let split = count-append p (run (block .start) many) (placesFrom (block .last + 1) more) in
-    elim (decLt 0 (count p (run (block .start) many)))
-      [ yes here ↦ let in-run = run-holds p (block .start) many here in (omega (arith, e .0), omega (arith, e .1, e .2))
+    elim (decLt 0 (count p (run (block .start) many))) [
+      | yes here ↦ let in-run = run-holds p (block .start) many here in (omega (arith, e .0), omega (arith, e .1, e .2))
       | no there ↦ places-hold n c (block .last + 1) more p (e .3) (omega (arith, split))
-      ]
+    ]

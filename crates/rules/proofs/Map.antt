@@ -12,7 +12,7 @@ use lib.Seq.{ext-getD}
 use borrow.Author.Tests.{eq-eqb, ne-eqb, lt-ltb, le-ltb, eqb-true}
 use Rattle.rules.specs.Bytes.{byteAt, bitOf, part}
 use Rattle.rules.specs.Map.{mapBit, count, taken, bitsRule, mapRule, byteOf, bytesOf, mapOf}
-use Rattle.rules.proofs.Tests.{both}
+use Rattle.rules.proofs.Tests.{both, same-test}
 use Rattle.rules.proofs.Bytes.{part-at}
 
 pub count-none : (k : ℕ) → count k [] ≡ 0
@@ -48,36 +48,43 @@ taken-past n holders k h = rw (le-ltb k n h)
 
 pub taken-once : (n : ℕ) (holders : List ℕ) → ((k : ℕ) → count k holders ≤ 1) → (k : ℕ) → taken n holders k ≤ 1
 taken-once n holders once k =
-    elim (decLt k n)
-      [ yes h ↦ rw (taken-below n holders k h) (once k)
+    elim (decLt k n) [
+      | yes h ↦ rw (taken-below n holders k h) (once k)
       | no h ↦ rw (taken-past n holders k (omega arith)) (omega arith)
-      ]
+    ]
 
 -- the rule, bit by bit
-bits-at : (n : ℕ) (holders sector0 : List ℕ) (length k : ℕ) → bitsRule n holders sector0 length k ≡ true → (i : ℕ) → k ≤ i → i < k + length → mapBit sector0 i ≡ taken n holders i
-unfolding bitsRule
-bits-at n holders sector0 zero k e i low high = absurd (omega arith)
-bits-at n holders sector0 (suc length) k e i low high =
-    let parts = both (eqb (mapBit sector0 k) (taken n holders k)) (bitsRule n holders sector0 length (k + 1)) e in
-    elim (ℕ-discrete k i)
-      [ yes here ↦ rw (← here) (eqb-true _ _ (parts .0))
-      | no there ↦ bits-at n holders sector0 length (k + 1) (parts .1) i (omega (arith, there)) (omega arith)
+module _ (bit : ℕ → ℕ) (sector0 : List ℕ) where
+  bits-at : (many k : ℕ) → bitsRule bit sector0 many k ≡ true → (i : ℕ) → k ≤ i → i < k + many → mapBit sector0 i ≡ bit i
+  unfolding bitsRule
+  bits-at zero k e i low high = absurd (omega arith)
+  bits-at (suc many) k e i low high =
+      let parts = both (eqb (mapBit sector0 k) (bit k)) (bitsRule bit sector0 many (k + 1)) e in
+      elim (ℕ-discrete k i) [
+        | yes here ↦ rw (← here) (eqb-true _ _ (parts .0))
+        | no there ↦ bits-at many (k + 1) (parts .1) i (omega (arith, there)) (omega arith)
       ]
 
-at-bits : (n : ℕ) (holders sector0 : List ℕ) (length k : ℕ) → ((i : ℕ) → k ≤ i → i < k + length → mapBit sector0 i ≡ taken n holders i) → bitsRule n holders sector0 length k ≡ true
+  at-bits : (many k : ℕ) → ((i : ℕ) → k ≤ i → i < k + many → mapBit sector0 i ≡ bit i) → bitsRule bit sector0 many k ≡ true
+  unfolding bitsRule
+  at-bits zero k f = refl
+  at-bits (suc many) k f =
+      rw (eq-eqb (mapBit sector0 k) (bit k) (f k (omega arith) (omega arith))) (at-bits many (k + 1) (λ i low high. f i (omega arith) (omega arith)))
+
+-- it asks of no other bits than those from k on
+pub bits-agree : (bit other : ℕ → ℕ) (sector0 : List ℕ) (many k : ℕ) → ((i : ℕ) → k ≤ i → i < k + many → bit i ≡ other i)
+    → bitsRule bit sector0 many k ≡ bitsRule other sector0 many k
 unfolding bitsRule
-at-bits n holders sector0 zero k f = refl
-at-bits n holders sector0 (suc length) k f =
-    rw (eq-eqb (mapBit sector0 k) (taken n holders k) (f k (omega arith) (omega arith)))
-    (at-bits n holders sector0 length (k + 1) (λ i low high. f i (omega arith) (omega arith)))
+bits-agree bit other sector0 zero k f = refl
+bits-agree bit other sector0 (suc many) k f = rw (f k (omega arith) (omega arith), bits-agree bit other sector0 many (k + 1) (λ i low high. f i (omega arith) (omega arith)))
 
 pub map-at : (n : ℕ) (holders sector0 : List ℕ) → mapRule n holders sector0 ≡ true → (k : ℕ) → k < 1600 → mapBit sector0 k ≡ taken n holders k
 unfolding mapRule
-map-at n holders sector0 e k h = bits-at n holders sector0 1600 0 e k (omega arith) (omega arith)
+map-at n holders sector0 e k h = bits-at (taken n holders) sector0 1600 0 e k (omega arith) (omega arith)
 
 pub at-map : (n : ℕ) (holders sector0 : List ℕ) → ((k : ℕ) → k < 1600 → mapBit sector0 k ≡ taken n holders k) → mapRule n holders sector0 ≡ true
 unfolding mapRule
-at-map n holders sector0 f = at-bits n holders sector0 1600 0 (λ k low high. f k (omega arith))
+at-map n holders sector0 f = at-bits (taken n holders) sector0 1600 0 (λ k low high. f k (omega arith))
 
 -- a byte's bits are those that made it
 by-eight : (P : ℕ → Type 0) → P 0 → P 1 → P 2 → P 3 → P 4 → P 5 → P 6 → P 7 → (j : ℕ) → j < 8 → P j
@@ -124,16 +131,52 @@ byte-of-bits bit b k h f =
     eight-bits b h
     ∙ rw (f 0 (omega arith) ∙ ap bit z, f 1 (omega arith), f 2 (omega arith), f 3 (omega arith), f 4 (omega arith), f 5 (omega arith), f 6 (omega arith), f 7 (omega arith))
 
-pub bytes-length : (bit : ℕ → ℕ) (length′ k : ℕ) → length (bytesOf bit length′ k) ≡ length′
+-- bit j of the map's byte i
+pub map-bit : (sector0 : List ℕ) (i j : ℕ) → j < 8 → mapBit sector0 (8 * i + j) ≡ bitOf (byteAt sector0 (56 + i)) j
+unfolding mapBit
+map-bit sector0 i j h =
+    let d : (8 * i + j) / 8 ≡ i = omega arith in
+    let m : (8 * i + j) % 8 ≡ j = omega arith in
+    rw (d, m)
+
+-- the rule, a byte at a time
+pub bits-byte : (bit : ℕ → ℕ) (sector0 : List ℕ) (i : ℕ) → ((k : ℕ) → bit k ≤ 1) → byteAt sector0 (56 + i) < 256 → (many : ℕ)
+    → bitsRule bit sector0 (8 + many) (8 * i) ≡ (eqb (byteAt sector0 (56 + i)) (byteOf bit (8 * i)) && bitsRule bit sector0 many (8 * i + 8))
+bits-byte bit sector0 i once small many =
+    same-test (bitsRule bit sector0 (8 + many) (8 * i)) (eqb (byteAt sector0 (56 + i)) (byteOf bit (8 * i)) && bitsRule bit sector0 many (8 * i + 8)) to from
+  where
+    to : bitsRule bit sector0 (8 + many) (8 * i) ≡ true → (eqb (byteAt sector0 (56 + i)) (byteOf bit (8 * i)) && bitsRule bit sector0 many (8 * i + 8)) ≡ true
+    to e =
+        let f = bits-at bit sector0 (8 + many) (8 * i) e in
+        let here = byte-of-bits bit (byteAt sector0 (56 + i)) (8 * i) small (λ j h. sym (map-bit sector0 i j h) ∙ f (8 * i + j) (omega arith) (omega arith)) in
+        rw (eq-eqb (byteAt sector0 (56 + i)) (byteOf bit (8 * i)) here) (at-bits bit sector0 many (8 * i + 8) (λ k low high. f k (omega arith) (omega arith)))
+
+    in-byte : byteAt sector0 (56 + i) ≡ byteOf bit (8 * i) → (k : ℕ) → 8 * i ≤ k → k < 8 * i + 8 → mapBit sector0 k ≡ bit k
+    in-byte here k low high =
+        let z : 8 * i + (k - 8 * i) ≡ k = omega arith in
+        let e = map-bit sector0 i (k - 8 * i) (omega arith) ∙ ap (λ (b : ℕ). bitOf b (k - 8 * i)) here ∙ byte-bit bit once (8 * i) (k - 8 * i) (omega arith) in
+        rw z at e
+
+    from : (eqb (byteAt sector0 (56 + i)) (byteOf bit (8 * i)) && bitsRule bit sector0 many (8 * i + 8)) ≡ true → bitsRule bit sector0 (8 + many) (8 * i) ≡ true
+    from e =
+        let parts = both (eqb (byteAt sector0 (56 + i)) (byteOf bit (8 * i))) (bitsRule bit sector0 many (8 * i + 8)) e in
+        at-bits bit sector0 (8 + many) (8 * i)
+        (λ k low high.
+        elim (decLt k (8 * i + 8)) [
+          | yes h ↦ in-byte (eqb-true (byteAt sector0 (56 + i)) (byteOf bit (8 * i)) (parts .0)) k low h
+          | no h ↦ bits-at bit sector0 many (8 * i + 8) (parts .1) k (omega arith) (omega arith)
+        ])
+
+pub bytes-length : (bit : ℕ → ℕ) (many k : ℕ) → length (bytesOf bit many k) ≡ many
 unfolding bytesOf
 bytes-length bit zero k = refl
-bytes-length bit (suc length′) k = ap suc (bytes-length bit length′ (k + 8))
+bytes-length bit (suc many) k = ap suc (bytes-length bit many (k + 8))
 
-pub bytes-at : (bit : ℕ → ℕ) (length′ k i : ℕ) → i < length′ → byteAt (bytesOf bit length′ k) i ≡ byteOf bit (k + 8 * i)
+pub bytes-at : (bit : ℕ → ℕ) (many k i : ℕ) → i < many → byteAt (bytesOf bit many k) i ≡ byteOf bit (k + 8 * i)
 unfolding bytesOf
 bytes-at bit zero k i h = absurd (omega arith)
-bytes-at bit (suc length′) k zero h = ap (byteOf bit) (omega arith)
-bytes-at bit (suc length′) k (suc i) h = bytes-at bit length′ (k + 8) i (omega arith) ∙ ap (byteOf bit) (omega arith)
+bytes-at bit (suc many) k zero h = ap (byteOf bit) (omega arith)
+bytes-at bit (suc many) k (suc i) h = bytes-at bit many (k + 8) i (omega arith) ∙ ap (byteOf bit) (omega arith)
 
 -- the map's bytes have the holders' bits
 pub map-of-bits : (n : ℕ) (holders sector0 : List ℕ) → ((k : ℕ) → count k holders ≤ 1) → part sector0 56 200 ≡ mapOf n holders
@@ -142,7 +185,7 @@ unfolding mapBit mapOf
 map-of-bits n holders sector0 once e k h =
     let i : k / 8 < 200 = omega arith in
     let here : byteAt sector0 (56 + k / 8) ≡ byteOf (taken n holders) (0 + 8 * (k / 8)) =
-        sym (part-at sector0 56 200 (k / 8) i) ∙ ap (λ (bytes : List ℕ). byteAt bytes (k / 8)) e ∙ bytes-at (taken n holders) 200 0 (k / 8) i
+    sym (part-at sector0 56 200 (k / 8) i) ∙ ap (λ (bytes : List ℕ). byteAt bytes (k / 8)) e ∙ bytes-at (taken n holders) 200 0 (k / 8) i
     in
     let z : 0 + 8 * (k / 8) + k % 8 ≡ k = omega arith in
     rw here (byte-bit (taken n holders) (taken-once n holders once) (0 + 8 * (k / 8)) (k % 8) (mod-lt k (omega arith)) ∙ ap (taken n holders) z)
@@ -150,17 +193,11 @@ map-of-bits n holders sector0 once e k h =
 -- and bytes with the holders' bits are the map's
 pub map-of-bytes : (n : ℕ) (holders sector0 : List ℕ) → length (part sector0 56 200) ≡ 200 → ((i : ℕ) → byteAt sector0 i < 256)
     → ((k : ℕ) → k < 1600 → mapBit sector0 k ≡ taken n holders k) → part sector0 56 200 ≡ mapOf n holders
-unfolding mapBit mapOf
+unfolding mapOf
 map-of-bytes n holders sector0 long small f =
     ext-getD 0 (part sector0 56 200) (bytesOf (taken n holders) 200 0) (long ∙ sym (bytes-length (taken n holders) 200 0))
     (λ i h.
     let i′ : i < 200 = omega arith in
     part-at sector0 56 200 i i′
-    ∙ byte-of-bits (taken n holders) (byteAt sector0 (56 + i)) (8 * i) (small (56 + i)) (bits i i′)
+    ∙ byte-of-bits (taken n holders) (byteAt sector0 (56 + i)) (8 * i) (small (56 + i)) (λ j l. sym (map-bit sector0 i j l) ∙ f (8 * i + j) (omega arith))
     ∙ sym (bytes-at (taken n holders) 200 0 i i′ ∙ ap (byteOf (taken n holders)) (omega arith)))
-  where
-    bits : (i : ℕ) → i < 200 → (j : ℕ) → j < 8 → bitOf (byteAt sector0 (56 + i)) j ≡ taken n holders (8 * i + j)
-    bits i h j l =
-        let d : (8 * i + j) / 8 ≡ i = omega arith in
-        let m : (8 * i + j) % 8 ≡ j = omega arith in
-        rw (d, m) at (f (8 * i + j) (omega arith))

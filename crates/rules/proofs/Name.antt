@@ -64,6 +64,7 @@ padded-is (b ∷ bytes) e = go (eqb b 32) refl e (padded-is bytes)
         named-here : nameByte b ≡ true → (is : IsPadded bytes) → (i : ℕ) → i < suc (is .used) → IsNameByte (byteAt (b ∷ bytes) i)
         named-here first is zero h = name-byte-is b first
         named-here first is (suc i) h = is .named i (omega arith)
+
         spaces-after : (is : IsPadded bytes) → (i : ℕ) → suc (is .used) ≤ i → i < length (b ∷ bytes) → byteAt (b ∷ bytes) i ≡ 32
         spaces-after is zero h k = absurd (omega arith)
         spaces-after is (suc i) h k = is .spaces i (omega arith) (omega arith)
@@ -80,10 +81,10 @@ is-padded (b ∷ bytes) (suc used) named spaces =
 
 some-used : (name : List ℕ) (is : IsPadded name) → 1 ≤ length name → IsNameByte (byteAt name 0) → 1 ≤ is .used
 some-used name is long first =
-    elim (decLt 0 (is .used))
-      [ yes h ↦ omega arith
+    elim (decLt 0 (is .used)) [
+      | yes h ↦ omega arith
       | no h ↦ absurd (omega (arith, is .spaces 0 (omega arith) (omega arith), first .printable .0))
-      ]
+    ]
 
 pub name-is : (name : List ℕ) → nameRule name ≡ true → IsName name
 unfolding nameRule
@@ -163,29 +164,29 @@ is-precedes first second is = precedes-at first second (is .place) (is .inside .
 
 pub before-trans : (a b c : List ℕ) → Before a b → Before b c → Before a c
 before-trans a b c p q =
-    elim (decLt (p .place) (q .place))
-      [ yes h ↦
-        record {
-          place = p .place;
-          inside = (p .inside .0, omega (arith, q .inside));
-          equal = λ i k. p .equal i k ∙ q .equal i (omega arith);
-          lower = omega (arith, p .lower, q .equal (p .place) h);
-        }
+    elim (decLt (p .place) (q .place)) [
+      | yes h ↦
+          record {
+            place = p .place;
+            inside = (p .inside .0, omega (arith, q .inside));
+            equal = λ i k. p .equal i k ∙ q .equal i (omega arith);
+            lower = omega (arith, p .lower, q .equal (p .place) h);
+          }
       | no h ↦
-        record {
-          place = q .place;
-          inside = (omega (arith, p .inside), q .inside .1);
-          equal = λ i k. p .equal i (omega arith) ∙ q .equal i k;
-          lower = at-second h;
-        }
-      ]
+          record {
+            place = q .place;
+            inside = (omega (arith, p .inside), q .inside .1);
+            equal = λ i k. p .equal i (omega arith) ∙ q .equal i k;
+            lower = at-second h;
+          }
+    ]
   where
     at-second : (p .place < q .place → ⊥) → byteAt a (q .place) < byteAt c (q .place)
     at-second h =
-        elim (decLt (q .place) (p .place))
-          [ yes k ↦ omega (arith, p .equal (q .place) k, q .lower)
+        elim (decLt (q .place) (p .place)) [
+          | yes k ↦ omega (arith, p .equal (q .place) k, q .lower)
           | no k ↦ let e : p .place ≡ q .place = omega arith in omega (arith, rw e at (p .lower), q .lower)
-          ]
+        ]
 
 pub before-irrefl : (a : List ℕ) → Before a a → ⊥
 before-irrefl a p = omega (arith, p .lower)
@@ -200,6 +201,7 @@ before-total (x ∷ a) (y ∷ b) long = go (decLt x y) (decLt y x) (before-total
     later e (inl same) = inl (cc)
     later e (inr (inl less)) = inr (inl (before-later x y a b e less))
     later e (inr (inr more)) = inr (inr (before-later y x b a (sym e) more))
+
     go : Dec (x < y) → Dec (y < x) → (a ≡ b) ⊎ (Before a b ⊎ Before b a) → (x ∷ a ≡ y ∷ b) ⊎ (Before (x ∷ a) (y ∷ b) ⊎ Before (y ∷ b) (x ∷ a))
     go (yes h) k rest = inr (inl (before-here x y a b h))
     go (no h) (yes k) rest = inr (inr (before-here y x b a k))

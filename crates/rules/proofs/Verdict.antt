@@ -103,13 +103,13 @@ unfolding heldTwice
 held-once [] e k = omega (arith, count-none k)
 held-once (h ∷ hs) e k =
     let parts = neither (ltb 0 (count h hs)) (heldTwice hs) e in
-    elim (ℕ-discrete h k)
-      [ yes here ↦
-        let none : count h hs ≤ 0 = ltb-false 0 (count h hs) (parts .0) in
-        let none′ = rw here at none in
-        rw here (omega (arith, count-here k hs, none′))
+    elim (ℕ-discrete h k) [
+      | yes here ↦
+          let none : count h hs ≤ 0 = ltb-false 0 (count h hs) (parts .0) in
+          let none′ = rw here at none in
+          rw here (omega (arith, count-here k hs, none′))
       | no there ↦ omega (arith, count-other k h hs there, held-once hs (parts .1) k)
-      ]
+    ]
 
 pub once-held : (hs : List ℕ) → ((k : ℕ) → count k hs ≤ 1) → heldTwice hs ≡ false
 unfolding heldTwice
@@ -133,8 +133,8 @@ unfolding verdict
 sound image e =
     let n = sectorCount image in
     let passed =
-        all-passed (sizeRule image) (labelRule n (sectorOf image 0)) (indexRule n (sectorOf image 1)) (descriptorsRule n image [] (files image)) (heldTwice (holders image))
-        (mapRule n (holders image) (sectorOf image 0)) e
+    all-passed (sizeRule image) (labelRule n (sectorOf image 0)) (indexRule n (sectorOf image 1)) (descriptorsRule n image [] (files image)) (heldTwice (holders image))
+    (mapRule n (holders image) (sectorOf image 0)) e
     in
     let size = size-is image (passed .0) in
     let bits = map-at n (holders image) (sectorOf image 0) (passed .5) in
@@ -154,17 +154,22 @@ pub passes : (image : List ℕ) → Sound image → verdict image ≡ 0
 unfolding verdict
 passes image is =
     let n = sectorCount image in
-    rw (is-size image (is .whole) (is .size .0) (is .size .1), is-label n (sectorOf image 0) (is .label), is-index n (sectorOf image 1) (is .index),
-    are-descriptors n image [] (files image) (is .descriptors)
-    (λ p h. precedes-none (nameIn image (fileAt image p)) (name-long n image (fileAt image p) (is .descriptors p h))) (is .ascending),
-    once-held (holders image) (is .single), at-map n (holders image) (sectorOf image 0) (bits image is))
+    rw (
+      is-size image (is .whole) (is .size .0) (is .size .1),
+      is-label n (sectorOf image 0) (is .label),
+      is-index n (sectorOf image 1) (is .index),
+      are-descriptors n image [] (files image) (is .descriptors)
+          (λ p h. precedes-none (nameIn image (fileAt image p)) (name-long n image (fileAt image p) (is .descriptors p h))) (is .ascending),
+      once-held (holders image) (is .single),
+      at-map n (holders image) (sectorOf image 0) (bits image is),
+    )
   where
     bits : (image : List ℕ) (is : Sound image) (k : ℕ) → k < 1600 → mapBit (sectorOf image 0) k ≡ taken (sectorCount image) (holders image) k
     bits image is k h =
-        elim (decLt k (sectorCount image))
-          [ yes below ↦ is .marked k below ∙ sym (taken-below (sectorCount image) (holders image) k below)
+        elim (decLt k (sectorCount image)) [
+          | yes below ↦ is .marked k below ∙ sym (taken-below (sectorCount image) (holders image) k below)
           | no past ↦ is .filled k (omega arith) h ∙ sym (taken-past (sectorCount image) (holders image) k (omega arith))
-          ]
+        ]
 
 pub verdict-sound : (image : List ℕ) → (verdict image ≡ 0) ↔ Sound image
 verdict-sound image = (sound image, passes image)

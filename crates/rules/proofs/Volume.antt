@@ -25,26 +25,26 @@ pub file-holders-inside : (n : ℕ) (image ks : List ℕ) (p : ℕ) → ((q : �
 unfolding fileHolders
 file-holders-inside n image [] p range is h = absurd (omega (arith, count-none p))
 file-holders-inside n image (k ∷ ks) p range is h =
-    elim (ℕ-discrete k p)
-      [ yes here ↦ let r = range 0 (omega arith) in (omega arith, omega arith)
+    elim (ℕ-discrete k p) [
+      | yes here ↦ let r = range 0 (omega arith) in (omega arith, omega arith)
       | no there ↦
-        let rest = count-other p k (placesIn image k ++ fileHolders image ks) there in
-        let split = count-append p (placesIn image k) (fileHolders image ks) in
-        elim (decLt 0 (count p (placesIn image k)))
-          [ yes placed ↦ places-inside n image k p (is 0 (omega arith)) placed
-          | no other ↦
-            file-holders-inside n image ks p (λ q l. range (suc q) (omega arith)) (λ q l. is (suc q) (omega arith)) (omega (arith, rest, split))
+          let rest = count-other p k (placesIn image k ++ fileHolders image ks) there in
+          let split = count-append p (placesIn image k) (fileHolders image ks) in
+          elim (decLt 0 (count p (placesIn image k))) [
+            | yes placed ↦ places-inside n image k p (is 0 (omega arith)) placed
+            | no other ↦
+                file-holders-inside n image ks p (λ q l. range (suc q) (omega arith)) (λ q l. is (suc q) (omega arith)) (omega (arith, rest, split))
           ]
-      ]
+    ]
 
 pub holders-inside : (n : ℕ) (image : List ℕ) (p : ℕ) → 2 ≤ n → IsIndex n (sectorOf image 1)
     → ((q : ℕ) → q < length (files image) → IsDescriptor n (sectorOf image (getD (files image) q 0))) → 1 ≤ count p (holders image) → p < n
 unfolding holders files
 holders-inside n image p large index is h =
-    elim (decLt p 2)
-      [ yes low ↦ omega arith
+    elim (decLt p 2) [
+      | yes low ↦ omega arith
       | no high ↦
-        let zeroth = count-other p 0 (1 ∷ fileHolders image (files image)) (λ e. high (omega arith)) in
-        let first = count-other p 1 (fileHolders image (files image)) (λ e. high (omega arith)) in
-        file-holders-inside n image (files image) p (index .range) is (omega (arith, zeroth, first)) .1
-      ]
+          let zeroth = count-other p 0 (1 ∷ fileHolders image (files image)) (λ e. high (omega arith)) in
+          let first = count-other p 1 (fileHolders image (files image)) (λ e. high (omega arith)) in
+          file-holders-inside n image (files image) p (index .range) is (omega (arith, zeroth, first)) .1
+    ]

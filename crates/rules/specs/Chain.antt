@@ -6,11 +6,7 @@ use Prim.Native.Nat.{ℕ, zero, suc, _+_, _-_, _*_, _/_, _%_, _≤_, _<_}
 use lib.Dec.{eqb, leb, ltb}
 use lib.ListN.{length, drop}
 use Rattle.rules.specs.Bytes.{byteAt, allAre}
-
--- a block: its first sector, and the last offset in the file that it covers
-pub record Block : Type 0 where
-  pub start : ℕ
-  pub last : ℕ
+use Rattle.rules.specs.declared.Block.{Block}
 
 -- a block of start s and last offset o holds: s mod 256; then s/256 + 16 × (o mod 16); then o/16
 unfoldable pub blockBytes : Block → List ℕ

@@ -17,13 +17,13 @@ count k (h ∷ holders) = cond (eqb h k) 1 0 + count k holders
 unfoldable pub taken : ℕ → List ℕ → ℕ → ℕ
 taken n holders k = cond (ltb k n) (count k holders) 1
 
--- `length` bits from bit k on are those of the holders
-unfoldable pub bitsRule : ℕ → List ℕ → List ℕ → ℕ → ℕ → Bool
-bitsRule n holders sector0 zero k = true
-bitsRule n holders sector0 (suc length) k = eqb (mapBit sector0 k) (taken n holders k) && bitsRule n holders sector0 length (k + 1)
+-- the map's bits from bit k on, `many` of them, are those that `bit` gives
+unfoldable pub bitsRule : (ℕ → ℕ) → List ℕ → ℕ → ℕ → Bool
+bitsRule bit sector0 zero k = true
+bitsRule bit sector0 (suc many) k = eqb (mapBit sector0 k) (bit k) && bitsRule bit sector0 many (k + 1)
 
 unfoldable pub mapRule : ℕ → List ℕ → List ℕ → Bool
-mapRule n holders sector0 = bitsRule n holders sector0 1600 0
+mapRule n holders sector0 = bitsRule (taken n holders) sector0 1600 0
 
 -- the byte whose eight bits are those that `bit` gives from k on
 unfoldable pub byteOf : (ℕ → ℕ) → ℕ → ℕ
@@ -32,7 +32,7 @@ byteOf bit k =
 
 unfoldable pub bytesOf : (ℕ → ℕ) → ℕ → ℕ → List ℕ
 bytesOf bit zero k = []
-bytesOf bit (suc length) k = byteOf bit k ∷ bytesOf bit length (k + 8)
+bytesOf bit (suc many) k = byteOf bit k ∷ bytesOf bit many (k + 8)
 
 -- the 200 bytes of the map of a set of holders, each in it once, on a volume of n sectors
 unfoldable pub mapOf : ℕ → List ℕ → List ℕ
