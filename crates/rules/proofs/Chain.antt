@@ -4,6 +4,7 @@ use mathlib.Core.Bool.{Bool, true, false, cond, _&&_}
 use mathlib.Core.List.{List, [], _∷_, _++_}
 use Prim.Native.Nat.{ℕ, zero, suc, _+_, _-_, _*_, _/_, _%_, _≤_, _<_}
 use native.Mathlib.Omega.{arith}
+use native.Mathlib.Numerals.{add-one}
 use native.Mathlib.Decide.{decLt, ℕ-discrete}
 use lib.Dec.{eqb, leb, ltb}
 use lib.ListN.{length, drop, getD, length-drop, length-append, List·getD-append}
@@ -96,6 +97,14 @@ unfolding run
 run-at s zero k h = absurd (omega arith)
 run-at s (suc many) zero h = omega arith
 run-at s (suc many) (suc k) h = run-at (s + 1) many k (omega arith) ∙ omega arith
+
+pub run-none : (s : ℕ) → run s 0 ≡ []
+unfolding run
+run-none s = refl
+
+pub run-step : (s many : ℕ) → run s (many + 1) ≡ s ∷ run (s + 1) many
+unfolding run
+run-step s many = rw (add-one many)
 
 pub run-holds : (p s many : ℕ) → 1 ≤ count p (run s many) → (s ≤ p) × (p < s + many)
 unfolding run

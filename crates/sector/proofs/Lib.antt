@@ -1,0 +1,3 @@
+-- The laws that the leaves' proofs share.
+pub mod Ahead
+mod Differing

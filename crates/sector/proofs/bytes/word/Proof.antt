@@ -1,0 +1,40 @@
+-- `sector::bytes::word` meets its contract. Assumes nothing.
+use Prim.Native.Nat.{_+_}
+use native.Mathlib.Omega.{arith}
+use lib.ListN.{List·getD-eq-default}
+use borrow.Author.Needs.{needs}
+use Rattle.sector.proofs.bytes.word.Statement.{statement}
+use Rattle.sector.proofs.bytes.word.Tie as tie
+use Rattle.sector.proofs.bytes.word.Reads as reads
+use Rattle.sector.proofs.bytes.word.Lts as lts
+use Rattle.sector.proofs.bytes.byte.Reads as byte-reads
+
+byte-requires : tie.Need-byte-requires
+byte-requires c κs = search needs
+
+add-byte : tie.Need-add-byte
+add-byte c = search needs
+
+byte-requires-2 : tie.Need-byte-requires-2
+byte-requires-2 c κs = search needs
+
+mul-result : tie.Need-mul-result
+mul-result c = search needs
+
+add-result : tie.Need-add-result
+add-result c = search needs
+
+returns : tie.Need-returns
+returns c = search needs
+
+returns-2 : tie.Need-returns-2
+returns-2 c =
+    let a = c .before .before .args in
+    let high = List·getD-eq-default (a .bytes .now) 0 (c .if1 .left) in
+    let low = List·getD-eq-default (a .bytes .now) 0 {n = a .i + 1} (omega arith) in
+    (omega arith, omega arith)
+
+pub word-spec : {M : Type 1} → statement M
+word-spec =
+    tie.close
+    (tie.spec byte-requires add-byte byte-requires-2 mul-result add-result returns returns-2)

@@ -1,0 +1,62 @@
+// Readings that are total: past the end stand zeros, and a part is as long as what is there.
+ghost use mathlib.Core.Path.{_≡_};
+ghost use Prim.Native.Nat.{_+_, _*_, _<_};
+ghost use lib.ListN.{drop};
+ghost use Rattle.rules.specs.Bytes.{byteAt, wordAt, part, allAre};
+ghost use Rattle.rules.specs.Sectors.{sectorOf};
+
+// The byte at i as a number.
+pub fn byte(bytes: &[u8], i: usize) -> usize
+    ensures { λ r. ⌜ (r ≡ byteAt (now (bytes .entry)) i) × (r < 256) ⌝ }
+{
+    if i < bytes.len() {
+        return bytes[i] as usize;
+    }
+    0
+}
+
+// The two-byte number at i, high byte first.
+pub fn word(bytes: &[u8], i: usize) -> usize
+    ensures { λ r. ⌜ (r ≡ wordAt (now (bytes .entry)) i) × (r < 65536) ⌝ }
+{
+    if i < bytes.len() {
+        let high = byte(bytes, i);
+        let low = byte(bytes, i + 1);
+        return 256 * high + low;
+    }
+    0
+}
+
+// `count` bytes from byte `from` on.
+pub fn part(bytes: &[u8], from: usize, count: usize) -> &[u8]
+    ensures { λ r. ⌜ now r ≡ part (now (bytes .entry)) from count ⌝ }
+{
+    if from <= bytes.len() {
+        if count <= bytes.len() - from {
+            let end = from + count;
+            return &bytes[from..end];
+        }
+        return &bytes[from..];
+    }
+    &bytes[0..0]
+}
+
+pub fn sector_of(image: &[u8], k: usize) -> &[u8]
+    requires { ⌜ k < 65536 ⌝ }
+    ensures { λ r. ⌜ now r ≡ sectorOf (now (image .entry)) k ⌝ }
+{
+    part(image, 256 * k, 256)
+}
+
+// Whether all bytes from `from` on are `value`. There is no early way out, so that the compiler takes many bytes a step.
+pub fn all_are(value: u8, bytes: &[u8], from: usize) -> bool
+    ensures { λ r. ⌜ r ≡ allAre value (drop from (now (bytes .entry))) ⌝ }
+{
+    let mut differing = 0u8;
+    let mut i = from;
+    while i < bytes.len() {
+        differing = differing | (bytes[i] ^ value);
+        i += 1;
+    }
+    differing == 0
+}

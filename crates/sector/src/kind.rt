@@ -1,0 +1,58 @@
+// Status and kind.
+ghost use mathlib.Core.Path.{_≡_};
+ghost use Prim.Native.Nat.{_<_};
+ghost use Rattle.rules.specs.Kind.{programLength, statusRule, kindOf};
+use rules::Kind;
+
+// Whether a status has allowed bits alone, and a program's is neither internal nor variable.
+pub fn status_rule(status: usize) -> bool
+    ensures { λ r. ⌜ r ≡ statusRule status ⌝ }
+{
+    let program = status % 2;
+    let internal = status / 2 % 2;
+    let protected = status / 8 % 2;
+    let variable = status / 128 % 2;
+    if status != program + 2 * internal + 8 * protected + 128 * variable {
+        return false;
+    }
+    if program == 1 {
+        if internal == 1 {
+            return false;
+        }
+        return variable != 1;
+    }
+    true
+}
+
+fn program_length(c: usize, end_offset: usize) -> usize
+    requires { ⌜ (c < 65536) × («end_offset» < 256) ⌝ }
+    ensures { λ r. ⌜ r ≡ programLength c «end_offset» ⌝ }
+{
+    if c == 0 {
+        return end_offset;
+    }
+    256 * (c - 1) + end_offset
+}
+
+// The kind of a file of that status, with its number of sectors, end offset and record length.
+pub fn kind_of(status: usize, c: usize, end_offset: usize, record_length: u8) -> Kind
+    requires { ⌜ (c < 65536) × («end_offset» < 256) ⌝ }
+    ensures { λ r. ⌜ r ≡ kindOf status c «end_offset» «record_length» ⌝ }
+{
+    if status % 2 == 1 {
+        return Kind::Program {
+            length: program_length(c, end_offset),
+        };
+    }
+    let internal = status / 2 % 2 == 1;
+    if status / 128 % 2 == 1 {
+        return Kind::Variable {
+            record_length,
+            internal,
+        };
+    }
+    Kind::Fixed {
+        record_length,
+        internal,
+    }
+}
