@@ -1,22 +1,21 @@
 -- The chain: a block and its bytes, each had back from the other; the blocks, a block at a time; the rule as a test and as facts; the places of a file.
-use mathlib.Core.Path.{_≡_, refl, sym, ap, _∙_}
-use mathlib.Core.Bool.{Bool, true, false, cond, _&&_}
-use mathlib.Core.List.{List, [], _∷_, _++_}
+use mathlib.Core.Path.{_≡_, refl, ap, _∙_}
+use mathlib.Core.Bool.{true, false, _&&_}
+use mathlib.Core.List.{List, [], _∷_}
 use Prim.Native.Nat.{ℕ, zero, suc, _+_, _-_, _*_, _/_, _%_, _≤_, _<_}
 use native.Mathlib.Omega.{arith}
 use native.Mathlib.Numerals.{add-one}
 use native.Mathlib.Decide.{decLt, ℕ-discrete}
-use lib.Dec.{eqb, leb, ltb}
-use lib.ListN.{length, drop, getD, length-drop, length-append, List·getD-append}
-use lib.Seq.{getD-append-add}
+use lib.Dec.{leb, ltb}
+use lib.ListN.{length, drop, getD, length-drop, length-append}
 use borrow.Author.Tests.{eq-eqb, eqb-true, le-leb, leb-true, lt-ltb, ltb-true}
 use Rattle.rules.specs.Bytes.{byteAt, allAre}
 use Rattle.rules.specs.declared.Block.{Block}
-use Rattle.rules.specs.Chain.{blockBytes, blockOf, endsChain, blocks, blocksRule, chainRule, run, placesFrom, places, Linked, IsChain}
+use Rattle.rules.specs.Chain.{blockBytes, blockOf, endsChain, blocks, blocksRule, chainRule, run, placesFrom, Linked, IsChain}
 use Rattle.rules.specs.Map.{count}
 use Rattle.rules.proofs.Tests.{both}
 use Rattle.rules.proofs.Bytes.{drop-three, zeros-at, at-zeros}
-use Rattle.rules.proofs.Map.{count-none, count-here, count-other, count-append}
+use Rattle.rules.proofs.Map.{count-none, count-other, count-append}
 
 -- a block is had back from its bytes
 pub block-bytes : (s o : ℕ) → s < 4096 → blockOf (byteAt (blockBytes (record { start = s; last = o })) 0) (byteAt (blockBytes (record { start = s; last = o })) 1) (byteAt (blockBytes (record { start = s; last = o })) 2) ≡ record { start = s; last = o }

@@ -1,13 +1,13 @@
 -- Sector 1: its numbers, a number at a time, and its rule as a test and as facts.
-use mathlib.Core.Path.{_≡_, refl, sym, ap, _∙_}
-use mathlib.Core.Bool.{Bool, true, false, cond, _&&_}
+use mathlib.Core.Path.{_≡_, refl}
+use mathlib.Core.Bool.{true, _&&_}
 use mathlib.Core.List.{List, [], _∷_}
 use Prim.Native.Nat.{ℕ, zero, suc, _+_, _*_, _≤_, _<_}
 use native.Mathlib.Omega.{arith}
-use lib.Dec.{eqb, leb, ltb}
+use lib.Dec.{leb, ltb}
 use lib.ListN.{length, drop, getD, length-drop}
 use borrow.Author.Tests.{eq-eqb, ne-eqb, le-leb, leb-true, lt-ltb, ltb-true}
-use Rattle.rules.specs.Bytes.{byteAt, wordAt, allAre}
+use Rattle.rules.specs.Bytes.{wordAt, allAre}
 use Rattle.rules.specs.Index.{numbers, rangeRule, indexRule, IsIndex}
 use Rattle.rules.proofs.Tests.{both}
 use Rattle.rules.proofs.Bytes.{drop-two, zeros-at, at-zeros}

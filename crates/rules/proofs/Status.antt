@@ -1,10 +1,10 @@
 -- Status and kind: the rules as tests and as facts.
-use mathlib.Core.Path.{_≡_, refl, sym, ap, _∙_}
+use mathlib.Core.Path.{_≡_, refl}
 use mathlib.Core.Bool.{Bool, true, false, cond, not, _&&_}
-use Prim.Native.Nat.{ℕ, _+_, _*_, _/_, _%_, _≤_, _<_}
+use Prim.Native.Nat.{ℕ}
 use native.Mathlib.Omega.{arith}
-use lib.Dec.{eqb, leb}
-use borrow.Author.Tests.{eq-eqb, ne-eqb, eqb-true, eqb-false, le-leb, leb-true, not-true}
+use lib.Dec.{eqb}
+use borrow.Author.Tests.{eq-eqb, eqb-true, eqb-false, le-leb, leb-true, not-true}
 use Rattle.rules.specs.Bytes.{bitOf}
 use Rattle.rules.specs.Kind.{isProgram, isInternal, isVariable, allowed, statusRule, kindRule, IsStatus, IsKind}
 use Rattle.rules.specs.declared.Kind.{Kind}

@@ -1,24 +1,24 @@
 -- The verdict is 0 exactly for sound volumes: `verdict-sound`.
-use mathlib.Core.Path.{_≡_, refl, sym, ap, _∙_}
+use mathlib.Core.Path.{_≡_, refl, sym, _∙_}
 use mathlib.Core.Logic.{_↔_}
-use mathlib.Core.Bool.{Bool, true, false, cond, _&&_, _||_}
+use mathlib.Core.Bool.{Bool, true, false, cond, _&&_}
 use mathlib.Core.List.{List, [], _∷_}
-use Prim.Native.Nat.{ℕ, zero, suc, _+_, _*_, _/_, _%_, _≤_, _<_}
+use Prim.Native.Nat.{ℕ, zero, suc, _*_, _%_, _≤_, _<_}
 use native.Mathlib.Omega.{arith}
 use native.Mathlib.Decide.{decLt, ℕ-discrete}
 use lib.Dec.{eqb, leb, ltb}
 use lib.ListN.{length, getD}
 use borrow.Author.Tests.{eq-eqb, eqb-true, le-leb, leb-true, le-ltb, ltb-false}
 use Rattle.rules.specs.Sectors.{sectorOf, sectorCount}
-use Rattle.rules.specs.Name.{precedes, Before, IsName}
+use Rattle.rules.specs.Name.{precedes, Before}
 use Rattle.rules.specs.Label.{labelRule}
 use Rattle.rules.specs.Map.{mapBit, count, taken, mapRule}
-use Rattle.rules.specs.Descriptor.{nameOf, descriptorRule, IsDescriptor}
+use Rattle.rules.specs.Descriptor.{descriptorRule, IsDescriptor}
 use Rattle.rules.specs.Index.{indexRule}
 use Rattle.rules.specs.Volume.{files, nameIn, holders}
 use Rattle.rules.specs.Verdict.{sizeRule, descriptorsRule, heldTwice, verdict}
 use Rattle.rules.specs.Sound.{Sound, fileAt}
-use Rattle.rules.proofs.Tests.{both, neither, absurd-test}
+use Rattle.rules.proofs.Tests.{both, neither}
 use Rattle.rules.proofs.Name.{precedes-is, is-precedes, before-trans}
 use Rattle.rules.proofs.Label.{label-is, is-label}
 use Rattle.rules.proofs.Map.{count-none, count-here, count-other, count-more, taken-below, taken-past, map-at, at-map}

@@ -1,7 +1,6 @@
 -- The holders of an image: how they count, and that those of kept rules are sectors of the volume.
-use mathlib.Core.Path.{_≡_, refl, sym, ap, _∙_}
 use mathlib.Core.List.{List, [], _∷_, _++_}
-use Prim.Native.Nat.{ℕ, zero, suc, _+_, _≤_, _<_}
+use Prim.Native.Nat.{ℕ, suc, _≤_, _<_}
 use native.Mathlib.Omega.{arith}
 use native.Mathlib.Decide.{decLt, ℕ-discrete}
 use lib.ListN.{length, getD}
@@ -11,7 +10,7 @@ use Rattle.rules.specs.Map.{count}
 use Rattle.rules.specs.Descriptor.{sectorsOf, chainOf, IsDescriptor}
 use Rattle.rules.specs.Index.{IsIndex}
 use Rattle.rules.specs.Volume.{files, placesIn, fileHolders, holders}
-use Rattle.rules.proofs.Map.{count-none, count-here, count-other, count-append}
+use Rattle.rules.proofs.Map.{count-none, count-other, count-append}
 use Rattle.rules.proofs.Chain.{places-hold}
 
 -- the places of a file whose descriptor keeps its rules are from 2 to n - 1

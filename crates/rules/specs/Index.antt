@@ -1,6 +1,6 @@
 -- Sector 1: 128 numbers, each a descriptor's sector, from 2 to n-1. The first zero ends the list and all after it are zero. The last number is zero, so there are at most 127 files.
 use mathlib.Core.Path.{_≡_}
-use mathlib.Core.Bool.{Bool, true, false, cond, _&&_}
+use mathlib.Core.Bool.{Bool, true, cond, _&&_}
 use mathlib.Core.List.{List, [], _∷_}
 use Prim.Native.Nat.{ℕ, _+_, _*_, _≤_, _<_}
 use lib.Dec.{eqb, leb, ltb}

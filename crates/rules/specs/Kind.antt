@@ -1,7 +1,6 @@
 -- Status and kind. Status: 01 hex program, 02 internal, 08 protected, 80 variable; other bits zero; 01 excludes 02 and 80.
 use mathlib.Core.Path.{_≡_}
-use mathlib.Core.Bool.{Bool, true, false, cond, not, _&&_}
-use mathlib.Core.List.{List}
+use mathlib.Core.Bool.{Bool, true, cond, not, _&&_}
 use Prim.Native.Nat.{ℕ, _+_, _-_, _*_, _≤_}
 use lib.Dec.{eqb, leb}
 use Rattle.rules.specs.Bytes.{bitOf}

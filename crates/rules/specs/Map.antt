@@ -1,5 +1,5 @@
 -- The map, bytes 56 to 255 of sector 0: sector k is bit k mod 8, lowest bit first, of byte 56 + k/8 rounded down; one means taken. Bits for k from n to 1,599 are one.
-use mathlib.Core.Bool.{Bool, true, false, cond, _&&_}
+use mathlib.Core.Bool.{Bool, true, cond, _&&_}
 use mathlib.Core.List.{List, [], _∷_}
 use Prim.Native.Nat.{ℕ, zero, suc, _+_, _*_, _/_, _%_}
 use lib.Dec.{eqb, ltb}

@@ -1,7 +1,7 @@
 -- Numbers 1 to 6, in the table's order: the whole image is tested for 1, then 2, and so on. This is what the judge gives.
 use mathlib.Core.Bool.{Bool, true, false, cond, _&&_, _||_}
 use mathlib.Core.List.{List, [], _∷_}
-use Prim.Native.Nat.{ℕ, _*_, _%_}
+use Prim.Native.Nat.{ℕ, _%_}
 use lib.Dec.{eqb, leb, ltb}
 use lib.ListN.{length}
 use Rattle.rules.specs.Sectors.{sectorOf, sectorCount}

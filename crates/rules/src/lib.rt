@@ -10,7 +10,15 @@ pub struct Block {
 // A file's kind, each case with its own numbers: a program with its length in bytes, a fixed and a
 // variable file with its record length and whether it is internal (else display).
 pub enum Kind {
-    Program { length: usize },
-    Fixed { record_length: u8, internal: bool },
-    Variable { record_length: u8, internal: bool },
+    Program {
+        length: usize,
+    },
+    Fixed {
+        record_length: usize,
+        internal: bool,
+    },
+    Variable {
+        record_length: usize,
+        internal: bool,
+    },
 }

@@ -1,7 +1,7 @@
 -- Differences of bytes gathered by or: the sum is zero exactly where each is, and a difference is zero exactly where its two bytes are equal.
-use mathlib.Core.Path.{_≡_, refl, sym, ap, _∙_}
-use mathlib.Core.Bool.{Bool, true, false, _&&_}
-use Prim.Native.Nat.{ℕ, zero, suc, _≤_, _<_}
+use mathlib.Core.Path.{_≡_}
+use mathlib.Core.Bool.{Bool, _&&_}
+use Prim.Native.Nat.{ℕ, zero, suc, _≤_}
 use native.Mathlib.Omega.{arith}
 use lib.Dec.{eqb}
 use lib.Bits.{bitOr, bitXor, or-add-and, and-le-r, or-zero-l, and-le-l, xor-add-and, xor-self}

@@ -35,7 +35,7 @@ fn program_length(c: usize, end_offset: usize) -> usize
 }
 
 // The kind of a file of that status, with its number of sectors, end offset and record length.
-pub fn kind_of(status: usize, c: usize, end_offset: usize, record_length: u8) -> Kind
+pub fn kind_of(status: usize, c: usize, end_offset: usize, record_length: usize) -> Kind
     requires { ⌜ (c < 65536) × («end_offset» < 256) ⌝ }
     ensures { λ r. ⌜ r ≡ kindOf status c «end_offset» «record_length» ⌝ }
 {

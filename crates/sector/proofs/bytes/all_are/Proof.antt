@@ -1,9 +1,8 @@
 -- `sector::bytes::all_are` meets its contract. The loop's invariant: nothing differed so far and the rest is all that value, exactly where all of it is.
 -- The measure is what is left of the length. Assumes nothing.
 use mathlib.Core.Path.{_≡_, refl, sym, ap, _∙_}
-use mathlib.Core.Bool.{Bool, true, false, _&&_, and-true}
-use Prim.Native.Nat.{ℕ, zero, suc, _≤_, _-_, _+_}
-use native.Mathlib.Omega.{arith}
+use mathlib.Core.Bool.{Bool, _&&_, and-true}
+use Prim.Native.Nat.{_-_, _+_}
 use lib.Dec.{eqb}
 use lib.ListN.{length, drop, getD}
 use Rattle.rules.specs.Bytes.{allAre}
@@ -12,8 +11,6 @@ use Rattle.sector.proofs.Differing.{differing-more}
 use borrow.Author.Needs.{needs}
 use Rattle.sector.proofs.bytes.all_are.Statement.{statement}
 use Rattle.sector.proofs.bytes.all_are.Tie as tie
-use Rattle.sector.proofs.bytes.all_are.Reads as reads
-use Rattle.sector.proofs.bytes.all_are.Lts as lts
 
 abbrev Inv-loop : tie.InvT-loop
 Inv-loop value bytes from differing₀ i₀ differing i = (eqb differing 0 && allAre value (drop i bytes)) ≡ allAre value (drop from bytes)

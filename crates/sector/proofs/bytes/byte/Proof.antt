@@ -5,8 +5,6 @@ use lib.ListN.{List·getD-eq-default}
 use borrow.Author.Needs.{needs}
 use Rattle.sector.proofs.bytes.byte.Statement.{statement}
 use Rattle.sector.proofs.bytes.byte.Tie as tie
-use Rattle.sector.proofs.bytes.byte.Reads as reads
-use Rattle.sector.proofs.bytes.byte.Lts as lts
 
 shared-slice-read-result : tie.Need-shared-slice-read-result
 shared-slice-read-result c = search needs

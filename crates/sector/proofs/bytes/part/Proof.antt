@@ -1,5 +1,5 @@
 -- `sector::bytes::part` meets its contract. Assumes nothing.
-use mathlib.Core.Path.{_≡_, refl, sym, ap, _∙_}
+use mathlib.Core.Path.{_≡_, sym, ap, _∙_}
 use Prim.Native.Nat.{_+_, _-_}
 use native.Mathlib.Omega.{arith}
 use lib.ListN.{length, take, drop, length-drop, drop-of-length-le}
@@ -7,8 +7,6 @@ use lib.Seq.{take-all, take-nil}
 use borrow.Author.Needs.{needs}
 use Rattle.sector.proofs.bytes.part.Statement.{statement}
 use Rattle.sector.proofs.bytes.part.Tie as tie
-use Rattle.sector.proofs.bytes.part.Reads as reads
-use Rattle.sector.proofs.bytes.part.Lts as lts
 
 sub-if2 : tie.Need-sub-if2
 sub-if2 c = search needs

@@ -3,9 +3,6 @@ use Rattle.rules.specs.Sectors.{sectorOf}
 use borrow.Author.Needs.{needs}
 use Rattle.sector.proofs.bytes.sector_of.Statement.{statement}
 use Rattle.sector.proofs.bytes.sector_of.Tie as tie
-use Rattle.sector.proofs.bytes.sector_of.Reads as reads
-use Rattle.sector.proofs.bytes.sector_of.Lts as lts
-use Rattle.sector.proofs.bytes.part.Reads as part-reads
 
 mul-part : tie.Need-mul-part
 mul-part c = search needs

@@ -5,9 +5,6 @@ use lib.ListN.{List·getD-eq-default}
 use borrow.Author.Needs.{needs}
 use Rattle.sector.proofs.bytes.word.Statement.{statement}
 use Rattle.sector.proofs.bytes.word.Tie as tie
-use Rattle.sector.proofs.bytes.word.Reads as reads
-use Rattle.sector.proofs.bytes.word.Lts as lts
-use Rattle.sector.proofs.bytes.byte.Reads as byte-reads
 
 byte-requires : tie.Need-byte-requires
 byte-requires c κs = search needs

@@ -5,8 +5,6 @@ use Rattle.rules.specs.Chain.{blockOf}
 use borrow.Author.Needs.{needs}
 use Rattle.sector.proofs.chain.block_of.Statement.{statement}
 use Rattle.sector.proofs.chain.block_of.Tie as tie
-use Rattle.sector.proofs.chain.block_of.Reads as reads
-use Rattle.sector.proofs.chain.block_of.Lts as lts
 
 mul-t8 : tie.Need-mul-t8
 mul-t8 c = search needs

@@ -3,8 +3,6 @@ use borrow.Author.Tests.{eq-eqb, ne-eqb}
 use Rattle.rules.specs.Chain.{endsChain}
 use Rattle.sector.proofs.chain.ends_chain.Statement.{statement}
 use Rattle.sector.proofs.chain.ends_chain.Tie as tie
-use Rattle.sector.proofs.chain.ends_chain.Reads as reads
-use Rattle.sector.proofs.chain.ends_chain.Lts as lts
 
 returns : tie.Need-returns
 unfolding endsChain

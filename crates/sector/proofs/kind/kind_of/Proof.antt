@@ -7,9 +7,6 @@ use Rattle.rules.specs.declared.Kind.the-variants.{Program}
 use borrow.Author.Needs.{needs}
 use Rattle.sector.proofs.kind.kind_of.Statement.{statement}
 use Rattle.sector.proofs.kind.kind_of.Tie as tie
-use Rattle.sector.proofs.kind.kind_of.Reads as reads
-use Rattle.sector.proofs.kind.kind_of.Lts as lts
-use Rattle.sector.proofs.kind.program_length.Reads as program-length-reads
 
 program-length-requires : tie.Need-program-length-requires
 program-length-requires c κs = search needs

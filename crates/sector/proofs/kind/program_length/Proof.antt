@@ -4,8 +4,6 @@ use Rattle.rules.specs.Kind.{programLength}
 use borrow.Author.Needs.{needs}
 use Rattle.sector.proofs.kind.program_length.Statement.{statement}
 use Rattle.sector.proofs.kind.program_length.Tie as tie
-use Rattle.sector.proofs.kind.program_length.Reads as reads
-use Rattle.sector.proofs.kind.program_length.Lts as lts
 
 returns : tie.Need-returns
 unfolding programLength

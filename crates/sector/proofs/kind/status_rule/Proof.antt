@@ -5,8 +5,6 @@ use Rattle.rules.specs.Kind.{statusRule}
 use borrow.Author.Needs.{needs}
 use Rattle.sector.proofs.kind.status_rule.Statement.{statement}
 use Rattle.sector.proofs.kind.status_rule.Tie as tie
-use Rattle.sector.proofs.kind.status_rule.Reads as reads
-use Rattle.sector.proofs.kind.status_rule.Lts as lts
 
 mul-if1 : tie.Need-mul-if1
 mul-if1 c = search needs

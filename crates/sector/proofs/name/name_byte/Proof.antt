@@ -3,8 +3,6 @@ use borrow.Author.Tests.{le-leb, lt-leb}
 use Rattle.rules.specs.Name.{nameByte}
 use Rattle.sector.proofs.name.name_byte.Statement.{statement}
 use Rattle.sector.proofs.name.name_byte.Tie as tie
-use Rattle.sector.proofs.name.name_byte.Reads as reads
-use Rattle.sector.proofs.name.name_byte.Lts as lts
 
 returns : tie.Need-returns
 unfolding nameByte

@@ -9,10 +9,6 @@ use Rattle.rules.proofs.Name.{padded-step, padded-end}
 use borrow.Author.Needs.{needs}
 use Rattle.sector.proofs.name.name_rule.Statement.{statement}
 use Rattle.sector.proofs.name.name_rule.Tie as tie
-use Rattle.sector.proofs.name.name_rule.Reads as reads
-use Rattle.sector.proofs.name.name_rule.Lts as lts
-use Rattle.sector.proofs.bytes.all_are.Reads as all-are-reads
-use Rattle.sector.proofs.name.name_byte.Reads as name-byte-reads
 
 abbrev Inv-loop : tie.InvT-loop
 Inv-loop name i₀ i = (i ≤ length name) × (padded (drop i name) ≡ nameRule name)

@@ -9,8 +9,6 @@ use Rattle.rules.proofs.Name.{precedes-step, precedes-short, precedes-end}
 use borrow.Author.Needs.{needs}
 use Rattle.sector.proofs.name.precedes.Statement.{statement}
 use Rattle.sector.proofs.name.precedes.Tie as tie
-use Rattle.sector.proofs.name.precedes.Reads as reads
-use Rattle.sector.proofs.name.precedes.Lts as lts
 
 abbrev Inv-loop : tie.InvT-loop
 Inv-loop first second i₀ i = precedes (drop i first) (drop i second) ≡ precedes first second

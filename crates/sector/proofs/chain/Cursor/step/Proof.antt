@@ -6,11 +6,6 @@ use Rattle.sector.proofs.Ahead.{in-block, next-block, no-block, short-c
 use borrow.Author.Needs.{needs}
 use Rattle.sector.proofs.chain.Cursor.step.Statement.{statement}
 use Rattle.sector.proofs.chain.Cursor.step.Tie as tie
-use Rattle.sector.proofs.chain.Cursor.step.Reads as reads
-use Rattle.sector.proofs.chain.Cursor.step.Lts as lts
-use Rattle.sector.proofs.chain.block_of.Reads as block-of-reads
-use Rattle.sector.proofs.chain.ends_chain.Reads as ends-chain-reads
-use Rattle.sector.proofs.chain.less.Reads as less-reads
 
 add-t14 : tie.Need-add-t14
 add-t14 c = search needs

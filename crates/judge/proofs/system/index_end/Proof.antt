@@ -1,0 +1,17 @@
+-- `judge::system::index_end` meets its contract. Assumes nothing.
+use borrow.Author.Tests.{le-ltb, lt-ltb}
+use borrow.Author.Needs.{needs}
+use Rattle.judge.proofs.system.index_end.Statement.{statement}
+use Rattle.judge.proofs.system.index_end.Tie as tie
+
+returns : tie.Need-returns
+returns c = rw (le-ltb _ _ (c .if1 .taken))
+
+all-are-requires : tie.Need-all-are-requires
+all-are-requires c κs = search needs
+
+returns-2 : tie.Need-returns-2
+returns-2 c = rw (lt-ltb _ _ (c .before .if1 .left)) (c .all-are .ensures)
+
+pub index-end-spec : {M : Type 1} → statement M
+index-end-spec = tie.close (tie.spec returns all-are-requires returns-2)

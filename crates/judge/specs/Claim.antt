@@ -1,0 +1,29 @@
+-- The marks, a number for each sector, zero where it is free: sectors claimed on them one after another, up to the first that is taken already.
+use mathlib.Core.Bool.{Bool, true, false, cond, _&&_}
+use mathlib.Core.List.{List, [], _∷_}
+use Prim.Native.Nat.{ℕ, zero, suc, _+_}
+use lib.Dec.{eqb, ltb}
+use lib.ListN.{getD, set}
+
+abbrev pub markAt : List ℕ → ℕ → ℕ
+markAt marks k = getD marks k 0
+
+-- `many` marks from sector k on become zero
+unfoldable pub unmarked : List ℕ → ℕ → ℕ → List ℕ
+unmarked marks k zero = marks
+unmarked marks k (suc many) = unmarked (set marks k 0) (k + 1) many
+
+unfoldable pub isFree : List ℕ → ℕ → Bool
+isFree marks k = ltb k 1600 && eqb (markAt marks k) 0
+
+-- whether a sector was claimed twice, and the marks that are left
+pub record Claimed : Type 0 where
+  pub twice : Bool
+  pub marks : List ℕ
+
+abbrev pub claimed : Bool → List ℕ → Claimed
+claimed twice marks = record { twice = twice; marks = marks }
+
+unfoldable pub claim : List ℕ → List ℕ → Claimed
+claim marks [] = claimed false marks
+claim marks (h ∷ holders) = cond (isFree marks h) (claim (set marks h 1) holders) (claimed true marks)

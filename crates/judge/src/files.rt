@@ -1,0 +1,121 @@
+// The descriptors: test 4.
+ghost use mathlib.Core.Path.{_≡_};
+ghost use mathlib.Core.List.{[]};
+ghost use Rattle.rules.specs.Chain.{chainRule};
+ghost use Rattle.rules.specs.Descriptor.{descriptorRule};
+ghost use Rattle.rules.specs.Kind.{kindRule};
+ghost use Rattle.rules.specs.Verdict.{descriptorsRule};
+ghost use Rattle.rules.specs.Volume.{files};
+ghost use Rattle.judge.specs.Rest.{chainEnd};
+use rules::Kind;
+use sector::bytes::all_are;
+use sector::bytes::byte;
+use sector::bytes::part;
+use sector::bytes::sector_of;
+use sector::bytes::word;
+use sector::chain::block_of;
+use sector::chain::ends_chain;
+use sector::kind::kind_of;
+use sector::kind::status_rule;
+use sector::name::name_rule;
+use sector::name::precedes;
+
+// Past the last block: c sectors are covered, and the rest is zero.
+fn chain_end(c: usize, chain: &[u8], at: usize, next: usize) -> bool
+    ensures { λ r. ⌜ r ≡ chainEnd c (now (chain .entry)) at next ⌝ }
+{
+    if next != c {
+        return false;
+    }
+    all_are(0, chain, at)
+}
+
+// The chain decoder: it receives the part of the descriptor that starts at byte 28.
+fn chain_rule(n: usize, c: usize, chain: &[u8]) -> bool
+    ensures { λ r. ⌜ r ≡ chainRule n c (now (chain .entry)) ⌝ }
+{
+    let mut at = 0;
+    let mut next = 0;
+    while at + 3 <= chain.len() {
+        let low = chain[at];
+        let middle = chain[at + 1];
+        let high = chain[at + 2];
+        if ends_chain(low, middle, high) {
+            return chain_end(c, chain, at, next);
+        }
+        let block = block_of(low, middle, high);
+        let start = block.start;
+        let last = block.last;
+        if start < 2 {
+            return false;
+        }
+        if last < next {
+            return false;
+        }
+        if start + (last - next) >= n {
+            return false;
+        }
+        at += 3;
+        next = last + 1;
+    }
+    chain_end(c, chain, at, next)
+}
+
+fn kind_rule(kind: Kind, c: usize) -> bool
+    ensures { λ r. ⌜ r ≡ kindRule kind c ⌝ }
+{
+    match kind {
+        Kind::Program { length: _ } => c >= 1,
+        Kind::Fixed {
+            record_length: _,
+            internal: _,
+        } => true,
+        Kind::Variable {
+            record_length: _,
+            internal: _,
+        } => true,
+    }
+}
+
+fn descriptor_rule(n: usize, descriptor: &[u8]) -> bool
+    ensures { λ r. ⌜ r ≡ descriptorRule n (now (descriptor .entry)) ⌝ }
+{
+    if !name_rule(part(descriptor, 0, 10)) {
+        return false;
+    }
+    let status = byte(descriptor, 12);
+    if !status_rule(status) {
+        return false;
+    }
+    let c = word(descriptor, 14);
+    let kind = kind_of(status, c, byte(descriptor, 16), byte(descriptor, 17));
+    if !kind_rule(kind, c) {
+        return false;
+    }
+    chain_rule(n, c, part(descriptor, 28, 228))
+}
+
+pub(crate) fn descriptors_rule(n: usize, image: &[u8]) -> bool
+    ensures { λ r. ⌜ r ≡ descriptorsRule n (now (image .entry)) [] (files (now (image .entry))) ⌝ }
+{
+    let sector1 = sector_of(image, 1);
+    let mut previous = part(image, 0, 0);
+    let mut at = 0;
+    while at + 2 <= sector1.len() {
+        let k = word(sector1, at);
+        if k == 0 {
+            return true;
+        }
+        let descriptor = sector_of(image, k);
+        if !descriptor_rule(n, descriptor) {
+            return false;
+        }
+        let name = part(descriptor, 0, 10);
+        if !precedes(previous, name) {
+            return false;
+        }
+        previous = name;
+        at += 2;
+    }
+    true
+}

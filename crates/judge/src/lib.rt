@@ -1,0 +1,52 @@
+// The judge: the number 0 to 6 of any image. Each function here answers what the rules' definition of the same name says,
+// for any bytes; `judge` puts them in the table's order.
+ghost use mathlib.Core.Path.{_≡_};
+ghost use Rattle.rules.specs.Verdict.{verdict};
+
+mod files;
+mod holders;
+mod map;
+mod system;
+
+use files::descriptors_rule;
+use holders::claim_files;
+use holders::unmark;
+use map::map_rule;
+use sector::bytes::sector_of;
+use system::index_rule;
+use system::label_rule;
+
+// The number of an image by the table: 0 where it is a sound volume, else the first of 1 to 6 that is due.
+pub fn judge(image: &[u8]) -> u32
+    ensures { λ r. ⌜ r ≡ verdict (now (image .entry)) ⌝ }
+{
+    if image.len() % 256 != 0 {
+        return 1;
+    }
+    let n = image.len() / 256;
+    if n < 3 {
+        return 1;
+    }
+    if n > 1600 {
+        return 1;
+    }
+    let sector0 = sector_of(image, 0);
+    if !label_rule(n, sector0) {
+        return 2;
+    }
+    if !index_rule(n, sector_of(image, 1)) {
+        return 3;
+    }
+    if !descriptors_rule(n, image) {
+        return 4;
+    }
+    let mut marks = [1u8; 1600];
+    unmark(&mut marks, n);
+    if claim_files(image, &mut marks) {
+        return 5;
+    }
+    if !map_rule(sector0, &marks) {
+        return 6;
+    }
+    0
+}

@@ -1,0 +1,58 @@
+// Sectors 0 and 1: tests 2 and 3.
+ghost use mathlib.Core.Path.{_≡_};
+ghost use Rattle.rules.specs.Label.{labelRule};
+ghost use Rattle.rules.specs.Index.{indexRule};
+ghost use Rattle.judge.specs.Rest.{indexEnd};
+use sector::bytes::all_are;
+use sector::bytes::byte;
+use sector::bytes::part;
+use sector::bytes::word;
+use sector::name::name_rule;
+
+pub(crate) fn label_rule(n: usize, sector0: &[u8]) -> bool
+    ensures { λ r. ⌜ r ≡ labelRule n (now (sector0 .entry)) ⌝ }
+{
+    if !name_rule(part(sector0, 0, 10)) {
+        return false;
+    }
+    if word(sector0, 10) != n {
+        return false;
+    }
+    if byte(sector0, 13) != 0x44 {
+        return false;
+    }
+    if byte(sector0, 14) != 0x53 {
+        return false;
+    }
+    byte(sector0, 15) == 0x4B
+}
+
+// Past the last number: not all 128 are used, and the rest is zero.
+fn index_end(sector1: &[u8], at: usize) -> bool
+    ensures { λ r. ⌜ r ≡ indexEnd (now (sector1 .entry)) at ⌝ }
+{
+    if at >= 256 {
+        return false;
+    }
+    all_are(0, sector1, at)
+}
+
+pub(crate) fn index_rule(n: usize, sector1: &[u8]) -> bool
+    ensures { λ r. ⌜ r ≡ indexRule n (now (sector1 .entry)) ⌝ }
+{
+    let mut at = 0;
+    while at + 2 <= sector1.len() {
+        let k = word(sector1, at);
+        if k == 0 {
+            return index_end(sector1, at);
+        }
+        if k < 2 {
+            return false;
+        }
+        if k >= n {
+            return false;
+        }
+        at += 2;
+    }
+    index_end(sector1, at)
+}
