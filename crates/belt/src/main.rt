@@ -1,0 +1,146 @@
+// Judges images of disks: one line for each image that the command line names, or, where it names
+// none, the number of the image on standard input.
+//
+// The number is `judge::judge`'s: 0 for a sound image, 1 to 6 for its first fault. What stands here
+// reads the images and writes the lines, and of that only safety is proved, since no contract can
+// say what is read or written. An image that cannot be read has `-` in the number's place and the
+// reason on standard error, and the images after it are judged all the same.
+ghost use Rattle.belt.specs.Filled.{Filled};
+use libc::STDIN_FILENO;
+use libc::STDOUT_FILENO;
+
+// One byte more than the longest image that can be sound. An image that is too long fills the
+// buffer, and the judge refuses it for its length, whatever comes after the bytes that were read.
+const IMAGE_ROOM: usize = 409601;
+
+// One byte more than the longest argument that Linux passes where a page has 4,096 bytes, so that
+// each line carries its argument whole.
+const ARGUMENT_ROOM: usize = 131072;
+
+// What a reading gives: how many bytes it put at the start of the buffer.
+enum Reading {
+    Bytes(usize),
+    Failed,
+}
+
+// What a line begins with: the judge's number, or that there was no image to judge.
+enum Verdict {
+    Number(u32),
+    Unread,
+}
+
+// One read. At the end of the input it gives 0 bytes.
+fn read_once(descriptor: i32, buffer: &mut [u8]) -> Reading
+    ensures { λ r. ⌜ Filled r (now (buffer .exit)) ⌝ }
+{
+    let got = libc::read(descriptor, buffer);
+    if got < 0 {
+        return Reading::Failed;
+    }
+    Reading::Bytes(io::count(got, buffer))
+}
+
+// Reads until the input ends or the buffer is full. `io::read_full` answers a short count where a
+// read fails, as if the input ended there, and the bytes before a failure are no image to judge.
+fn read_image(descriptor: i32, buffer: &mut [u8]) -> Reading
+    ensures { λ r. ⌜ Filled r (now (buffer .exit)) ⌝ }
+{
+    let mut filled = 0;
+    while filled < buffer.len() {
+        let reading = read_once(descriptor, &mut buffer[filled..]);
+        let Reading::Bytes(more) = reading else {
+            return Reading::Failed;
+        };
+        if more == 0 {
+            return Reading::Bytes(filled);
+        }
+        filled += more;
+    }
+    Reading::Bytes(filled)
+}
+
+// Judges what the descriptor gives. A reason, which begins with `name`, is written before the caller
+// closes the descriptor, since closing can set errno anew.
+fn judge_descriptor(descriptor: i32, name: &[u8], buffer: &mut [u8]) -> Verdict {
+    let reading = read_image(descriptor, buffer);
+    let Reading::Bytes(length) = reading else {
+        os::fail(name);
+        return Verdict::Unread;
+    };
+    Verdict::Number(judge::judge(&buffer[..length]))
+}
+
+fn judge_file(path: &[u8], buffer: &mut [u8]) -> Verdict {
+    let descriptor = os::open_read(path);
+    if descriptor < 0 {
+        os::fail(path);
+        return Verdict::Unread;
+    }
+    let verdict = judge_descriptor(descriptor, path, buffer);
+    libc::close(descriptor);
+    verdict
+}
+
+fn write_verdict(verdict: Verdict) -> bool {
+    match verdict {
+        Verdict::Number(number) => io::print_decimal(STDOUT_FILENO, number as u64),
+        Verdict::Unread => io::write_all(STDOUT_FILENO, b"-"),
+    }
+}
+
+fn write_line(verdict: Verdict, path: &[u8]) -> bool {
+    write_verdict(verdict)
+        && io::write_all(STDOUT_FILENO, b" ")
+        && io::write_all(STDOUT_FILENO, path)
+        && io::write_all(STDOUT_FILENO, b"\n")
+}
+
+// Judges the image that an argument names and writes its line. The answer, here and below, is
+// whether the line could be written.
+fn judge_argument(position: usize, argument: &mut [u8], buffer: &mut [u8]) -> bool {
+    let length = os::arg(position, argument);
+    if os::errno() != 0 {
+        os::fail(b"argument");
+        return write_line(Verdict::Unread, b"");
+    }
+    let path = &argument[..length];
+    let verdict = judge_file(path, buffer);
+    write_line(verdict, path)
+}
+
+// Argument 0 is the program's own name.
+fn judge_arguments(count: usize, argument: &mut [u8], buffer: &mut [u8]) -> bool {
+    for position in 1..count {
+        if !judge_argument(position, argument, buffer) {
+            return false;
+        }
+    }
+    true
+}
+
+fn judge_standard_input(buffer: &mut [u8]) -> bool {
+    let verdict = judge_descriptor(STDIN_FILENO, b"standard input", buffer);
+    write_verdict(verdict) && io::write_all(STDOUT_FILENO, b"\n")
+}
+
+fn judge_all(argument: &mut [u8], buffer: &mut [u8]) -> bool {
+    let count = os::arg_count();
+    if count < 2 {
+        return judge_standard_input(buffer);
+    }
+    judge_arguments(count, argument, buffer)
+}
+
+// A line that cannot be written ends the run: no later one would do better.
+fn run(argument: &mut [u8], buffer: &mut [u8]) {
+    if !judge_all(argument, buffer) {
+        os::fail(b"standard output");
+    }
+}
+
+// The buffers are lent from here, once, so that every other function works on plain slices.
+fn main() {
+    let mut argument = [0u8; ARGUMENT_ROOM];
+    let mut buffer = [0u8; IMAGE_ROOM];
+    run(&mut argument, &mut buffer);
+}
