@@ -1,5 +1,5 @@
 -- The marks: the bits that they make, a byte of the map at a time, and those that become zero.
-use mathlib.Core.Path.{_≡_, refl, ap, _∙_}
+use mathlib.Core.Path.{_≡_, refl, sym, _∙_}
 use mathlib.Core.Logic.{_⊎_, inl, inr}
 use mathlib.Core.Bool.{true, _&&_}
 use mathlib.Core.List.{List}
@@ -9,23 +9,34 @@ use native.Mathlib.Decide.{decLt, ℕ-discrete}
 use lib.Dec.{eqb}
 use lib.ListN.{length, set, length-set, List·getD-eq-default}
 use lib.Seq.{getD-set-same, getD-set-other}
-use Rattle.rules.specs.Bytes.{byteAt}
+use Rattle.rules.specs.Bytes.{byteAt, part}
 use Rattle.rules.specs.Map.{byteOf, bitsRule}
-use Rattle.rules.proofs.Map.{bits-byte}
-use Rattle.judge.specs.Claim.{markAt, unmarked}
+use Rattle.rules.proofs.Bytes.{part-at}
+use Rattle.rules.proofs.Map.{bits-none, bits-byte}
+use Rattle.judge.specs.Claim.{markAt, bytesRule, unmarked}
 
--- the bits that are left of the map, a byte at a time
-module _ (bit : ℕ → ℕ) (sector0 : List ℕ) (i : ℕ) where
-  pub byte-step : i < 200 → ((k : ℕ) → bit k ≤ 1) → byteAt sector0 (56 + i) < 256
-      → bitsRule bit sector0 (1600 - 8 * i) (8 * i) ≡ (eqb (byteAt sector0 (56 + i)) (byteOf bit (8 * i)) && bitsRule bit sector0 (1600 - 8 * (i + 1)) (8 * (i + 1)))
-  byte-step h once small =
-      let e : 1600 - 8 * i ≡ 8 + (1600 - 8 * (i + 1)) = omega arith in
+-- the bytes that are left of the map, one at a time
+module _ (bit : ℕ → ℕ) (map : List ℕ) (i : ℕ) where
+  pub byte-step : i < 200 → bytesRule bit map (200 - i) i ≡ (eqb (byteAt map i) (byteOf bit (8 * i)) && bytesRule bit map (200 - (i + 1)) (i + 1))
+  unfolding bytesRule
+  byte-step h = let e : 200 - i ≡ suc (200 - (i + 1)) = omega arith in rw e
+
+  pub byte-done : 200 ≤ i → bytesRule bit map (200 - i) i ≡ true
+  unfolding bytesRule
+  byte-done h = let e : 200 - i ≡ 0 = omega arith in rw e
+
+-- and they are right exactly where their bits are
+module _ (bit : ℕ → ℕ) (sector0 : List ℕ) (once : (k : ℕ) → bit k ≤ 1) (small : (i : ℕ) → byteAt sector0 i < 256) where
+  bytes-bits : (many i : ℕ) → i + many ≤ 200 → bytesRule bit (part sector0 56 200) many i ≡ bitsRule bit sector0 (8 * many) (8 * i)
+  unfolding bytesRule
+  bytes-bits zero i h = sym (bits-none bit sector0 (8 * i))
+  bytes-bits (suc many) i h =
+      let e : 8 * suc many ≡ 8 + 8 * many = omega arith in
       let f : 8 * (i + 1) ≡ 8 * i + 8 = omega arith in
-      ap (λ (many : ℕ). bitsRule bit sector0 many (8 * i)) e ∙ bits-byte bit sector0 i once small (1600 - 8 * (i + 1)) ∙ rw f
+      rw (part-at sector0 56 200 i (omega arith), bytes-bits many (i + 1) (omega arith), f, e) (sym (bits-byte bit sector0 i once (small (56 + i)) (8 * many)))
 
-  pub byte-done : 200 ≤ i → bitsRule bit sector0 (1600 - 8 * i) (8 * i) ≡ true
-  unfolding bitsRule
-  byte-done h = let e : 1600 - 8 * i ≡ 0 = omega arith in rw e
+  pub map-bits : bytesRule bit (part sector0 56 200) 200 0 ≡ bitsRule bit sector0 1600 0
+  map-bits = bytes-bits 200 0 (omega arith)
 
 -- marks from k on become zero, the first of them first
 pub unmark-step : (marks : List ℕ) (k n : ℕ) → k < n → unmarked marks k (n - k) ≡ unmarked (set marks k 0) (k + 1) (n - (k + 1))

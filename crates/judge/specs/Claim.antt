@@ -1,12 +1,19 @@
 -- The marks, a number for each sector, zero where it is free: sectors claimed on them one after another, up to the first that is taken already.
 use mathlib.Core.Bool.{Bool, true, false, cond, _&&_}
 use mathlib.Core.List.{List, [], _∷_}
-use Prim.Native.Nat.{ℕ, zero, suc, _+_}
+use Prim.Native.Nat.{ℕ, zero, suc, _+_, _*_}
 use lib.Dec.{eqb, ltb}
 use lib.ListN.{getD, set}
+use Rattle.rules.specs.Bytes.{byteAt}
+use Rattle.rules.specs.Map.{byteOf}
 
 abbrev pub markAt : List ℕ → ℕ → ℕ
 markAt marks k = getD marks k 0
+
+-- `many` bytes of a map from byte i on are those that the bits make, eight for each
+unfoldable pub bytesRule : (ℕ → ℕ) → List ℕ → ℕ → ℕ → Bool
+bytesRule bit map zero i = true
+bytesRule bit map (suc many) i = eqb (byteAt map i) (byteOf bit (8 * i)) && bytesRule bit map many (i + 1)
 
 -- `many` marks from sector k on become zero
 unfoldable pub unmarked : List ℕ → ℕ → ℕ → List ℕ

@@ -12,6 +12,7 @@ use files::descriptors_rule;
 use holders::claim_files;
 use holders::unmark;
 use map::map_rule;
+use sector::bytes::part;
 use sector::bytes::sector_of;
 use system::index_rule;
 use system::label_rule;
@@ -45,7 +46,7 @@ pub fn judge(image: &[u8]) -> u32
     if claim_files(image, &mut marks) {
         return 5;
     }
-    if !map_rule(sector0, &marks) {
+    if !map_rule(part(sector0, 56, 200), &marks) {
         return 6;
     }
     0

@@ -5,8 +5,9 @@ use mathlib.Core.List.{List, [], _∷_}
 use Prim.Native.Nat.{ℕ, zero, suc, _+_, _-_, _≤_, _<_}
 use native.Mathlib.Omega.{arith}
 use native.Mathlib.Numerals.{add-one}
+use native.Mathlib.Decide.{decLt}
 use lib.Dec.{eqb}
-use lib.ListN.{length, drop, length-take, length-drop, drop-of-length-le}
+use lib.ListN.{length, drop, length-take, length-drop, drop-of-length-le, List·getD-eq-default}
 use lib.Seq.{drop-cons, getD-take, getD-drop}
 use borrow.Author.Tests.{eq-eqb, eqb-true}
 use Rattle.rules.specs.Bytes.{byteAt, part, allAre}
@@ -40,6 +41,15 @@ part-short bytes from count = rw length-take (omega arith)
 
 pub part-at : (bytes : List ℕ) (from count i : ℕ) → i < count → byteAt (part bytes from count) i ≡ byteAt bytes (from + i)
 part-at bytes from count i h = rw (getD-take count (drop from bytes) i 0 h, getD-drop from bytes i 0)
+
+pub part-below : (bytes : List ℕ) (from count limit : ℕ) → 0 < limit → ((i : ℕ) → byteAt bytes i < limit) → (i : ℕ) → byteAt (part bytes from count) i < limit
+part-below bytes from count limit some below i =
+    elim (decLt i count) [
+      | yes h ↦ rw (part-at bytes from count i h) (below (from + i))
+      | no h ↦
+          let none = List·getD-eq-default (part bytes from count) 0 {n = i} (omega (arith, part-short bytes from count)) in
+          omega arith
+    ]
 
 -- all are one value: the next byte and the rest, the end, and every place
 pub all-step : (value : ℕ) (bytes : List ℕ) (i : ℕ) → i < length bytes

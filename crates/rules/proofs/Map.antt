@@ -71,6 +71,10 @@ module _ (bit : ℕ → ℕ) (sector0 : List ℕ) where
   at-bits (suc many) k f =
       rw (eq-eqb (mapBit sector0 k) (bit k) (f k (omega arith) (omega arith))) (at-bits many (k + 1) (λ i low high. f i (omega arith) (omega arith)))
 
+pub bits-none : (bit : ℕ → ℕ) (sector0 : List ℕ) (k : ℕ) → bitsRule bit sector0 0 k ≡ true
+unfolding bitsRule
+bits-none bit sector0 k = refl
+
 -- it asks of no other bits than those from k on
 pub bits-agree : (bit other : ℕ → ℕ) (sector0 : List ℕ) (many k : ℕ) → ((i : ℕ) → k ≤ i → i < k + many → bit i ≡ other i)
     → bitsRule bit sector0 many k ≡ bitsRule other sector0 many k

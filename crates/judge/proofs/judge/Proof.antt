@@ -11,8 +11,12 @@ use Rattle.rules.specs.Index.{indexRule}
 use Rattle.rules.specs.Map.{taken, mapRule}
 use Rattle.rules.specs.Volume.{files, holders}
 use Rattle.rules.specs.Verdict.{sizeRule, descriptorsRule, heldTwice, verdict}
+use Rattle.rules.proofs.Bytes.{part-length}
+use Rattle.rules.proofs.Sectors.{sector-length, sector-below}
 use Rattle.rules.proofs.Map.{bits-agree}
+use Rattle.rules.proofs.Verdict.{size-is}
 use Rattle.judge.specs.Claim.{markAt, Claimed}
+use Rattle.judge.proofs.MarkLaws.{map-bits}
 use Rattle.judge.proofs.ClaimLaws.{judged-twice, judged-small, judged-marks}
 use borrow.Author.Needs.{needs}
 use Rattle.judge.proofs.judge.Statement.{statement}
@@ -134,13 +138,18 @@ module _ (c : tie.After-claim-files) where
       rw (ap (λ (r : Claimed). r .marks) (c .claim-files .ensures)) (judged-marks _ _ (u .unmark .ensures) (before .0) (before .2) (before .3) (twice-result ∙ e) k l)
 
 map-result : (c : tie.After-map-rule) →
-    let image = c .before .before .before .before .before .before .before .before .before .before .before .before .before .before .before .before .before .before .before .args .image .now in
+    let image = c .before .before .before .before .before .before .before .before .before .before .before .before .before .before .before .before .before .before .before .before .args .image .now in
     mapRule (sectorCount image) (holders image) (sectorOf image 0) ≡ c .map-rule .result
 unfolding mapRule
 map-result c =
-    let f = c .before .before in
-    let s = f .before .before .before .before .before .before .before .before .before .before .before .before in
-    sym (c .map-rule .ensures ∙ rw (s .sector-of .ensures) (bits-agree _ _ _ 1600 0 (λ k low high. marks-result (f .before) (f .if7 .left) k (omega arith))))
+    let p = c .before .before in
+    let f = p .before in
+    let image-known = f .before .before .before .before .before .before .before .before .before .before .before .before .before .before .before .before in
+    let sector0-is = f .before .before .before .before .before .before .before .before .before .before .before .before .sector-of .ensures in
+    let small = sector-below (image-known .before .args .image .now) 0 256 (omega arith) (λ i. omega (arith, image-known .shared-slice-known .given i)) in
+    sym (c .map-rule .ensures
+    ∙ rw (p .part .ensures, sector0-is) (map-bits _ _ (small-marks (f .before) (f .if7 .left)) small)
+    ∙ bits-agree _ _ _ 1600 0 (λ k low high. marks-result (f .before) (f .if7 .left) k (omega arith)))
 
 returns-7 : tie.Need-returns-7
 unfolding verdict
@@ -148,14 +157,22 @@ returns-7 c =
     let e = c .before .before .before .before .before in
     rw (passed e .0, passed e .1, passed e .2, passed e .3, twice-result (c .before) ∙ c .if7 .taken)
 
+part-requires : tie.Need-part-requires
+part-requires c κs = search needs
+
 map-rule-requires : tie.Need-map-rule-requires
-map-rule-requires c κs = small-marks (c .before .before) (c .before .if7 .left)
+map-rule-requires c κs =
+    let f = c .before .before in
+    let s = f .before .before .before .before .before .before .before .before .before .before .before .before in
+    let size = size-is _ (sized (s .before)) in
+    let long = sector-length (s .before .before .before .before .before .args .image .now) 0 (omega (arith, size .0, size .1)) in
+    (rw (c .before .part .ensures, s .sector-of .ensures) (part-length (sectorOf (s .before .before .before .before .before .args .image .now) 0) 56 200 (omega (arith, long))), small-marks (f .before) (f .if7 .left))
 
 returns-8 : tie.Need-returns-8
 unfolding verdict
 returns-8 c =
     let m = c .before in
-    let f = m .before .before in
+    let f = m .before .before .before in
     let e = f .before .before .before .before .before in
     rw (passed e .0, passed e .1, passed e .2, passed e .3, twice-result (f .before) ∙ f .if7 .left, map-result m ∙ not-true (m .map-rule .result) (c .if8 .taken))
 
@@ -163,7 +180,7 @@ returns-9 : tie.Need-returns-9
 unfolding verdict
 returns-9 c =
     let m = c .before in
-    let f = m .before .before in
+    let f = m .before .before .before in
     let e = f .before .before .before .before .before in
     rw (passed e .0, passed e .1, passed e .2, passed e .3, twice-result (f .before) ∙ f .if7 .left, map-result m ∙ not-false (m .map-rule .result) (c .if8 .left))
 
@@ -185,6 +202,7 @@ judge-spec =
     unmark-requires
     claim-files-requires
     returns-7
+    part-requires
     map-rule-requires
     returns-8
     returns-9)

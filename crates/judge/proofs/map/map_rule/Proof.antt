@@ -1,55 +1,34 @@
--- `judge::map::map_rule` meets its contract. The loop's invariant: the bits from 8 i on are those of the marks exactly where all are.
+-- `judge::map::map_rule` meets its contract. The loop's invariant: the bytes from i on are those that the marks make exactly where all are.
 -- The measure is what is left of the 200 bytes. Assumes nothing.
 use mathlib.Core.Path.{_≡_, refl, sym, _∙_}
-use mathlib.Core.Bool.{_&&_}
-use Prim.Native.Nat.{_≤_, _<_, _-_, _+_, _*_}
-use native.Mathlib.Omega.{arith}
-use lib.Dec.{eqb}
+use Prim.Native.Nat.{_≤_, _-_}
 use borrow.Author.Tests.{eq-eqb, ne-eqb}
-use Rattle.rules.specs.Bytes.{byteAt}
-use Rattle.rules.specs.Map.{bitsRule}
-use Rattle.judge.specs.Claim.{markAt}
+use Rattle.judge.specs.Claim.{markAt, bytesRule}
 use Rattle.judge.proofs.MarkLaws.{byte-step, byte-done}
 use borrow.Author.Needs.{needs}
 use Rattle.judge.proofs.map.map_rule.Statement.{statement}
 use Rattle.judge.proofs.map.map_rule.Tie as tie
 
 abbrev Inv-loop : tie.InvT-loop
-Inv-loop sector0 marks i₀ i = (i ≤ 200) × (bitsRule (markAt marks) sector0 (1600 - 8 * i) (8 * i) ≡ bitsRule (markAt marks) sector0 1600 0)
+Inv-loop map marks i₀ i = (i ≤ 200) × (bytesRule (markAt marks) map (200 - i) i ≡ bytesRule (markAt marks) map 200 0)
 
 abbrev μ-loop : tie.MeasureT-loop
-μ-loop sector0 marks i₀ i = 200 - i
+μ-loop map marks i₀ i = 200 - i
 
 loop-holds : tie.Need-loop-holds Inv-loop μ-loop
 loop-holds c = (search needs, refl)
 
-add-byte : tie.Need-add-byte Inv-loop μ-loop
-add-byte c = search needs
-
-byte-requires : tie.Need-byte-requires Inv-loop μ-loop
-byte-requires c κs = search needs
+shared-slice-read-if1 : tie.Need-shared-slice-read-if1 Inv-loop μ-loop
+shared-slice-read-if1 c = search needs
 
 marks-byte-requires : tie.Need-marks-byte-requires Inv-loop μ-loop
 marks-byte-requires c κs = search needs
 
-stepped : (c : tie.After-marks-byte Inv-loop μ-loop) →
-    let l = c .before .before in
-    let i = l .before .loop .i in
-    let a = l .before .before .before .args in
-    let bit = markAt (a .marks .now) in
-    bitsRule bit (a .sector0 .now) (1600 - 8 * i) (8 * i)
-    ≡ (eqb (c .before .byte .result) (c .marks-byte .result) && bitsRule bit (a .sector0 .now) (1600 - 8 * (i + 1)) (8 * (i + 1)))
-stepped c =
-    let l = c .before .before in
-    let a = l .before .before .before .args in
-    let small : byteAt (a .sector0 .now) (56 + l .before .loop .i) < 256 = omega (arith, c .before .byte .ensures .0, c .before .byte .ensures .1) in
-    rw (c .before .byte .ensures .0, c .marks-byte .ensures) (byte-step _ _ _ (l .loop-test .taken) (l .before .before .before .pre) small)
-
 returns : tie.Need-returns Inv-loop μ-loop
 returns c =
-    let l = c .before .before .before in
-    let step = stepped (c .before) in
-    sym (sym (l .before .loop .inv .1) ∙ step ∙ rw (ne-eqb _ _ (c .if1 .taken)))
+    let b = c .before in
+    let l = b .before .before in
+    sym (sym (l .before .loop .inv .1) ∙ byte-step _ _ _ (l .loop-test .taken) ∙ rw (← b .marks-byte .ensures, ne-eqb _ _ (c .if1 .taken)))
 
 add-i : tie.Need-add-i Inv-loop μ-loop
 add-i c = search needs
@@ -59,8 +38,9 @@ loop-less c = search needs
 
 loop-again : tie.Need-loop-again Inv-loop μ-loop
 loop-again c =
-    let l = c .before .before .before in
-    (search needs, sym (sym (l .before .loop .inv .1) ∙ stepped (c .before) ∙ rw (eq-eqb _ _ (c .if1 .left))))
+    let b = c .before in
+    let l = b .before .before in
+    (search needs, sym (sym (l .before .loop .inv .1) ∙ byte-step _ _ _ (l .loop-test .taken) ∙ rw (← b .marks-byte .ensures, eq-eqb _ _ (c .if1 .left))))
 
 returns-2 : tie.Need-returns-2 Inv-loop μ-loop
 returns-2 c = sym (sym (c .before .loop .inv .1) ∙ byte-done _ _ _ (c .loop-test .left))
@@ -72,8 +52,7 @@ map-rule-spec =
     Inv-loop
     μ-loop
     loop-holds
-    add-byte
-    byte-requires
+    shared-slice-read-if1
     marks-byte-requires
     returns
     add-i
