@@ -12,8 +12,8 @@ use Rattle.rules.specs.Index.{numbers}
 use Rattle.rules.specs.Volume.{placesIn, fileHolders}
 use Rattle.rules.proofs.Index.{numbers-step, numbers-end, numbers-short}
 use Rattle.judge.specs.Claim.{isFree, claimed, claim}
-use Rattle.sector.specs.Cursor.{ahead, first}
-use Rattle.sector.proofs.Ahead.{at-first}
+use Rattle.descriptor.specs.Cursor.{ahead, first}
+use Rattle.descriptor.proofs.Ahead.{at-first}
 
 module _ (marks : List ℕ) (h : ℕ) (holders : List ℕ) where
   pub claim-taken : isFree marks h ≡ false → claim marks (h ∷ holders) ≡ claimed true marks

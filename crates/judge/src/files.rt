@@ -7,18 +7,18 @@ ghost use Rattle.rules.specs.Kind.{kindRule};
 ghost use Rattle.rules.specs.Verdict.{descriptorsRule};
 ghost use Rattle.rules.specs.Volume.{files};
 ghost use Rattle.judge.specs.Rest.{chainEnd};
+use descriptor::chain::block_of;
+use descriptor::chain::ends_chain;
+use descriptor::kind::kind_of;
+use descriptor::kind::status_rule;
+use descriptor::name::name_rule;
+use descriptor::name::precedes;
 use rules::Kind;
 use sector::bytes::all_are;
 use sector::bytes::byte;
 use sector::bytes::part;
 use sector::bytes::sector_of;
 use sector::bytes::word;
-use sector::chain::block_of;
-use sector::chain::ends_chain;
-use sector::kind::kind_of;
-use sector::kind::status_rule;
-use sector::name::name_rule;
-use sector::name::precedes;
 
 // Past the last block: c sectors are covered, and the rest is zero.
 fn chain_end(c: usize, chain: &[u8], at: usize, next: usize) -> bool

@@ -5,11 +5,11 @@ ghost use Prim.Native.Nat.{_-_, _≤_};
 ghost use lib.ListN.{set};
 ghost use Rattle.rules.specs.Volume.{files, fileHolders};
 ghost use Rattle.judge.specs.Claim.{unmarked, isFree, claim, claimed};
+use descriptor::chain::Cursor;
+use descriptor::chain::Step;
 use sector::bytes::part;
 use sector::bytes::sector_of;
 use sector::bytes::word;
-use sector::chain::Cursor;
-use sector::chain::Step;
 
 // The marks of sectors 2 to n - 1 become zero.
 pub(crate) fn unmark(marks: &mut [u8; 1600], n: usize)

@@ -3,11 +3,11 @@ ghost use mathlib.Core.Path.{_≡_};
 ghost use Rattle.rules.specs.Label.{labelRule};
 ghost use Rattle.rules.specs.Index.{indexRule};
 ghost use Rattle.judge.specs.Rest.{indexEnd};
+use descriptor::name::name_rule;
 use sector::bytes::all_are;
 use sector::bytes::byte;
 use sector::bytes::part;
 use sector::bytes::word;
-use sector::name::name_rule;
 
 pub(crate) fn label_rule(n: usize, sector0: &[u8]) -> bool
     ensures { λ r. ⌜ r ≡ labelRule n (now (sector0 .entry)) ⌝ }

@@ -18,23 +18,25 @@ use Rattle.rules.proofs.Bytes.{drop-three, zeros-at, at-zeros}
 use Rattle.rules.proofs.Map.{count-none, count-other, count-append}
 
 -- a block is had back from its bytes
-pub block-bytes : (s o : ℕ) → s < 4096 → blockOf (byteAt (blockBytes (record { start = s; last = o })) 0) (byteAt (blockBytes (record { start = s; last = o })) 1) (byteAt (blockBytes (record { start = s; last = o })) 2) ≡ record { start = s; last = o }
+same-block : (s o s′ o′ : ℕ) → s ≡ s′ → o ≡ o′ → _≡_ {A = Block} (record { start = s; last = o }) (record { start = s′; last = o′ })
+same-block s o s′ o′ p q = rw (p, q)
+
+pub block-bytes : (s o : ℕ) → s < 4096
+    → let bytes = blockBytes (record { start = s; last = o }) in
+    blockOf (byteAt bytes 0) (byteAt bytes 1) (byteAt bytes 2) ≡ record { start = s; last = o }
 unfolding blockOf blockBytes
-block-bytes s o h =
-    let e : s % 256 + 256 * ((s / 256 + 16 * (o % 16)) % 16) ≡ s = omega arith in
-    let f : (s / 256 + 16 * (o % 16)) / 16 + 16 * (o / 16) ≡ o = omega arith in
-    rw (e, f)
+block-bytes s o h = same-block _ _ s o (omega arith) (omega arith)
 
 -- and the bytes from the block
+same-three : (a b c a′ b′ c′ : ℕ) → a ≡ a′ → b ≡ b′ → c ≡ c′ → _≡_ {A = List ℕ} (a ∷ (b ∷ (c ∷ []))) (a′ ∷ (b′ ∷ (c′ ∷ [])))
+same-three a b c a′ b′ c′ p q r = rw (p, q, r)
+
 pub bytes-block : (a b c : ℕ) → a < 256 → b < 256 → c < 256 → blockBytes (blockOf a b c) ≡ a ∷ (b ∷ (c ∷ []))
 unfolding blockOf blockBytes
 bytes-block a b c ha hb hc =
-    let p : (a + 256 * (b % 16)) % 256 ≡ a = omega arith in
-    let q₁ : (a + 256 * (b % 16)) / 256 ≡ b % 16 = omega arith in
-    let q₂ : (b / 16 + 16 * c) % 16 ≡ b / 16 = omega arith in
-    let q : (a + 256 * (b % 16)) / 256 + 16 * ((b / 16 + 16 * c) % 16) ≡ b = rw (q₁, q₂) (omega arith) in
-    let r : (b / 16 + 16 * c) / 16 ≡ c = omega arith in
-    rw (p, q, r)
+    let low : (a + 256 * (b % 16)) / 256 ≡ b % 16 = omega arith in
+    let high : (b / 16 + 16 * c) % 16 ≡ b / 16 = omega arith in
+    same-three _ _ _ a b c (omega arith) (rw (low, high) (omega arith)) (omega arith)
 
 -- the blocks of the chain from byte i on: one and the rest, the end, and too few bytes for one
 module _ (chain : List ℕ) (i : ℕ) where

@@ -37,3 +37,11 @@ bytesOf bit (suc many) k = byteOf bit k ∷ bytesOf bit many (k + 8)
 -- the 200 bytes of the map of a set of holders, each in it once, on a volume of n sectors
 unfoldable pub mapOf : ℕ → List ℕ → List ℕ
 mapOf n holders = bytesOf (taken n holders) 200 0
+
+-- the free count: the zero bits of the map
+unfoldable pub zeroBits : List ℕ → ℕ → ℕ → ℕ
+zeroBits sector0 zero k = 0
+zeroBits sector0 (suc many) k = cond (eqb (mapBit sector0 k) 0) 1 0 + zeroBits sector0 many (k + 1)
+
+unfoldable pub freeCount : List ℕ → ℕ
+freeCount sector0 = zeroBits sector0 1600 0

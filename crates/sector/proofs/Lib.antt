@@ -1,3 +1,2 @@
--- The laws that the leaves' proofs share.
-pub mod Ahead
+-- The law that the leaves' proofs share.
 mod Differing

@@ -19,12 +19,10 @@ pub fn byte(bytes: &[u8], i: usize) -> usize
 pub fn word(bytes: &[u8], i: usize) -> usize
     ensures { λ r. ⌜ (r ≡ wordAt (now (bytes .entry)) i) × (r < 65536) ⌝ }
 {
-    if i < bytes.len() {
-        let high = byte(bytes, i);
-        let low = byte(bytes, i + 1);
-        return 256 * high + low;
+    if bytes.len() <= i {
+        return 0;
     }
-    0
+    256 * byte(bytes, i) + byte(bytes, i + 1)
 }
 
 // `count` bytes from byte `from` on.

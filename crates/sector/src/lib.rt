@@ -1,6 +1,3 @@
-// The leaves: readings of bytes and sectors, names, status and kind, blocks and the cursor over a chain. Each answers
-// for any bytes with what the rules' definition of the same name says; those with a `requires` ask a bound on a number alone.
+// The leaves of an image: readings of bytes, parts and sectors. Each answers for any bytes with what the rules' definition
+// of the same name says; the one with a `requires` asks a bound on a number alone.
 pub mod bytes;
-pub mod chain;
-pub mod kind;
-pub mod name;

@@ -10,9 +10,9 @@ use lib.ListN.{length, drop}
 use Rattle.rules.specs.Descriptor.{chainOf}
 use Rattle.rules.specs.Index.{numbers}
 use Rattle.rules.specs.Volume.{files, placesIn, fileHolders}
-use Rattle.sector.specs.Cursor.{ahead, Steady, Stepped}
-use Rattle.sector.specs.declared.chain.Step.{Step}
-use Rattle.sector.specs.declared.chain.Step.the-variants.{Place}
+use Rattle.descriptor.specs.Cursor.{ahead, Steady, Stepped}
+use Rattle.descriptor.specs.declared.chain.Step.{Step}
+use Rattle.descriptor.specs.declared.chain.Step.the-variants.{Place}
 use Rattle.judge.specs.Claim.{claim, claimed}
 use Rattle.judge.proofs.ClaimSteps.{claim-done, files-step, files-zero, files-past, places-ahead, took, refused}
 use borrow.Author.Needs.{needs}

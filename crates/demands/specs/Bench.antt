@@ -1,0 +1,33 @@
+-- The bench cases of the paper that are proved of the rules, one table under one statement: what the rules compute is what the paper prints.
+use mathlib.Core.Path.{_≡_}
+use mathlib.Core.List.{List, [], _∷_, _++_}
+use Prim.Native.Nat.{ℕ, _<_}
+use lib.ListN.{length, replicate, getD}
+use Rattle.rules.specs.Bytes.{byteAt, part}
+use Rattle.rules.specs.Chain.{blockBytes}
+use Rattle.rules.specs.Map.{mapOf, freeCount}
+
+-- a case: its number in the paper, what the rules compute, and what the paper prints
+pub record Case : Type 0 where
+  pub number : ℕ
+  pub computed : List ℕ
+  pub printed : List ℕ
+
+abbrev case : ℕ → List ℕ → List ℕ → Case
+case number computed printed = record { number = number; computed = computed; printed = printed }
+
+-- sector 0 of an empty volume of n sectors, as far as its map goes
+abbrev emptyMap : ℕ → List ℕ
+emptyMap n = replicate 56 0 ++ mapOf n (0 ∷ (1 ∷ []))
+
+unfoldable pub table : List Case
+table =
+    case 1 (blockBytes (record { start = 34; last = 0 })) (0x22 ∷ (0x00 ∷ (0x00 ∷ [])))
+    ∷ (case 2 (blockBytes (record { start = 34; last = 19 })) (0x22 ∷ (0x30 ∷ (0x01 ∷ [])))
+    ∷ (case 3 (blockBytes (record { start = 1599; last = 1597 })) (0x3F ∷ (0xD6 ∷ (0x63 ∷ [])))
+    ∷ (case 4 (byteAt (emptyMap 35) 56 ∷ (byteAt (emptyMap 35) 60 ∷ (freeCount (emptyMap 35) ∷ []))) (0x03 ∷ (0xF8 ∷ (33 ∷ [])))
+    ∷ (case 5 (part (emptyMap 360) 57 44 ++ part (emptyMap 360) 101 155) (replicate 44 0x00 ++ replicate 155 0xFF) ∷ []))))
+
+-- the statement: each case of the table, by its place in it
+unfoldable pub Bench : Type 0
+Bench = (p : ℕ) → p < length table → getD table p (case 0 [] []) .computed ≡ getD table p (case 0 [] []) .printed

@@ -1,0 +1,49 @@
+-- The places ahead of a cursor, a step at a time.
+use mathlib.Core.Path.{_≡_, ap, _∙_}
+use mathlib.Core.Bool.{true, false}
+use mathlib.Core.List.{List, [], _∷_, _++_}
+use Prim.Native.Nat.{ℕ, _+_, _-_, _≤_, _<_}
+use native.Mathlib.Omega.{arith}
+use lib.ListN.{length, drop}
+use Rattle.rules.specs.Bytes.{byteAt}
+use Rattle.rules.specs.Chain.{blocks, blockOf, endsChain, run, placesFrom, places}
+use Rattle.rules.specs.declared.Block.{Block}
+use Rattle.rules.proofs.Chain.{blocks-step, blocks-end, blocks-short, run-none, run-step}
+use Rattle.descriptor.specs.Cursor.{ahead, first}
+use Rattle.descriptor.specs.declared.chain.Cursor.{Cursor}
+
+-- at the start all places of the file are ahead
+pub at-first : (chain : List ℕ) → ahead chain first ≡ places chain
+unfolding ahead places
+at-first chain = rw (run-none 0)
+
+module _ (chain : List ℕ) (cursor : Cursor) where
+  pub in-block : 0 < cursor .left
+      → ahead chain cursor ≡ cursor .place ∷ ahead chain (record { at = cursor .at; next = cursor .next; place = cursor .place + 1; left = cursor .left - 1 })
+  unfolding ahead
+  in-block h =
+      let e : cursor .left ≡ cursor .left - 1 + 1 = omega arith in
+      ap (λ (many : ℕ). run (cursor .place) many ++ placesFrom (cursor .next) (blocks (drop (cursor .at) chain))) e
+      ∙ rw (run-step (cursor .place) (cursor .left - 1))
+
+  -- with nothing left of the present block
+  module _ (done : cursor .left ≤ 0) where
+    between : ahead chain cursor ≡ placesFrom (cursor .next) (blocks (drop (cursor .at) chain))
+    unfolding ahead
+    between = let e : cursor .left ≡ 0 = omega arith in rw (e, run-none (cursor .place))
+
+    pub short-chain : length chain < cursor .at + 3 → ahead chain cursor ≡ []
+    unfolding placesFrom
+    short-chain h = between ∙ rw (blocks-short chain (cursor .at) h)
+
+    module _ (here : cursor .at + 3 ≤ length chain) where
+      pub no-block : endsChain (byteAt chain (cursor .at)) (byteAt chain (cursor .at + 1)) (byteAt chain (cursor .at + 2)) ≡ true → ahead chain cursor ≡ []
+      unfolding placesFrom
+      no-block e = between ∙ rw (blocks-end chain (cursor .at) here e)
+
+      pub next-block : endsChain (byteAt chain (cursor .at)) (byteAt chain (cursor .at + 1)) (byteAt chain (cursor .at + 2)) ≡ false → (block : Block)
+          → block ≡ blockOf (byteAt chain (cursor .at)) (byteAt chain (cursor .at + 1)) (byteAt chain (cursor .at + 2))
+          → ahead chain cursor
+          ≡ block .start ∷ ahead chain (record { at = cursor .at + 3; next = block .last + 1; place = block .start + 1; left = block .last - cursor .next })
+      unfolding ahead placesFrom
+      next-block e block b = between ∙ rw (blocks-step chain (cursor .at) here e, ← b, run-step (block .start) (block .last - cursor .next))

@@ -1,0 +1,2 @@
+-- The law that the proofs of the cursor, and of what walks with it, share.
+pub mod Ahead

@@ -1,0 +1,113 @@
+// Blocks, and the cursor that goes through the places of a chain.
+ghost use mathlib.Core.Path.{_≡_};
+ghost use Prim.Native.Nat.{_-_, _<_};
+ghost use Rattle.rules.specs.Chain.{blockOf, endsChain};
+ghost use Rattle.descriptor.specs.Cursor.{Steady, first, Stepped};
+use rules::Block;
+
+// The block that three bytes hold.
+pub fn block_of(a: u8, b: u8, c: u8) -> Block
+    ensures { λ r. ⌜ (r ≡ blockOf a b c) × (r .start < 4096) × (r .last < 4096) ⌝ }
+{
+    let low = a as usize;
+    let middle = b as usize;
+    let high = c as usize;
+    Block {
+        start: low + 256 * (middle % 16),
+        last: middle / 16 + 16 * high,
+    }
+}
+
+// Whether three bytes end the chain.
+pub fn ends_chain(a: u8, b: u8, c: u8) -> bool
+    ensures { λ r. ⌜ r ≡ endsChain a b c ⌝ }
+{
+    if a != 0 {
+        return false;
+    }
+    if b != 0 {
+        return false;
+    }
+    c == 0
+}
+
+// a - b, and 0 where b is greater.
+fn less(a: usize, b: usize) -> usize
+    ensures { λ r. ⌜ r ≡ a - b ⌝ }
+{
+    if b <= a {
+        return a - b;
+    }
+    0
+}
+
+// A place in the walk through a chain: `left` sectors of the present block, from `place` on, then the
+// blocks from byte `at` on, the first of which covers the file from its sector `next` on.
+pub struct Cursor {
+    pub at: usize,
+    pub next: usize,
+    pub place: usize,
+    pub left: usize,
+}
+
+// The next place with the cursor behind it, or the end of the file.
+pub enum Step {
+    Place(usize, Cursor),
+    End,
+}
+
+impl Cursor {
+    pub fn first() -> Cursor
+        ensures { λ r. ⌜ r ≡ first ⌝ }
+    {
+        Cursor {
+            at: 0,
+            next: 0,
+            place: 0,
+            left: 0,
+        }
+    }
+
+    // One sector further, in constant time.
+    pub fn step(self, chain: &[u8]) -> Step
+        requires { ⌜ Steady (now chain) self ⌝ }
+        ensures { λ r. ⌜ Stepped (now (chain .entry)) self r ⌝ }
+    {
+        let at = self.at;
+        let next = self.next;
+        let place = self.place;
+        let left = self.left;
+        if left > 0 {
+            return Step::Place(
+                place,
+                Cursor {
+                    at,
+                    next,
+                    place: place + 1,
+                    left: left - 1,
+                },
+            );
+        }
+        if at + 3 > chain.len() {
+            return Step::End;
+        }
+        let a = chain[at];
+        let b = chain[at + 1];
+        let c = chain[at + 2];
+        if ends_chain(a, b, c) {
+            return Step::End;
+        }
+        let block = block_of(a, b, c);
+        let start = block.start;
+        let last = block.last;
+        Step::Place(
+            start,
+            Cursor {
+                at: at + 3,
+                next: last + 1,
+                place: start + 1,
+                left: less(last, next),
+            },
+        )
+    }
+}
