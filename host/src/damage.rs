@@ -1,0 +1,128 @@
+//! Changes of a sound disk, each aimed at one sentence of document 01, with the number that the
+//! paper gives for the changed image. The number follows from the disk's plan and from the
+//! sentence, never from a judge.
+
+mod carried;
+mod chain;
+mod chance;
+mod descriptor;
+mod holders;
+mod index;
+mod label;
+mod map;
+mod values;
+
+use crate::random::Random;
+use crate::volumes::{Disk, File, Name, HEADER_BYTES, SECTOR_BYTES};
+
+const MAP: usize = 56;
+const INDEX: usize = SECTOR_BYTES;
+const INDEX_PLACES: usize = 128;
+
+/// Bytes put over the image at a place.
+#[derive(Clone, Debug)]
+pub struct Edit {
+    pub at: usize,
+    pub bytes: Vec<u8>,
+}
+
+impl Edit {
+    fn meets(&self, other: &Edit) -> bool {
+        self.at < other.at + other.bytes.len() && other.at < self.at + self.bytes.len()
+    }
+}
+
+/// A changed image, as what is to be done to a disk's own.
+#[derive(Clone, Debug)]
+pub struct Change {
+    /// What was done, for a report.
+    pub what: &'static str,
+    /// The paper's number for the changed image, where the change settles it.
+    pub number: Option<u32>,
+    pub edits: Vec<Edit>,
+    /// The length in bytes of the changed image.
+    pub length: usize,
+}
+
+/// Collects changes of one disk.
+pub struct Damage<'disk> {
+    disk: &'disk Disk,
+    pub changes: Vec<Change>,
+}
+
+impl<'disk> Damage<'disk> {
+    pub fn new(disk: &'disk Disk) -> Self {
+        Damage { disk, changes: Vec::new() }
+    }
+
+    /// A few changes of every sort.
+    pub fn of_every_sort(&mut self, random: &mut Random) {
+        self.lengths(random);
+        self.disk_name(random);
+        self.label();
+        self.carried(random);
+        self.index_numbers(random);
+        self.index_end(random);
+        if let Some(file) = self.some_file(random) {
+            self.file_name(file, random);
+            self.status(file, random);
+            self.count(file);
+            self.block_bytes(file, random);
+            self.chain_end(file, random);
+            self.other_holders(file, random);
+        }
+        for _ in 0..3 {
+            self.some_file(random).into_iter().for_each(|file| self.two_holders(file, random));
+        }
+        self.order_of_names(random);
+        self.map_bits(random);
+        self.whole_map(random);
+        self.bytes_at_random(random);
+        self.combined(random);
+    }
+
+    /// Keeps a change; one that alters nothing leaves the disk sound.
+    fn keep(&mut self, what: &'static str, number: Option<u32>, edits: Vec<Edit>) {
+        let image = &self.disk.image;
+        let same = edits.iter().all(|edit| image[edit.at..].starts_with(&edit.bytes));
+        let number = if same { Some(0) } else { number };
+        self.changes.push(Change { what, number, edits, length: image.len() });
+    }
+
+    fn put(&mut self, what: &'static str, number: u32, at: usize, bytes: &[u8]) {
+        self.keep(what, Some(number), vec![edit(at, bytes)]);
+    }
+
+    fn some_file(&self, random: &mut Random) -> Option<&'disk File> {
+        let files = &self.disk.files;
+        (!files.is_empty()).then(|| &files[random.below(files.len())])
+    }
+}
+
+fn edit(at: usize, bytes: &[u8]) -> Edit {
+    Edit { at, bytes: bytes.to_vec() }
+}
+
+fn in_descriptor(file: &File, byte: usize) -> usize {
+    SECTOR_BYTES * file.descriptor + byte
+}
+
+fn in_chain(file: &File, block: usize) -> usize {
+    in_descriptor(file, HEADER_BYTES + 3 * block)
+}
+
+/// A byte no name may have, at any place: the edges of what is allowed, and the dot.
+const NO_LETTERS: [u8; 7] = [0, 31, 46, 127, 128, 160, 255];
+
+/// Names that differ from a given one in one place, and blank ones.
+fn changed_names(name: Name, random: &mut Random) -> Vec<Name> {
+    let mut changed = vec![[32; 10], [0; 10], *b" A        ", *b"A B       ", *b"A.B       "];
+    for place in 0..10 {
+        for byte in [random.pick(&NO_LETTERS), 32, random.pick(&[33, 45, 47, 126])] {
+            let mut other = name;
+            other[place] = byte;
+            changed.push(other);
+        }
+    }
+    changed
+}

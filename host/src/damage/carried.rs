@@ -1,0 +1,34 @@
+//! Number 0: bytes that are carried and not judged, and protection, which any file may have.
+
+use super::{in_descriptor, Damage};
+use crate::random::Random;
+use crate::volumes::{File, SECTOR_BYTES};
+
+impl Damage<'_> {
+    pub(super) fn carried(&mut self, random: &mut Random) {
+        self.put("sectors per track", 0, 12, &random.bytes(1));
+        self.put("label's carried bytes", 0, 16, &random.bytes(40));
+        for sector in self.disk.free() {
+            if random.once_in(200) {
+                self.put("free sector", 0, SECTOR_BYTES * sector, &random.bytes(SECTOR_BYTES));
+            }
+        }
+        for _ in 0..4 {
+            if let Some(file) = self.some_file(random) {
+                self.carried_of_file(file, random);
+            }
+        }
+    }
+
+    fn carried_of_file(&mut self, file: &File, random: &mut Random) {
+        for (byte, bytes) in [(10, 2), (13, 1), (16, 1), (17, 1), (18, 2), (20, 8), (16, 12)] {
+            let at = in_descriptor(file, byte);
+            self.put("descriptor's carried bytes", 0, at, &random.bytes(bytes));
+        }
+        let protection = [file.status() ^ 0x08];
+        self.put("protection", 0, in_descriptor(file, 12), &protection);
+        if let Some(sector) = file.sectors().next() {
+            self.put("data", 0, SECTOR_BYTES * sector, &random.bytes(SECTOR_BYTES));
+        }
+    }
+}

@@ -1,0 +1,149 @@
+//! The judge: numbers 0 to 6 of document 01. Each test looks at the whole image and is only met
+//! by an image that passed those before it, so a reading never leaves the image.
+
+use super::volume::{Block, Chain, Descriptor, Name, Volume};
+use super::volume::{MOST_SECTORS, SECTOR_BYTES};
+
+/// Why an image is no sound volume; each case stands for the paper's number.
+#[derive(Clone, Copy, Debug, PartialEq, Eq)]
+pub enum Refusal {
+    Length = 1,
+    Label = 2,
+    Index = 3,
+    Descriptor = 4,
+    TwoHolders = 5,
+    Map = 6,
+}
+
+/// The sound volume that an image is, or the first refusal in the paper's order.
+pub fn judge(image: &[u8]) -> Result<Volume<'_>, Refusal> {
+    let volume = judge_length(image)?;
+    judge_label(volume)?;
+    judge_index(volume)?;
+    judge_descriptors(volume)?;
+    let marks = judge_holders(volume)?;
+    judge_map(volume, marks)?;
+    Ok(volume)
+}
+
+/// The paper's number for an image.
+pub fn number(image: &[u8]) -> u32 {
+    match judge(image) {
+        Ok(_) => 0,
+        Err(refusal) => refusal as u32,
+    }
+}
+
+fn holds(rule: bool, refusal: Refusal) -> Result<(), Refusal> {
+    if rule {
+        Ok(())
+    } else {
+        Err(refusal)
+    }
+}
+
+fn judge_length(image: &[u8]) -> Result<Volume<'_>, Refusal> {
+    let volume = Volume::new(image);
+    let whole = image.len() % SECTOR_BYTES == 0;
+    holds(whole && (3..=MOST_SECTORS).contains(&volume.sectors()), Refusal::Length)?;
+    Ok(volume)
+}
+
+fn judge_label(volume: Volume) -> Result<(), Refusal> {
+    let label = volume.label();
+    let rule =
+        is_name(label.disk_name()) && label.sectors() == volume.sectors() && label.mark() == b"DSK";
+    holds(rule, Refusal::Label)
+}
+
+fn judge_index(volume: Volume) -> Result<(), Refusal> {
+    let mut numbers = volume.index().numbers();
+    let in_range = numbers
+        .by_ref()
+        .take_while(|number| *number != 0)
+        .all(|number| (2..volume.sectors()).contains(&number));
+    let ended = numbers.all(|number| number == 0) && volume.index().last() == 0;
+    holds(in_range && ended, Refusal::Index)
+}
+
+fn judge_descriptors(volume: Volume) -> Result<(), Refusal> {
+    // None is below every name.
+    let mut previous = None;
+    for (_, descriptor) in volume.files() {
+        let name = Some(descriptor.name());
+        let rule = previous < name && is_descriptor(descriptor, volume.sectors());
+        holds(rule, Refusal::Descriptor)?;
+        previous = name;
+    }
+    Ok(())
+}
+
+fn is_descriptor(descriptor: Descriptor, sectors: usize) -> bool {
+    is_name(descriptor.name())
+        && is_status(descriptor)
+        && length_of_chain(descriptor.chain(), sectors) == Some(descriptor.sectors())
+        && descriptor.kind().is_some()
+}
+
+fn is_name(name: &Name) -> bool {
+    let used = name.iter().take_while(|byte| **byte != b' ').count();
+    let (used, padding) = name.split_at(used);
+    !used.is_empty()
+        && used.iter().all(|byte| (33..=126).contains(byte) && *byte != b'.')
+        && padding.iter().all(|byte| *byte == b' ')
+}
+
+fn is_status(descriptor: Descriptor) -> bool {
+    const DATA: u8 = Descriptor::INTERNAL | Descriptor::VARIABLE;
+    const KNOWN: u8 = Descriptor::PROGRAM | Descriptor::PROTECTED | DATA;
+    descriptor.status() & !KNOWN == 0
+        && !(descriptor.has(Descriptor::PROGRAM) && descriptor.has(DATA))
+}
+
+/// How many sectors a chain covers; none where it breaks a rule.
+fn length_of_chain(chain: Chain, sectors: usize) -> Option<usize> {
+    const NO_BLOCKS: [u8; 228] = [0; 228];
+    let (mut used, mut length) = (0, 0);
+    for block in chain.blocks() {
+        if !is_block(block, sectors) {
+            return None;
+        }
+        used += 1;
+        length = block.last + 1;
+    }
+    let rest = chain.from_block(used);
+    (rest == &NO_BLOCKS[..rest.len()]).then_some(length)
+}
+
+fn is_block(block: Block, sectors: usize) -> bool {
+    block.start >= 2 && block.first <= block.last && block.places().end <= sectors
+}
+
+/// Which sectors are claimed.
+struct Marks([bool; MOST_SECTORS]);
+
+impl Marks {
+    fn claim(&mut self, sector: usize) -> Result<(), Refusal> {
+        let claimed = std::mem::replace(&mut self.0[sector], true);
+        holds(!claimed, Refusal::TwoHolders)
+    }
+}
+
+fn judge_holders(volume: Volume) -> Result<Marks, Refusal> {
+    let mut marks = Marks([false; MOST_SECTORS]);
+    marks.claim(0)?;
+    marks.claim(1)?;
+    for (number, descriptor) in volume.files() {
+        marks.claim(number)?;
+        let mut places = descriptor.chain().places();
+        places.try_for_each(|place| marks.claim(place))?;
+    }
+    Ok(marks)
+}
+
+/// The map calls the sectors from n on taken, as if they had a holder.
+fn judge_map(volume: Volume, mut marks: Marks) -> Result<(), Refusal> {
+    marks.0[volume.sectors()..].fill(true);
+    let mut pairs = volume.label().map().zip(marks.0.chunks_exact(8));
+    holds(pairs.all(|(taken, marked)| taken == marked), Refusal::Map)
+}

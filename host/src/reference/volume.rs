@@ -1,0 +1,214 @@
+//! What the bytes of a volume say, field by field, in the order of document 01's layout.
+//! Every reading is total: whether it keeps the rules is the judge's to say.
+
+use std::ops::Range;
+
+pub const SECTOR_BYTES: usize = 256;
+pub const MOST_SECTORS: usize = 1600;
+
+pub type Sector = [u8; SECTOR_BYTES];
+
+/// Ten bytes that compare as unsigned bytes, which is how arrays of `u8` are ordered.
+pub type Name = [u8; 10];
+
+/// An image seen as sectors.
+#[derive(Clone, Copy)]
+pub struct Volume<'image> {
+    image: &'image [u8],
+}
+
+impl<'image> Volume<'image> {
+    pub fn new(image: &'image [u8]) -> Self {
+        Volume { image }
+    }
+
+    pub fn sectors(self) -> usize {
+        self.image.len() / SECTOR_BYTES
+    }
+
+    pub fn sector(self, number: usize) -> &'image Sector {
+        array(&self.image[number * SECTOR_BYTES..])
+    }
+
+    pub fn label(self) -> Label<'image> {
+        Label(self.sector(0))
+    }
+
+    pub fn index(self) -> Index<'image> {
+        Index(self.sector(1))
+    }
+
+    /// Each file's descriptor with the sector it lies in, in the order of the index.
+    pub fn files(self) -> impl Iterator<Item = (usize, Descriptor<'image>)> {
+        let listed = self.index().numbers().take_while(|number| *number != 0);
+        listed.map(move |number| (number, Descriptor(self.sector(number))))
+    }
+}
+
+/// Sector 0.
+#[derive(Clone, Copy)]
+pub struct Label<'image>(&'image Sector);
+
+impl<'image> Label<'image> {
+    pub fn disk_name(self) -> &'image Name {
+        array(self.0)
+    }
+
+    pub fn sectors(self) -> usize {
+        word(self.0[10], self.0[11])
+    }
+
+    pub fn mark(self) -> &'image [u8; 3] {
+        array(&self.0[13..])
+    }
+
+    /// Which sectors the map calls taken, eight sectors a byte.
+    pub fn map(self) -> impl Iterator<Item = &'static [bool; 8]> + 'image {
+        self.0[56..].iter().map(|byte| &BITS[usize::from(*byte)])
+    }
+}
+
+/// Sector 1.
+#[derive(Clone, Copy)]
+pub struct Index<'image>(&'image Sector);
+
+impl<'image> Index<'image> {
+    /// All 128 numbers, those after the end of the list among them.
+    pub fn numbers(self) -> impl Iterator<Item = usize> + 'image {
+        let pairs = self.0.chunks_exact(2);
+        pairs.map(|pair| word(pair[0], pair[1]))
+    }
+
+    pub fn last(self) -> usize {
+        word(self.0[254], self.0[255])
+    }
+}
+
+/// The sector that describes a file.
+#[derive(Clone, Copy)]
+pub struct Descriptor<'image>(&'image Sector);
+
+impl<'image> Descriptor<'image> {
+    pub const PROGRAM: u8 = 0x01;
+    pub const INTERNAL: u8 = 0x02;
+    pub const PROTECTED: u8 = 0x08;
+    pub const VARIABLE: u8 = 0x80;
+
+    pub fn name(self) -> &'image Name {
+        array(self.0)
+    }
+
+    pub fn status(self) -> u8 {
+        self.0[12]
+    }
+
+    pub fn has(self, bit: u8) -> bool {
+        self.status() & bit != 0
+    }
+
+    /// c, the number of sectors.
+    pub fn sectors(self) -> usize {
+        word(self.0[14], self.0[15])
+    }
+
+    /// The file's kind; none where it is a program without a sector, which has no length.
+    pub fn kind(self) -> Option<Kind> {
+        let record_length = self.0[17];
+        let form = if self.has(Self::INTERNAL) { Form::Internal } else { Form::Display };
+        if self.has(Self::PROGRAM) {
+            let whole_sectors = self.sectors().checked_sub(1)?;
+            let length = SECTOR_BYTES * whole_sectors + usize::from(self.0[16]);
+            Some(Kind::Program { length })
+        } else if self.has(Self::VARIABLE) {
+            Some(Kind::Variable { record_length, form })
+        } else {
+            Some(Kind::Fixed { record_length, form })
+        }
+    }
+
+    pub fn chain(self) -> Chain<'image> {
+        Chain(&self.0[28..])
+    }
+}
+
+#[derive(Clone, Copy, Debug, PartialEq, Eq)]
+pub enum Kind {
+    Program { length: usize },
+    Fixed { record_length: u8, form: Form },
+    Variable { record_length: u8, form: Form },
+}
+
+#[derive(Clone, Copy, Debug, PartialEq, Eq)]
+pub enum Form {
+    Display,
+    Internal,
+}
+
+/// The part of a descriptor that starts at byte 28: 76 blocks of three bytes.
+#[derive(Clone, Copy)]
+pub struct Chain<'image>(&'image [u8]);
+
+impl<'image> Chain<'image> {
+    /// The blocks before the three zero bytes that end the chain, or all 76.
+    pub fn blocks(self) -> impl Iterator<Item = Block> + 'image {
+        let fields = self.0.chunks_exact(3).map(Block::fields);
+        let used = fields.take_while(|fields| *fields != (0, 0));
+        used.scan(0, |next, (start, last)| {
+            let first = std::mem::replace(next, last + 1);
+            Some(Block { start, first, last })
+        })
+    }
+
+    /// The bytes from the given block on.
+    pub fn from_block(self, number: usize) -> &'image [u8] {
+        &self.0[3 * number..]
+    }
+
+    /// The sectors of the disk that hold the file's sectors, in the file's order.
+    pub fn places(self) -> impl Iterator<Item = usize> + 'image {
+        self.blocks().flat_map(Block::places)
+    }
+}
+
+/// One block of a chain: the file's sectors from `first` to `last`, at places from `start` on.
+#[derive(Clone, Copy, Debug, PartialEq, Eq)]
+pub struct Block {
+    pub start: usize,
+    pub first: usize,
+    pub last: usize,
+}
+
+impl Block {
+    /// The start and the last offset that three bytes hold; both are zero only for three zeros.
+    fn fields(bytes: &[u8]) -> (usize, usize) {
+        let [low, middle, high] = [bytes[0], bytes[1], bytes[2]].map(usize::from);
+        (low + 256 * (middle % 16), middle / 16 + 16 * high)
+    }
+
+    /// Meant for a block whose offsets ascend.
+    pub fn places(self) -> Range<usize> {
+        self.start..self.start + (self.last - self.first) + 1
+    }
+}
+
+fn word(high: u8, low: u8) -> usize {
+    usize::from(u16::from_be_bytes([high, low]))
+}
+
+/// The bits of every byte, lowest first.
+static BITS: [[bool; 8]; 256] = bits();
+
+const fn bits() -> [[bool; 8]; 256] {
+    let mut bits = [[false; 8]; 256];
+    let mut number = 0;
+    while number < 8 * 256 {
+        bits[number / 8][number % 8] = (number / 8) >> (number % 8) & 1 == 1;
+        number += 1;
+    }
+    bits
+}
+
+/// The first `N` bytes of a part that has as many.
+fn array<const N: usize>(part: &[u8]) -> &[u8; N] {
+    part[..N].try_into().expect("a part of N bytes")
+}

@@ -1,0 +1,182 @@
+//! The images of the comparison: disks, each with changes of it. Some suites go through every
+//! value of a field once; the others build disks of every size and take changes by chance.
+
+use crate::damage::{Change, Damage};
+use crate::random::Random;
+use crate::volumes::{is_name, names, Disk, File, Order, Run, Shape, SECTOR_BYTES};
+use crate::volumes::{DATA_STATUS, MOST_BLOCKS, MOST_FILES, MOST_SECTORS, PROGRAM_STATUS};
+
+/// A disk, the paper's number for it, and changes of it.
+pub struct Batch {
+    pub disk: Disk,
+    pub number: u32,
+    pub changes: Vec<Change>,
+}
+
+impl Batch {
+    fn of_sound(disk: Disk, damage: impl FnOnce(&mut Damage)) -> Self {
+        let mut collected = Damage::new(&disk);
+        damage(&mut collected);
+        let changes = collected.changes;
+        Batch { disk, number: 0, changes }
+    }
+
+    /// A sound disk of any shape, with so many changes out of all sorts of them.
+    pub fn of_any_shape(sectors: usize, changes: usize, random: &mut Random) -> Self {
+        let disk = Shape::any(sectors, random).build(random);
+        let mut batch = Batch::of_sound(disk, |damage| damage.of_every_sort(random));
+        random.shuffle(&mut batch.changes);
+        batch.changes.truncate(changes);
+        batch
+    }
+
+    /// A small disk whose files lie anywhere, over one another and past the end.
+    pub fn of_any_plan(random: &mut Random) -> Self {
+        let sectors = random.within(3..=40);
+        let mut room: Vec<usize> = (2..sectors).collect();
+        random.shuffle(&mut room);
+        room.truncate(random.below(5));
+        let names = names(room.len(), random);
+        let files = names.into_iter().zip(room).map(|(name, descriptor)| {
+            let runs = any_runs(sectors, random);
+            let mut file = File::new(name, descriptor, runs, random);
+            if random.once_in(8) {
+                file.header[12] = random.byte();
+            }
+            if random.once_in(8) {
+                file.set_count(random.below(8));
+            }
+            file
+        });
+        Batch::of_plan(sectors, files.collect(), random)
+    }
+
+    /// One file of one block, which may lie anywhere and reach past everything.
+    pub fn of_one_block(sectors: usize, run: Run, random: &mut Random) -> Self {
+        let descriptor = random.pick(&[2, sectors - 1]);
+        let file = File::new(names(1, random)[0], descriptor, vec![run], random);
+        Batch::of_plan(sectors, vec![file], random)
+    }
+
+    fn of_plan(sectors: usize, files: Vec<File>, random: &mut Random) -> Self {
+        let disk = Disk::of_files(sectors, files, random);
+        Batch { number: number_of_plan(&disk), disk, changes: Vec::new() }
+    }
+}
+
+/// Runs that mostly lie on the disk. None starts at 0: with offset 0 that would be no block.
+fn any_runs(sectors: usize, random: &mut Random) -> Vec<Run> {
+    let mut runs = Vec::new();
+    for block in 0..random.below(4) {
+        let start = if random.once_in(16) { 1 } else { random.within(2..=sectors) };
+        let least = if block == 0 || !random.once_in(16) { 1 } else { 0 };
+        runs.push(Run { start, length: least + random.below(2) });
+    }
+    runs
+}
+
+/// The paper's number for a disk written as planned, whose names and map are therefore right.
+fn number_of_plan(disk: &Disk) -> u32 {
+    let sound = |file: &File| {
+        let placed =
+            |run: &Run| run.start >= 2 && run.length >= 1 && run.sectors().end <= disk.sectors;
+        let program = PROGRAM_STATUS.contains(&file.status()) && file.count() >= 1;
+        file.runs.iter().all(placed)
+            && file.count() == file.sectors().count()
+            && (program || DATA_STATUS.contains(&file.status()))
+    };
+    if !disk.files.iter().all(sound) {
+        return 4;
+    }
+    let mut held: Vec<usize> = disk.held().collect();
+    held.sort_unstable();
+    let two_holders = held.windows(2).any(|pair| pair[0] == pair[1]);
+    5 * u32::from(two_holders)
+}
+
+/// The suites that go through every value.
+pub fn of_every_value(random: &mut Random) -> Vec<Batch> {
+    let mut batches = every_map_bit(random);
+    batches.push(every_length(random));
+    batches.push(every_label_byte(random));
+    batches.extend(every_descriptor_byte(random));
+    batches.extend(every_index_bit(random));
+    batches
+}
+
+/// One file in the middle of a small disk, with so many sectors in one block or none.
+fn one_file(count: usize, random: &mut Random) -> Disk {
+    let run = Run { start: 20, length: count };
+    let runs = if count == 0 { vec![] } else { vec![run] };
+    let file = File::new(names(1, random)[0], 10, runs, random);
+    Disk::of_files(35, vec![file], random)
+}
+
+fn every_map_bit(random: &mut Random) -> Vec<Batch> {
+    let sizes = [3, 4, 7, 8, 9, 15, 16, 17, 35, 360, 721, 1440, 1592, 1599, MOST_SECTORS];
+    let batch = |sectors| {
+        let disk = Shape::any(sectors, random).build(random);
+        Batch::of_sound(disk, |damage| (0..MOST_SECTORS).for_each(|bit| damage.map_bit(bit)))
+    };
+    sizes.into_iter().map(batch).collect()
+}
+
+fn every_length(random: &mut Random) -> Batch {
+    let disk = Shape::any(5, random).build(random);
+    let near_sectors =
+        (1..=MOST_SECTORS + 1).flat_map(|n| SECTOR_BYTES * n - 1..=SECTOR_BYTES * n + 1);
+    Batch::of_sound(disk, |damage| {
+        (0..2000).chain(near_sectors).for_each(|length| damage.length(length))
+    })
+}
+
+fn every_label_byte(random: &mut Random) -> Batch {
+    let disk = Shape::any(35, random).build(random);
+    Batch::of_sound(disk, |damage| {
+        for byte in 0..56 {
+            damage.every_value(byte, |label| match byte {
+                0..=9 if is_name(&label[..10].try_into().expect("ten bytes")) => Some(0),
+                0..=11 | 13..=15 => Some(2),
+                _ => Some(0),
+            });
+        }
+    })
+}
+
+/// A descriptor's header, and every bit of chains of no, one and 76 blocks.
+fn every_descriptor_byte(random: &mut Random) -> Vec<Batch> {
+    let blocks = MOST_BLOCKS..=MOST_BLOCKS;
+    let order = Order::Ascending;
+    let (files, scattered, runs, even) = (1, false, MOST_BLOCKS, false);
+    let filled = Shape { sectors: 200, files, scattered, runs, even, order, blocks };
+    let disks = [one_file(0, random), one_file(3, random), filled.build(random)];
+    let batch = |disk: Disk| {
+        let file = disk.files[0].clone();
+        Batch::of_sound(disk, |damage| {
+            damage.every_header_byte(&file);
+            damage.every_chain_bit(&file);
+        })
+    };
+    disks.into_iter().map(batch).collect()
+}
+
+/// Sector 1 with one file, where all from its third number on is after the end, and with 127.
+fn every_index_bit(random: &mut Random) -> Vec<Batch> {
+    let full = Shape::full(MOST_FILES + 50, MOST_FILES, 1, Order::Ascending).build(random);
+    let batch = |disk| Batch::of_sound(disk, |damage| damage.every_index_bit());
+    [one_file(1, random), full].into_iter().map(batch).collect()
+}
+
+/// Single blocks at the edges of the disk, of the fields and of what they may cover: for each the
+/// number of the disk's sectors and where the block lies.
+pub fn edges_of_a_block() -> Vec<(usize, Run)> {
+    let mut edges = Vec::new();
+    for sectors in [4, 5, 17, 256, 258, MOST_SECTORS - 1, MOST_SECTORS] {
+        for start in [1, 2, 3, sectors - 2, sectors - 1, sectors, 255, 256, 4095] {
+            for length in [1, 2, 16, 17, 255, 256, 257, sectors - 3, sectors - 2, sectors, 4096] {
+                edges.push((sectors, Run { start, length }));
+            }
+        }
+    }
+    edges
+}
