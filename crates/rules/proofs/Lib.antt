@@ -1,6 +1,7 @@
 -- The laws of the definitions, a file for each file of specs/ and in its order (Status has those of Kind).
 pub mod Tests
 pub mod Bytes
+pub mod Splice
 pub mod Sectors
 pub mod Name
 pub mod Label

@@ -11,3 +11,5 @@ pub mod Index
 pub mod Volume
 pub mod Verdict
 pub mod Sound
+pub mod Outcome
+pub mod Calls

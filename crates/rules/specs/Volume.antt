@@ -1,6 +1,7 @@
 -- The files of an image, by the sectors of their descriptors and in the order of sector 1, and the holders.
-use mathlib.Core.List.{List, [], _∷_, _++_}
+use mathlib.Core.List.{List, [], _∷_, _++_, map}
 use Prim.Native.Nat.{ℕ}
+use Rattle.rules.specs.Bytes.{part}
 use Rattle.rules.specs.Sectors.{sectorOf}
 use Rattle.rules.specs.Chain.{places}
 use Rattle.rules.specs.Descriptor.{nameOf, chainOf}
@@ -24,3 +25,25 @@ fileHolders image (k ∷ ks) = k ∷ (placesIn image k ++ fileHolders image ks)
 -- the map's holders are these and sectors 0 and 1
 unfoldable pub holders : List ℕ → List ℕ
 holders image = 0 ∷ (1 ∷ fileHolders image (files image))
+
+-- the label area: bytes 0 to 55 of sector 0
+unfoldable pub labelArea : List ℕ → List ℕ
+labelArea image = part (sectorOf image 0) 0 56
+
+-- what the catalogue holds of a file: its 28 header bytes, and the contents of its sectors in order
+pub record File : Type 0 where
+  pub header : List ℕ
+  pub contents : List (List ℕ)
+
+unfoldable pub headerIn : List ℕ → ℕ → List ℕ
+headerIn image k = part (sectorOf image k) 0 28
+
+unfoldable pub contentsIn : List ℕ → ℕ → List (List ℕ)
+contentsIn image k = map (sectorOf image) (placesIn image k)
+
+unfoldable pub fileIn : List ℕ → ℕ → File
+fileIn image k = record { header = headerIn image k; contents = contentsIn image k }
+
+-- the catalogue, in name order
+unfoldable pub catalogue : List ℕ → List File
+catalogue image = map (fileIn image) (files image)

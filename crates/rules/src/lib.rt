@@ -22,3 +22,45 @@ pub enum Kind {
         internal: bool,
     },
 }
+
+// A row of the catalogue: name, kind, sectors, protection.
+pub struct Row {
+    pub name: [u8; 10],
+    pub kind: Kind,
+    pub sectors: usize,
+    pub protected: bool,
+}
+
+// What a call answers that gives nothing back but its number.
+pub enum Answer {
+    Done,
+    Refused(u32),
+}
+
+// What a call answers that gives a number: a count of sectors or of bytes.
+pub enum Amount {
+    Given(usize),
+    Refused(u32),
+}
+
+// What the summary of a volume answers; the disk name goes into a lent array beside it.
+pub enum Summary {
+    Given {
+        sectors: usize,
+        files: usize,
+        free: usize,
+    },
+    Refused(u32),
+}
+
+// What a catalogue entry answers. The row stands beside the answer, since it holds an array.
+pub struct Entry {
+    pub answer: Answer,
+    pub row: Row,
+}
+
+// A file that a call names: its place in the catalogue and its descriptor's sector, or the number of the refusal.
+pub enum Opened {
+    At(usize, usize),
+    Refused(u32),
+}

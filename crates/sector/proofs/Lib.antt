@@ -1,2 +1,3 @@
--- The law that the leaves' proofs share.
+-- The laws that the leaves' proofs share.
 mod Differing
+mod Front

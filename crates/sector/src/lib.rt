@@ -1,3 +1,4 @@
-// The leaves of an image: readings of bytes, parts and sectors. Each answers for any bytes with what the rules' definition
-// of the same name says; the one with a `requires` asks a bound on a number alone.
+// The leaves of an image: readings of bytes, parts and sectors, and writing into a lent buffer. Each answers for any bytes with
+// what the rules' definition of the same name says; those with a `requires` ask a bound on a number or equal lengths.
+pub mod buffer;
 pub mod bytes;

@@ -1,0 +1,133 @@
+-- Bytes laid over a buffer: the length stays, what is read inside and outside, two that follow each other, and what a part that was lent leaves behind.
+use mathlib.Core.Path.{_≡_, refl, sym, ap}
+use mathlib.Core.List.{List, [], _∷_, _++_}
+use Prim.Native.Nat.{ℕ, zero, suc, _+_, _≤_, _<_}
+use native.Mathlib.Omega.{arith}
+use native.Mathlib.Nat.{zero-add, suc-add}
+use lib.ListN.{length, take, drop}
+use lib.Seq.{drop-drop}
+use borrow.Rule.Slice.PartMut.{putMid}
+use Rattle.rules.specs.Bytes.{byteAt, over, splice}
+
+over-length : (buffer bytes : List ℕ) → length (over buffer bytes) ≡ length buffer
+unfolding over
+over-length [] bytes = refl
+over-length (b ∷ buffer) [] = refl
+over-length (b ∷ buffer) (c ∷ bytes) = ap suc (over-length buffer bytes)
+
+pub splice-length : (buffer : List ℕ) (at : ℕ) (bytes : List ℕ) → length (splice buffer at bytes) ≡ length buffer
+unfolding splice
+splice-length buffer zero bytes = over-length buffer bytes
+splice-length [] (suc at) bytes = refl
+splice-length (b ∷ buffer) (suc at) bytes = ap suc (splice-length buffer at bytes)
+
+over-none : (buffer : List ℕ) → over buffer [] ≡ buffer
+unfolding over
+over-none [] = refl
+over-none (b ∷ buffer) = refl
+
+-- no bytes change nothing, and neither do bytes past the end
+pub splice-none : (buffer : List ℕ) (at : ℕ) → splice buffer at [] ≡ buffer
+unfolding splice
+splice-none buffer zero = over-none buffer
+splice-none [] (suc at) = refl
+splice-none (b ∷ buffer) (suc at) = ap (λ (l : List ℕ). b ∷ l) (splice-none buffer at)
+
+pub splice-past : (buffer : List ℕ) (at : ℕ) (bytes : List ℕ) → length buffer ≤ at → splice buffer at bytes ≡ buffer
+unfolding splice over
+splice-past [] zero bytes h = refl
+splice-past (b ∷ buffer) zero bytes h = absurd (omega arith)
+splice-past [] (suc at) bytes h = refl
+splice-past (b ∷ buffer) (suc at) bytes h = ap (λ (l : List ℕ). b ∷ l) (splice-past buffer at bytes (omega arith))
+
+-- readings
+over-inside : (buffer bytes : List ℕ) (i : ℕ) → i < length bytes → i < length buffer → byteAt (over buffer bytes) i ≡ byteAt bytes i
+unfolding over
+over-inside [] bytes i h k = absurd (omega arith)
+over-inside (b ∷ buffer) [] i h k = absurd (omega arith)
+over-inside (b ∷ buffer) (c ∷ bytes) zero h k = refl
+over-inside (b ∷ buffer) (c ∷ bytes) (suc i) h k = over-inside buffer bytes i (omega arith) (omega arith)
+
+over-outside : (buffer bytes : List ℕ) (i : ℕ) → length bytes ≤ i → byteAt (over buffer bytes) i ≡ byteAt buffer i
+unfolding over
+over-outside [] bytes i h = refl
+over-outside (b ∷ buffer) [] i h = refl
+over-outside (b ∷ buffer) (c ∷ bytes) zero h = absurd (omega arith)
+over-outside (b ∷ buffer) (c ∷ bytes) (suc i) h = over-outside buffer bytes i (omega arith)
+
+pub splice-inside : (buffer : List ℕ) (at : ℕ) (bytes : List ℕ) (i : ℕ) → i < length bytes → at + i < length buffer → byteAt (splice buffer at bytes) (at + i) ≡ byteAt bytes i
+unfolding splice
+splice-inside buffer zero bytes i h k = rw (zero-add i) (over-inside buffer bytes i h (omega arith))
+splice-inside [] (suc at) bytes i h k = absurd (omega arith)
+splice-inside (b ∷ buffer) (suc at) bytes i h k = rw (suc-add at i) (splice-inside buffer at bytes i h (omega arith))
+
+pub splice-below : (buffer : List ℕ) (at : ℕ) (bytes : List ℕ) (i : ℕ) → i < at → byteAt (splice buffer at bytes) i ≡ byteAt buffer i
+unfolding splice
+splice-below buffer zero bytes i h = absurd (omega arith)
+splice-below [] (suc at) bytes i h = refl
+splice-below (b ∷ buffer) (suc at) bytes zero h = refl
+splice-below (b ∷ buffer) (suc at) bytes (suc i) h = splice-below buffer at bytes i (omega arith)
+
+pub splice-above : (buffer : List ℕ) (at : ℕ) (bytes : List ℕ) (i : ℕ) → at + length bytes ≤ i → byteAt (splice buffer at bytes) i ≡ byteAt buffer i
+unfolding splice
+splice-above buffer zero bytes i h = over-outside buffer bytes i (omega arith)
+splice-above [] (suc at) bytes i h = refl
+splice-above (b ∷ buffer) (suc at) bytes zero h = absurd (omega arith)
+splice-above (b ∷ buffer) (suc at) bytes (suc i) h = splice-above buffer at bytes i (omega arith)
+
+-- bytes that follow others
+over-append : (buffer first second : List ℕ) → splice (over buffer first) (length first) second ≡ over buffer (first ++ second)
+unfolding over splice
+over-append [] [] second = refl
+over-append [] (c ∷ first) second = refl
+over-append (b ∷ buffer) [] second = refl
+over-append (b ∷ buffer) (c ∷ first) second = ap (λ (l : List ℕ). c ∷ l) (over-append buffer first second)
+
+pub splice-append : (buffer : List ℕ) (at : ℕ) (first second : List ℕ) → splice (splice buffer at first) (at + length first) second ≡ splice buffer at (first ++ second)
+unfolding splice
+splice-append buffer zero first second = rw (zero-add (length first)) (over-append buffer first second)
+splice-append [] (suc at) first second = rw (suc-add at (length first))
+splice-append (b ∷ buffer) (suc at) first second = rw (suc-add at (length first)) (ap (λ (l : List ℕ). b ∷ l) (splice-append buffer at first second))
+
+-- bytes of the buffer's own length, and what is read of the front
+pub splice-whole : (buffer bytes : List ℕ) → length bytes ≡ length buffer → splice buffer 0 bytes ≡ bytes
+unfolding splice over
+splice-whole [] [] e = refl
+splice-whole [] (c ∷ bytes) e = absurd (omega arith)
+splice-whole (b ∷ buffer) [] e = absurd (omega arith)
+splice-whole (b ∷ buffer) (c ∷ bytes) e = ap (λ (l : List ℕ). c ∷ l) (splice-whole buffer bytes (omega arith))
+
+pub splice-front : (buffer bytes : List ℕ) → length bytes ≤ length buffer → take (length bytes) (splice buffer 0 bytes) ≡ bytes
+unfolding splice over
+splice-front [] [] h = refl
+splice-front [] (c ∷ bytes) h = absurd (omega arith)
+splice-front (b ∷ buffer) [] h = refl
+splice-front (b ∷ buffer) (c ∷ bytes) h = ap (λ (l : List ℕ). c ∷ l) (splice-front buffer bytes (omega arith))
+
+-- only as many bytes as there is room for are laid
+pub splice-cut : (buffer : List ℕ) (at : ℕ) (bytes : List ℕ) (many : ℕ) → length buffer ≤ at + many → splice buffer at (take many bytes) ≡ splice buffer at bytes
+unfolding splice over
+splice-cut [] zero bytes many h = refl
+splice-cut (b ∷ buffer) zero [] zero h = absurd (omega arith)
+splice-cut (b ∷ buffer) zero [] (suc many) h = refl
+splice-cut (b ∷ buffer) zero (c ∷ bytes) zero h = absurd (omega arith)
+splice-cut (b ∷ buffer) zero (c ∷ bytes) (suc many) h = ap (λ (l : List ℕ). c ∷ l) (splice-cut buffer zero bytes many (omega arith))
+splice-cut [] (suc at) bytes many h = refl
+splice-cut (b ∷ buffer) (suc at) bytes many h = ap (λ (l : List ℕ). b ∷ l) (splice-cut buffer at bytes many (omega arith))
+
+-- as the parts before, between and after; and what stands where a part was lent and came back as `bytes`
+over-parts : (buffer bytes : List ℕ) → length bytes ≤ length buffer → bytes ++ drop (length bytes) buffer ≡ over buffer bytes
+unfolding over
+over-parts [] [] h = refl
+over-parts [] (c ∷ bytes) h = absurd (omega arith)
+over-parts (b ∷ buffer) [] h = refl
+over-parts (b ∷ buffer) (c ∷ bytes) h = ap (λ (l : List ℕ). c ∷ l) (over-parts buffer bytes (omega arith))
+
+pub splice-parts : (buffer : List ℕ) (at : ℕ) (bytes : List ℕ) → at + length bytes ≤ length buffer → take at buffer ++ (bytes ++ drop (at + length bytes) buffer) ≡ splice buffer at bytes
+unfolding splice
+splice-parts buffer zero bytes h = rw (zero-add (length bytes)) (over-parts buffer bytes (omega arith))
+splice-parts [] (suc at) bytes h = absurd (omega arith)
+splice-parts (b ∷ buffer) (suc at) bytes h = rw (suc-add at (length bytes)) (ap (λ (l : List ℕ). b ∷ l) (splice-parts buffer at bytes (omega arith)))
+
+pub put-back : (buffer bytes : List ℕ) (at many : ℕ) → length bytes ≡ many → at + many ≤ length buffer → putMid at many buffer bytes ≡ splice buffer at bytes
+put-back buffer bytes at many e h = rw (drop-drop many at buffer, sym e) (splice-parts buffer at bytes (omega arith))

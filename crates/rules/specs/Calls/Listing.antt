@@ -1,0 +1,71 @@
+-- The catalogue program's text. First line: disk name, n, free count. Then one line a file in name order: name, kind, length in bytes for a program or else record length, sectors, P or U for protected or not. Fields are parted by one space, names without their padding; every line ends in one newline.
+use mathlib.Core.Bool.{cond}
+use mathlib.Core.List.{List, [], _∷_, _++_}
+use Prim.Native.Nat.{ℕ, zero, suc, _+_, _/_, _%_}
+use lib.Dec.{eqb, leb, ltb}
+use lib.ListN.{length}
+use Rattle.rules.specs.Bytes.{part}
+use Rattle.rules.specs.Sectors.{sectorOf, sectorCount}
+use Rattle.rules.specs.Map.{freeCount}
+use Rattle.rules.specs.Descriptor.{nameOf, statusOf, sectorsOf, fileKind}
+use Rattle.rules.specs.Volume.{files}
+use Rattle.rules.specs.Calls.Catalogue.{isProtected}
+use Rattle.rules.specs.Outcome.{Reading, gives, refuses, judged}
+use Rattle.rules.specs.declared.Kind.{Kind}
+use Rattle.rules.specs.declared.Kind.the-variants.{Program, Fixed, Variable}
+
+-- a number in decimal digits, by a fuel of digits; twenty are enough for 64 bits
+unfoldable pub digits : ℕ → ℕ → List ℕ
+digits zero x = []
+digits (suc fuel) x = cond (ltb x 10) ((48 + x) ∷ []) (digits fuel (x / 10) ++ ((48 + x % 10) ∷ []))
+
+unfoldable pub decimal : ℕ → List ℕ
+decimal x = digits 20 x
+
+-- a name up to its padding
+unfoldable pub unpadded : List ℕ → List ℕ
+unpadded [] = []
+unpadded (b ∷ name) = cond (eqb b 32) [] (b ∷ unpadded name)
+
+abbrev space : List ℕ
+space = 32 ∷ []
+
+-- PROGRAM, DIS/FIX, INT/FIX, DIS/VAR, INT/VAR
+unfoldable pub kindWord : Kind → List ℕ
+kindWord (Program bytes) = 0x50 ∷ (0x52 ∷ (0x4F ∷ (0x47 ∷ (0x52 ∷ (0x41 ∷ (0x4D ∷ []))))))
+kindWord (Fixed recordLength internal) =
+    cond internal (0x49 ∷ (0x4E ∷ (0x54 ∷ []))) (0x44 ∷ (0x49 ∷ (0x53 ∷ []))) ++ (0x2F ∷ (0x46 ∷ (0x49 ∷ (0x58 ∷ []))))
+kindWord (Variable recordLength internal) =
+    cond internal (0x49 ∷ (0x4E ∷ (0x54 ∷ []))) (0x44 ∷ (0x49 ∷ (0x53 ∷ []))) ++ (0x2F ∷ (0x56 ∷ (0x41 ∷ (0x52 ∷ []))))
+
+unfoldable pub kindLength : Kind → ℕ
+kindLength (Program bytes) = bytes
+kindLength (Fixed recordLength internal) = recordLength
+kindLength (Variable recordLength internal) = recordLength
+
+unfoldable pub diskLine : List ℕ → List ℕ
+diskLine image = unpadded (part (sectorOf image 0) 0 10) ++ (space ++ (decimal (sectorCount image) ++ (space ++ (decimal (freeCount (sectorOf image 0)) ++ (10 ∷ [])))))
+
+unfoldable pub fileLine : List ℕ → List ℕ
+fileLine descriptor =
+    unpadded (nameOf descriptor)
+    ++ (space
+    ++ (kindWord (fileKind descriptor)
+    ++ (space
+    ++ (decimal (kindLength (fileKind descriptor))
+    ++ (space ++ (decimal (sectorsOf descriptor) ++ (space ++ (cond (isProtected (statusOf descriptor)) 0x50 0x55 ∷ (10 ∷ [])))))))))
+
+unfoldable pub fileLines : List ℕ → List ℕ → List ℕ
+fileLines image [] = []
+fileLines image (k ∷ ks) = fileLine (sectorOf image k) ++ fileLines image ks
+
+unfoldable pub listingText : List ℕ → List ℕ
+listingText image = diskLine image ++ fileLines image (files image)
+
+-- for a buffer of `room` bytes
+unfoldable pub listingOf : List ℕ → ℕ → Reading
+listingOf image room = judged image (cond (leb (length (listingText image)) room) (gives (length (listingText image)) (listingText image)) (refuses 15))
+
+-- an unsound image gives only `REFUSED` and its number
+unfoldable pub refusedLine : ℕ → List ℕ
+refusedLine number = 0x52 ∷ (0x45 ∷ (0x46 ∷ (0x55 ∷ (0x53 ∷ (0x45 ∷ (0x44 ∷ (32 ∷ (decimal number ++ (10 ∷ [])))))))))
