@@ -1,35 +1,20 @@
 -- The bench table holds: one test that is computed over the whole table, and a law that says what it says of each case.
-use mathlib.Core.Path.{_≡_, refl, sym, ap₂}
-use mathlib.Core.Bool.{Bool, true, false, _&&_}
+use mathlib.Core.Path.{_≡_, refl}
+use mathlib.Core.Bool.{Bool, true, _&&_}
 use mathlib.Core.List.{List, [], _∷_}
 use Prim.Native.Nat.{ℕ, zero, suc, _<_}
 use native.Mathlib.Omega.{arith}
-use lib.Dec.{eqb}
 use lib.ListN.{length, getD}
-use borrow.Author.Tests.{eqb-true}
 use Rattle.rules.specs.Chain.{blockBytes}
 use Rattle.rules.specs.Map.{mapBit, count, taken, byteOf, bytesOf, mapOf, zeroBits, freeCount}
-use Rattle.rules.proofs.Tests.{both, absurd-test}
+use Rattle.rules.specs.Bytes.{same}
+use Rattle.rules.proofs.Tests.{both}
+use Rattle.rules.proofs.Bytes.{same-is}
 use Rattle.demands.specs.Bench.{Case, table, Bench}
-
-unfoldable same : List ℕ → List ℕ → Bool
-same [] [] = true
-same [] (b ∷ bs) = false
-same (a ∷ left) [] = false
-same (a ∷ left) (b ∷ right) = eqb a b && same left right
 
 unfoldable holds : List Case → Bool
 holds [] = true
 holds (row ∷ rows) = same (row .computed) (row .printed) && holds rows
-
-same-is : (left right : List ℕ) → same left right ≡ true → left ≡ right
-unfolding same
-same-is [] [] e = refl
-same-is [] (b ∷ right) e = absurd-test (sym e)
-same-is (a ∷ left) [] e = absurd-test (sym e)
-same-is (a ∷ left) (b ∷ right) e =
-    let parts = both (eqb a b) (same left right) e in
-    ap₂ (λ (x : ℕ) (l : List ℕ). x ∷ l) (eqb-true a b (parts .0)) (same-is left right (parts .1))
 
 holds-at : (rows : List Case) (none : Case) → holds rows ≡ true → (p : ℕ) → p < length rows → getD rows p none .computed ≡ getD rows p none .printed
 unfolding holds

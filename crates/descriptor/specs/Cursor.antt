@@ -22,4 +22,4 @@ first = record { at = 0; next = 0; place = 0; left = 0 }
 -- a step takes the first of the places ahead
 unfoldable pub Stepped : List ℕ → Cursor → Step → Type 0
 Stepped chain cursor End = ahead chain cursor ≡ []
-Stepped chain cursor (Place place next) = (ahead chain cursor ≡ place ∷ ahead chain next) × Steady chain next
+Stepped chain cursor (Place place next) = (ahead chain cursor ≡ place ∷ ahead chain next) × Steady chain next × (place < 8192)

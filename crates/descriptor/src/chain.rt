@@ -1,7 +1,8 @@
 // Blocks, and the cursor that goes through the places of a chain.
 ghost use mathlib.Core.Path.{_≡_};
 ghost use Prim.Native.Nat.{_-_, _<_};
-ghost use Rattle.rules.specs.Chain.{blockOf, endsChain};
+ghost use lib.ListN.{getD};
+ghost use Rattle.rules.specs.Chain.{blockOf, endsChain, places};
 ghost use Rattle.descriptor.specs.Cursor.{Steady, first, Stepped};
 use rules::Block;
 
@@ -110,4 +111,32 @@ impl Cursor {
             },
         )
     }
+}
+
+// The place of file sector `offset`, or 0 where the file has none: block by block.
+pub fn place_at(chain: &[u8], offset: usize) -> usize
+    ensures { λ r. ⌜ (r ≡ getD (places (now (chain .entry))) offset 0) × (r < 8192) ⌝ }
+{
+    let mut at = 0;
+    let mut next = 0;
+    let mut left = offset;
+    while at + 3 <= chain.len() {
+        let a = chain[at];
+        let b = chain[at + 1];
+        let c = chain[at + 2];
+        if ends_chain(a, b, c) {
+            return 0;
+        }
+        let block = block_of(a, b, c);
+        let start = block.start;
+        let last = block.last;
+        let many = less(last, next) + 1;
+        if left < many {
+            return start + left;
+        }
+        left -= many;
+        next = last + 1;
+        at += 3;
+    }
+    0
 }

@@ -1,6 +1,6 @@
 -- The laws of the readings.
-use mathlib.Core.Path.{_≡_, refl}
-use mathlib.Core.Bool.{true, _&&_}
+use mathlib.Core.Path.{_≡_, refl, sym}
+use mathlib.Core.Bool.{Bool, true, false, _&&_}
 use mathlib.Core.List.{List, [], _∷_}
 use Prim.Native.Nat.{ℕ, zero, suc, _+_, _-_, _≤_, _<_}
 use native.Mathlib.Omega.{arith}
@@ -10,8 +10,8 @@ use lib.Dec.{eqb}
 use lib.ListN.{length, drop, length-take, length-drop, drop-of-length-le, List·getD-eq-default}
 use lib.Seq.{drop-cons, getD-take, getD-drop}
 use borrow.Author.Tests.{eq-eqb, eqb-true}
-use Rattle.rules.specs.Bytes.{byteAt, part, allAre}
-use Rattle.rules.proofs.Tests.{both}
+use Rattle.rules.specs.Bytes.{byteAt, part, allAre, same}
+use Rattle.rules.proofs.Tests.{both, absurd-test}
 
 -- the list from byte i on, a byte, two and three at a time
 pub drop-two : (bytes : List ℕ) (i : ℕ) → i + 2 ≤ length bytes → drop i bytes ≡ byteAt bytes i ∷ (byteAt bytes (i + 1) ∷ drop (i + 2) bytes)
@@ -88,3 +88,39 @@ zeros-at bytes from e i h =
 
 pub at-zeros : (bytes : List ℕ) (from : ℕ) → ((i : ℕ) → from ≤ i → byteAt bytes i ≡ 0) → allAre 0 (drop from bytes) ≡ true
 at-zeros bytes from f = at-all 0 (drop from bytes) (λ i h. rw (getD-drop from bytes i 0) (f (from + i) (omega arith)))
+
+-- equal bytes: the next byte and the rest, the end, and different lengths
+pub same-step : (first second : List ℕ) (i : ℕ) → i < length first → i < length second
+    → same (drop i first) (drop i second) ≡ (eqb (byteAt first i) (byteAt second i) && same (drop (i + 1) first) (drop (i + 1) second))
+unfolding same
+same-step first second i h k = rw (add-one, drop-cons first i 0 h, drop-cons second i 0 k)
+
+pub same-end : (first second : List ℕ) (i : ℕ) → length first ≤ i → length second ≤ i → same (drop i first) (drop i second) ≡ true
+unfolding same
+same-end first second i h k = rw (drop-of-length-le first h, drop-of-length-le second k)
+
+pub same-long : (first second : List ℕ) → (length first ≡ length second → ⊥) → same first second ≡ false
+unfolding same
+same-long [] [] e = absurd (e refl)
+same-long [] (b ∷ second) e = refl
+same-long (a ∷ first) [] e = refl
+same-long (a ∷ first) (b ∷ second) e = go (eqb a b) (same-long first second (λ f. e (omega arith)))
+  where
+    go : (t : Bool) → same first second ≡ false → (t && same first second) ≡ false
+    go true f = f
+    go false f = refl
+
+-- the test and the equality
+pub same-is : (first second : List ℕ) → same first second ≡ true → first ≡ second
+unfolding same
+same-is [] [] e = refl
+same-is [] (b ∷ second) e = absurd-test (sym e)
+same-is (a ∷ first) [] e = absurd-test (sym e)
+same-is (a ∷ first) (b ∷ second) e =
+    let parts = both (eqb a b) (same first second) e in
+    rw (eqb-true a b (parts .0), same-is first second (parts .1))
+
+pub is-same : (bytes : List ℕ) → same bytes bytes ≡ true
+unfolding same
+is-same [] = refl
+is-same (b ∷ bytes) = rw (eq-eqb b b refl) (is-same bytes)

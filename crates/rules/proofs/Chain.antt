@@ -1,13 +1,14 @@
 -- The chain: a block and its bytes, each had back from the other; the blocks, a block at a time; the rule as a test and as facts; the places of a file.
 use mathlib.Core.Path.{_≡_, refl, ap, _∙_}
 use mathlib.Core.Bool.{true, false, _&&_}
-use mathlib.Core.List.{List, [], _∷_}
+use mathlib.Core.List.{List, [], _∷_, _++_}
 use Prim.Native.Nat.{ℕ, zero, suc, _+_, _-_, _*_, _/_, _%_, _≤_, _<_}
 use native.Mathlib.Omega.{arith}
 use native.Mathlib.Numerals.{add-one}
 use native.Mathlib.Decide.{decLt, ℕ-discrete}
 use lib.Dec.{leb, ltb}
-use lib.ListN.{length, drop, getD, length-drop, length-append}
+use lib.ListN.{length, drop, getD, length-drop, length-append, List·getD-append}
+use lib.Seq.{getD-append-add}
 use borrow.Author.Tests.{eq-eqb, eqb-true, le-leb, leb-true, lt-ltb, ltb-true}
 use Rattle.rules.specs.Bytes.{byteAt, allAre}
 use Rattle.rules.specs.declared.Block.{Block}
@@ -136,3 +137,23 @@ places-hold n c next (block ∷ more) p e h =
       | yes here ↦ let in-run = run-holds p (block .start) many here in (omega (arith, e .0), omega (arith, e .1, e .2))
       | no there ↦ places-hold n c (block .last + 1) more p (e .3) (omega (arith, split))
     ]
+
+-- place `left` of the blocks from here on: in the next block, or in those after it
+module _ (next : ℕ) (block : Block) (more : List Block) (left : ℕ) where
+  pub place-here : left < block .last - next + 1 → getD (placesFrom next (block ∷ more)) left 0 ≡ block .start + left
+  unfolding placesFrom
+  place-here h =
+      List·getD-append (run (block .start) (block .last - next + 1)) (placesFrom (block .last + 1) more) 0 left (rw run-length h)
+      ∙ run-at (block .start) (block .last - next + 1) left h
+
+  pub place-later : block .last - next + 1 ≤ left → getD (placesFrom next (block ∷ more)) left 0 ≡ getD (placesFrom (block .last + 1) more) (left - (block .last - next + 1)) 0
+  unfolding placesFrom
+  place-later h =
+      let many = block .last - next + 1 in
+      let e : left ≡ length (run (block .start) many) + (left - many) = rw run-length (omega arith) in
+      ap (λ (j : ℕ). getD (run (block .start) many ++ placesFrom (block .last + 1) more) j 0) e
+      ∙ getD-append-add (run (block .start) many) (placesFrom (block .last + 1) more) (left - many) 0
+
+pub no-place : (next left : ℕ) → getD (placesFrom next []) left 0 ≡ 0
+unfolding placesFrom
+no-place next left = refl

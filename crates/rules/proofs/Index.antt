@@ -1,12 +1,12 @@
 -- Sector 1: its numbers, a number at a time, and its rule as a test and as facts.
 use mathlib.Core.Path.{_≡_, refl}
-use mathlib.Core.Bool.{true, _&&_}
+use mathlib.Core.Bool.{Bool, true, false, cond, _&&_}
 use mathlib.Core.List.{List, [], _∷_}
 use Prim.Native.Nat.{ℕ, zero, suc, _+_, _*_, _≤_, _<_}
 use native.Mathlib.Omega.{arith}
-use lib.Dec.{leb, ltb}
+use lib.Dec.{eqb, leb, ltb}
 use lib.ListN.{length, drop, getD, length-drop}
-use borrow.Author.Tests.{eq-eqb, ne-eqb, le-leb, leb-true, lt-ltb, ltb-true}
+use borrow.Author.Tests.{eq-eqb, ne-eqb, eqb-false, le-leb, leb-true, lt-ltb, ltb-true}
 use Rattle.rules.specs.Bytes.{wordAt, allAre}
 use Rattle.rules.specs.Index.{numbers, rangeRule, indexRule, IsIndex}
 use Rattle.rules.proofs.Tests.{both}
@@ -68,3 +68,25 @@ pub is-index : (n : ℕ) (sector1 : List ℕ) → IsIndex n sector1 → indexRul
 unfolding indexRule
 is-index n sector1 is =
     rw (is-range n (numbers sector1) (is .range), lt-ltb (length (numbers sector1)) 128 (omega (arith, is .few)), at-zeros sector1 (2 * length (numbers sector1)) (is .rest))
+
+-- a number by its place: two bytes at twice the place, and not zero
+pub number-at : (sector1 : List ℕ) (p : ℕ) → p < length (numbers sector1) → (getD (numbers sector1) p 0 ≡ wordAt sector1 (2 * p)) × (wordAt sector1 (2 * p) ≡ 0 → ⊥)
+unfolding numbers
+number-at [] p h = absurd (omega arith)
+number-at (high ∷ []) p h = absurd (omega arith)
+number-at (high ∷ (low ∷ sector1)) p h = go (eqb (256 * high + low) 0) refl p h (number-at sector1)
+  where
+    go : (t : Bool) → eqb (256 * high + low) 0 ≡ t → (p : ℕ) → p < length (cond t [] ((256 * high + low) ∷ numbers sector1))
+        → ((p : ℕ) → p < length (numbers sector1) → (getD (numbers sector1) p 0 ≡ wordAt sector1 (2 * p)) × (wordAt sector1 (2 * p) ≡ 0 → ⊥))
+        → (getD (cond (eqb (256 * high + low) 0) [] ((256 * high + low) ∷ numbers sector1)) p 0 ≡ wordAt (high ∷ (low ∷ sector1)) (2 * p))
+        × (wordAt (high ∷ (low ∷ sector1)) (2 * p) ≡ 0 → ⊥)
+    go true e p h more = absurd (omega arith)
+    go false e zero h more = rw e (refl, eqb-false (256 * high + low) 0 e)
+    go false e (suc p) h more =
+        let z : 2 * suc p ≡ suc (suc (2 * p)) = omega arith in
+        let y : suc (suc (2 * p)) + 1 ≡ suc (suc (2 * p + 1)) = omega arith in
+        rw (e, z, y) (more p (omega arith))
+
+-- past the last number the two bytes are zero
+pub number-past : (n : ℕ) (sector1 : List ℕ) → IsIndex n sector1 → (p : ℕ) → length (numbers sector1) ≤ p → wordAt sector1 (2 * p) ≡ 0
+number-past n sector1 is p h = omega (arith, is .rest (2 * p) (omega arith), is .rest (2 * p + 1) (omega arith))

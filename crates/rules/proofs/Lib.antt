@@ -12,3 +12,4 @@ pub mod Descriptor
 pub mod Index
 pub mod Volume
 pub mod Verdict
+pub mod Outcome

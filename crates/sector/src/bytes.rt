@@ -2,7 +2,7 @@
 ghost use mathlib.Core.Path.{_≡_};
 ghost use Prim.Native.Nat.{_+_, _*_, _<_};
 ghost use lib.ListN.{drop};
-ghost use Rattle.rules.specs.Bytes.{byteAt, wordAt, part, allAre};
+ghost use Rattle.rules.specs.Bytes.{byteAt, wordAt, part, allAre, same};
 ghost use Rattle.rules.specs.Sectors.{sectorOf};
 
 // The byte at i as a number.
@@ -57,4 +57,21 @@ pub fn all_are(value: u8, bytes: &[u8], from: usize) -> bool
         i += 1;
     }
     differing == 0
+}
+
+// Whether two runs of bytes are equal.
+pub fn same(first: &[u8], second: &[u8]) -> bool
+    ensures { λ r. ⌜ r ≡ same (now (first .entry)) (now (second .entry)) ⌝ }
+{
+    if first.len() != second.len() {
+        return false;
+    }
+    let mut i = 0;
+    while i < first.len() {
+        if first[i] != second[i] {
+            return false;
+        }
+        i += 1;
+    }
+    true
 }

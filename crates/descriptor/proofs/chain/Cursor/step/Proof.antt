@@ -17,7 +17,7 @@ returns : tie.Need-returns
 unfolding Stepped
 returns c =
     let a = c .before .before .args in
-    (in-block (a .chain .now) (a .self) (c .if1 .taken), record { inside = search needs; small = search needs })
+    (in-block (a .chain .now) (a .self) (c .if1 .taken), record { inside = search needs; small = search needs }, search needs)
 
 add-if2 : tie.Need-add-if2
 add-if2 c = search needs
@@ -72,6 +72,7 @@ returns-4 c =
     let block = c .before .block-of in (
       rw (c .less .ensures) (next-block _ _ (e .before .if1 .left) (e .if2 .left) (sym (c .before .before .before .ends-chain .ensures) ∙ c .before .before .if3 .left) (block .result) (block .ensures .0)),
       record { inside = search needs; small = omega (arith, block .ensures .1, block .ensures .2, c .less .ensures) },
+      omega (arith, block .ensures .1),
     )
 
 pub step-spec : {M : Type 1} → statement M

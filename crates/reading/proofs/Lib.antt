@@ -1,0 +1,4 @@
+-- The laws that the reading calls share.
+mod Pieces
+mod EntryLaws
+mod ReadLaws

@@ -1,0 +1,45 @@
+// Numbers 1 to 8 of a call that names a file: the one opener of all such calls.
+ghost use mathlib.Core.Path.{_≡_};
+ghost use Rattle.rules.specs.Outcome.{findIn, openOf};
+ghost use Rattle.rules.specs.Volume.{files};
+use descriptor::name::name_rule;
+use rules::Opened;
+use sector::bytes::part;
+use sector::bytes::same;
+use sector::bytes::sector_of;
+use sector::bytes::word;
+
+// The first file of that name, by its place in the catalogue and its descriptor's sector.
+fn find_in(image: &[u8], name: &[u8]) -> Opened
+    ensures { λ r. ⌜ r ≡ findIn (now (image .entry)) (now (name .entry)) 0 (files (now (image .entry))) ⌝ }
+{
+    let sector1 = sector_of(image, 1);
+    let mut place = 0;
+    let mut at = 0;
+    while at + 2 <= sector1.len() {
+        let k = word(sector1, at);
+        if k == 0 {
+            return Opened::Refused(8);
+        }
+        if same(name, part(sector_of(image, k), 0, 10)) {
+            return Opened::At(place, k);
+        }
+        place += 1;
+        at += 2;
+    }
+    Opened::Refused(8)
+}
+
+// The file of that name in a sound volume, or the number 1 to 8 that is due.
+pub fn find(image: &[u8], name: &[u8]) -> Opened
+    ensures { λ r. ⌜ r ≡ openOf (now (image .entry)) (now (name .entry)) ⌝ }
+{
+    let number = judge::judge(image);
+    if number != 0 {
+        return Opened::Refused(number);
+    }
+    if !name_rule(name) {
+        return Opened::Refused(7);
+    }
+    find_in(image, name)
+}
