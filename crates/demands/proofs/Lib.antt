@@ -1,2 +1,3 @@
 -- The proofs of what specs/ states.
 pub mod Bench
+pub mod Formatting

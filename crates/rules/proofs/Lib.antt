@@ -13,3 +13,4 @@ pub mod Index
 pub mod Volume
 pub mod Verdict
 pub mod Outcome
+pub mod Formatted

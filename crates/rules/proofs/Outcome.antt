@@ -7,7 +7,7 @@ use native.Mathlib.Omega.{arith}
 use native.Mathlib.Decide.{decLt}
 use lib.Dec.{eqb}
 use lib.ListN.{length, drop, getD}
-use borrow.Author.Tests.{ne-eqb, eqb-true, eqb-false}
+use borrow.Author.Tests.{eq-eqb, ne-eqb, eqb-true, eqb-false}
 use Rattle.rules.specs.Bytes.{wordAt, same}
 use Rattle.rules.specs.Sectors.{sectorOf, sectorCount}
 use Rattle.rules.specs.Name.{nameRule}
@@ -16,7 +16,7 @@ use Rattle.rules.specs.Index.{numbers}
 use Rattle.rules.specs.Volume.{files, nameIn}
 use Rattle.rules.specs.Verdict.{verdict}
 use Rattle.rules.specs.Sound.{Sound, fileAt}
-use Rattle.rules.specs.Outcome.{Reading, refuses, answerOf, amountOf, findIn, openOf, onFile}
+use Rattle.rules.specs.Outcome.{Reading, refuses, answerOf, amountOf, answerNumber, amountNumber, behind, findIn, openOf, onFile}
 use Rattle.rules.specs.declared.Opened.the-variants.{At, Refused}
 use Rattle.rules.specs.declared.Answer.the-variants as answer
 use Rattle.rules.specs.declared.Amount.the-variants as amount
@@ -167,3 +167,46 @@ file-low image p is h = is .index .range p h .1
 
 pub file-long : (image : List ℕ) (k : ℕ) → Sound image → k < sectorCount image → length (sectorOf image k) ≡ 256
 file-long image k is h = sector-length image k (omega (arith, is .whole))
+
+-- the number of an answer is the outcome's
+pub answer-number : (number : ℕ) → answerNumber (answerOf number) ≡ number
+unfolding answerNumber answerOf
+answer-number number = go (eqb number 0) refl
+  where
+    go : (t : Bool) → eqb number 0 ≡ t → answerNumber (cond t answer.Done (answer.Refused number)) ≡ number
+    go true e = sym (eqb-true number 0 e)
+    go false e = refl
+
+pub amount-number : (outcome : Reading) → amountNumber (amountOf outcome) ≡ outcome .number
+unfolding amountNumber amountOf
+amount-number outcome = go (eqb (outcome .number) 0) refl
+  where
+    go : (t : Bool) → eqb (outcome .number) 0 ≡ t → amountNumber (cond t (amount.Given (outcome .value)) (amount.Refused (outcome .number))) ≡ outcome .number
+    go true e = sym (eqb-true (outcome .number) 0 e)
+    go false e = refl
+
+-- and a given amount its value
+pub amount-value : (outcome : Reading) (value : ℕ) → amountOf outcome ≡ amount.Given value → (outcome .number ≡ 0) × (outcome .value ≡ value)
+unfolding amountOf
+amount-value outcome value e = go (eqb (outcome .number) 0) refl e
+  where
+    go : (t : Bool) → eqb (outcome .number) 0 ≡ t → cond t (amount.Given (outcome .value)) (amount.Refused (outcome .number)) ≡ amount.Given value → (outcome .number ≡ 0) × (outcome .value ≡ value)
+    go true is e = (eqb-true (outcome .number) 0 is, cc)
+    go false is e = absurd (let z : _≡_ {A = ℕ} 0 1 = cc in omega arith)
+
+-- nobody's refusal is number 0
+pub amount-refusal : (outcome : Reading) (number : ℕ) → amountOf outcome ≡ amount.Refused number → (outcome .number ≡ number) × (number ≡ 0 → ⊥)
+unfolding amountOf
+amount-refusal outcome number e = go (eqb (outcome .number) 0) refl e
+  where
+    go : (t : Bool) → eqb (outcome .number) 0 ≡ t → cond t (amount.Given (outcome .value)) (amount.Refused (outcome .number)) ≡ amount.Refused number → (outcome .number ≡ number) × (number ≡ 0 → ⊥)
+    go true is e = absurd (let z : _≡_ {A = ℕ} 0 1 = cc in omega arith)
+    go false is e = let same : outcome .number ≡ number = cc in (same, λ z. eqb-false (outcome .number) 0 is (same ∙ z))
+
+pub behind-given : (number value before : ℕ) → number ≡ 0 → behind number value before ≡ value
+unfolding behind
+behind-given number value before e = rw (eq-eqb number 0 e)
+
+pub behind-kept : (number value before : ℕ) → (number ≡ 0 → ⊥) → behind number value before ≡ before
+unfolding behind
+behind-kept number value before some = rw (ne-eqb number 0 some)

@@ -33,6 +33,19 @@ answerOf number = cond (eqb number 0) answer.Done (answer.Refused number)
 unfoldable pub amountOf : Reading → Amount
 amountOf reading = cond (eqb (reading .number) 0) (amount.Given (reading .value)) (amount.Refused (reading .number))
 
+-- and its number, case by case
+unfoldable pub answerNumber : Answer → ℕ
+answerNumber answer.Done = 0
+answerNumber (answer.Refused number) = number
+
+unfoldable pub amountNumber : Amount → ℕ
+amountNumber (amount.Given value) = 0
+amountNumber (amount.Refused number) = number
+
+-- what stands behind a pointer afterwards: the value, and after a refusal what stood there
+unfoldable pub behind : ℕ → ℕ → ℕ → ℕ
+behind number value before = cond (eqb number 0) value before
+
 -- numbers 1 to 6 come first
 unfoldable pub judged : List ℕ → Reading → Reading
 judged image reading = cond (eqb (verdict image) 0) reading (refuses (verdict image))

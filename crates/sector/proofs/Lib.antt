@@ -1,3 +1,3 @@
 -- The laws that the leaves' proofs share.
 mod Differing
-mod Front
+pub mod Front

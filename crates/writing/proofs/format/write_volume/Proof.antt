@@ -1,0 +1,112 @@
+-- `writing::format::write_volume` meets its contract: sector 0, the zeros and the rest are laid one behind the other and make the whole image. Assumes nothing.
+use mathlib.Core.Path.{_≡_, sym, ap, _∙_}
+use mathlib.Core.List.{List, _++_, append-assoc}
+use Prim.Native.Nat.{ℕ, _-_, _*_, _≤_}
+use native.Mathlib.Omega.{arith}
+use lib.ListN.{length, replicate, length-append, length-replicate}
+use borrow.Rule.Slice.PartMut.{putMid}
+use Rattle.rules.specs.Bytes.{part, splice}
+use Rattle.rules.proofs.Bytes.{part-length}
+use Rattle.rules.proofs.Splice.{splice-length, splice-whole, put-back}
+use Rattle.rules.proofs.Formatted.{laid-next, sector0-length, formatted-parts}
+use Rattle.writing.specs.Geometry.{geometryOf}
+use borrow.Author.Needs.{needs}
+use Rattle.writing.proofs.format.write_volume.Statement.{statement}
+use Rattle.writing.proofs.format.write_volume.Tie as tie
+
+new-sector0-requires : tie.Need-new-sector0-requires
+new-sector0-requires c κs = search needs
+
+slice-aggregate-lay : tie.Need-slice-aggregate-lay
+slice-aggregate-lay c = search needs
+
+lay-requires : tie.Need-lay-requires
+lay-requires c κs = search needs
+
+sub-fill : tie.Need-sub-fill
+sub-fill c = search needs
+
+part-fill-start : tie.Need-part-fill-start
+part-fill-start c = search needs
+
+part-fill-end : tie.Need-part-fill-end
+part-fill-end c = search needs
+
+fill-requires : tie.Need-fill-requires
+fill-requires c κs = search needs
+
+sub-fill-2 : tie.Need-sub-fill-2
+sub-fill-2 c = search needs
+
+part-fill-start-2 : tie.Need-part-fill-start-2
+part-fill-start-2 c = search needs
+
+part-fill-end-2 : tie.Need-part-fill-end-2
+part-fill-end-2 c = search needs
+
+fill-requires-2 : tie.Need-fill-requires-2
+fill-requires-2 c κs = search needs
+
+same-length : tie.Need-same-length
+same-length c = search needs
+
+-- what the three calls leave: each writes right behind the one before, and the last to the end of the image
+module _ (image sector0 : List ℕ) (n : ℕ) (large : 3 ≤ n) (long : length image ≡ 256 * n) (whole : length sector0 ≡ 256) where
+  filled-one : (laid zeros : List ℕ) → laid ≡ splice image 0 sector0 → zeros ≡ replicate (length (part laid 256 256)) 0
+      → (zeros ≡ replicate 256 0) × (putMid 256 256 laid zeros ≡ splice image 0 (sector0 ++ zeros))
+  filled-one laid zeros laid-is zeros-is =
+      let kept : length laid ≡ 256 * n = ap length laid-is ∙ splice-length image 0 sector0 ∙ long in
+      let many = part-length laid 256 256 (omega arith) in
+      let zeros-long : length zeros ≡ 256 = ap length zeros-is ∙ length-replicate (length (part laid 256 256)) 0 ∙ many in
+      (zeros-is ∙ ap (λ (m : ℕ). replicate m 0) many, put-back laid zeros 256 256 zeros-long (omega arith) ∙ rw laid-is (laid-next image sector0 zeros 256 whole))
+
+  filled-rest : (laid zeros rest : List ℕ) → length zeros ≡ 256 → laid ≡ splice image 0 (sector0 ++ zeros) → rest ≡ replicate (length (part laid 512 (length laid - 512))) 0xE5
+      → (rest ≡ replicate (256 * (n - 2)) 0xE5) × (putMid 512 (length laid - 512) laid rest ≡ sector0 ++ (zeros ++ rest))
+  filled-rest laid zeros rest zeros-long laid-is rest-is =
+      let kept : length laid ≡ 256 * n = ap length laid-is ∙ splice-length image 0 (sector0 ++ zeros) ∙ long in
+      let many = part-length laid 512 (length laid - 512) (omega arith) in
+      let rest-long : length rest ≡ length laid - 512 = ap length rest-is ∙ length-replicate (length (part laid 512 (length laid - 512))) 0xE5 ∙ many in
+      let most : length laid - 512 ≡ 256 * (n - 2) = omega arith in
+      let front : length (sector0 ++ zeros) ≡ 512 = length-append sector0 zeros ∙ omega arith in
+      let all : length ((sector0 ++ zeros) ++ rest) ≡ length image = length-append (sector0 ++ zeros) rest ∙ omega arith in (
+        rest-is ∙ ap (λ (m : ℕ). replicate m 0xE5) (many ∙ most),
+        put-back laid rest 512 (length laid - 512) rest-long (omega arith)
+            ∙ rw laid-is (laid-next image (sector0 ++ zeros) rest 512 front)
+            ∙ splice-whole image ((sector0 ++ zeros) ++ rest) all
+            ∙ append-assoc sector0 zeros rest,
+      )
+
+returns : tie.Need-returns
+returns c =
+    let filled = c .before .before .before .before .before .before in
+    let laid = filled .before .before .before .before in
+    let made = laid .before .before .before in
+    let start = made .before .before .before in
+    let n = start .args .n in
+    let image = start .args .image .now in
+    let sector0 = made .new-sector0 .result in
+    let parts = formatted-parts n (start .args .name .now) (geometryOf (start .args .geometry)) (start .pre .3) in
+    let whole = ap length (made .new-sector0 .ensures) ∙ sector0-length n (start .args .name .now) (geometryOf (start .args .geometry)) (start .pre .3) in
+    let zeros = filled .fill .last .0 in
+    let one = filled-one image sector0 n (start .pre .0) (start .pre .2) whole (laid .lay .last .0) zeros (laid .lay .ensures) (filled .fill .ensures) in
+    let last = c .before .before .fill2 in
+    let rest = filled-rest image sector0 n (start .pre .0) (start .pre .2) whole _ zeros (last .last .0) (ap length (one .0)) (one .1) (last .ensures) in
+    rest .1 ∙ rw (one .0, rest .0, made .new-sector0 .ensures) (sym parts)
+
+pub write-volume-spec : {M : Type 1} → statement M
+write-volume-spec =
+    tie.close
+    (tie.spec
+    new-sector0-requires
+    slice-aggregate-lay
+    lay-requires
+    sub-fill
+    part-fill-start
+    part-fill-end
+    fill-requires
+    sub-fill-2
+    part-fill-start-2
+    part-fill-end-2
+    fill-requires-2
+    same-length
+    returns)

@@ -1,0 +1,134 @@
+// Formatting: sector 0 is made in a local array and written whole, sector 1 is filled with zeros, and every other byte is E5 hex.
+ghost use mathlib.Core.Path.{_≡_};
+ghost use mathlib.Core.List.{[], _∷_, _++_};
+ghost use Prim.Native.Nat.{_*_, _≤_, _<_};
+ghost use lib.ListN.{length};
+ghost use Rattle.rules.specs.Map.{taken, byteOf, mapOf};
+ghost use Rattle.rules.specs.Outcome.{answerOf};
+ghost use Rattle.rules.specs.Calls.Format.{newLabel, formatted, formatNumber, afterFormat};
+ghost use Rattle.writing.specs.Geometry.{geometryOf};
+use descriptor::name::name_rule;
+use rules::Answer;
+use sector::buffer::fill;
+use sector::buffer::lay;
+
+// What the label says of the drive.
+pub struct Geometry {
+    pub sectors_per_track: u8,
+    pub tracks: u8,
+    pub sides: u8,
+    pub density: u8,
+}
+
+// Bytes 0 to 55 of sector 0: the name, the ten bytes behind it, and zeros.
+fn new_label(n: usize, name: &[u8], geometry: Geometry) -> [u8; 56]
+    requires { ⌜ (n ≤ 1600) × (length (now name) ≡ 10) ⌝ }
+    ensures { λ r. ⌜ r ≡ newLabel n (now (name .entry)) (geometryOf geometry) ⌝ }
+{
+    let high = (n / 256) as u8;
+    let low = (n % 256) as u8;
+    let behind = [
+        high,
+        low,
+        geometry.sectors_per_track,
+        b'D',
+        b'S',
+        b'K',
+        b' ',
+        geometry.tracks,
+        geometry.sides,
+        geometry.density,
+    ];
+    let mut label = [0u8; 56];
+    lay(&mut label, 0, name);
+    lay(&mut label, 10, &behind);
+    label
+}
+
+// The byte of the map from sector k on where no sector is held: the bits of sectors past the end are one.
+fn past_end(n: usize, k: usize) -> u8
+    ensures { λ r. ⌜ r ≡ byteOf (taken n []) k ⌝ }
+{
+    if n <= k {
+        return 0xFF;
+    }
+    if n - k >= 8 {
+        return 0;
+    }
+    0xFFu8 << (n - k)
+}
+
+// Byte i of the map of an empty volume: sectors 0 and 1 are held, the lowest two bits of byte 0.
+fn map_byte(n: usize, i: usize) -> u8
+    requires { ⌜ (3 ≤ n) × (i < 200) ⌝ }
+    ensures { λ r. ⌜ r ≡ byteOf (taken n (0 ∷ (1 ∷ []))) (8 * i) ⌝ }
+{
+    let past = past_end(n, 8 * i);
+    if i == 0 {
+        return past + 3;
+    }
+    past
+}
+
+// Bytes 56 to 255 of sector 0.
+fn new_map(n: usize) -> [u8; 200]
+    requires { ⌜ 3 ≤ n ⌝ }
+    ensures { λ r. ⌜ r ≡ mapOf n (0 ∷ (1 ∷ [])) ⌝ }
+{
+    let mut map = [0u8; 200];
+    let mut i = 0;
+    while i < 200 {
+        map[i] = map_byte(n, i);
+        i += 1;
+    }
+    map
+}
+
+fn new_sector0(n: usize, name: &[u8], geometry: Geometry) -> [u8; 256]
+    requires { ⌜ (3 ≤ n) × (n ≤ 1600) × (length (now name) ≡ 10) ⌝ }
+    ensures { λ r. ⌜ r ≡ newLabel n (now (name .entry)) (geometryOf geometry) ++ mapOf n (0 ∷ (1 ∷ [])) ⌝ }
+{
+    let label = new_label(n, name, geometry);
+    let map = new_map(n);
+    let mut sector0 = [0u8; 256];
+    lay(&mut sector0, 0, &label);
+    lay(&mut sector0, 56, &map);
+    sector0
+}
+
+// Every byte of an image of n sectors.
+fn write_volume(image: &mut [u8], n: usize, name: &[u8], geometry: Geometry)
+    requires { ⌜ (3 ≤ n) × (n ≤ 1600) × (length (now image) ≡ 256 * n) × (length (now name) ≡ 10) ⌝ }
+    ensures { λ _. ⌜ now (image .exit) ≡ formatted n (now (name .entry)) (geometryOf geometry) ⌝ }
+{
+    let sector0 = new_sector0(n, name, geometry);
+    lay(image, 0, &sector0);
+    fill(&mut image[256..512], 0);
+    fill(&mut image[512..], 0xE5);
+}
+
+// Makes the image an empty volume of n sectors. Nothing of the image is read but its length: 1 where that is not n sectors,
+// n from 3 to 1,600, and 7 for a name that breaks the rule.
+pub fn format(image: &mut [u8], n: usize, name: &[u8], geometry: Geometry) -> Answer
+    ensures { λ r. ⌜ r ≡ answerOf (formatNumber (now (image .entry)) n (now (name .entry))) ⌝ }
+    ensures { λ _. ⌜ now (image .exit) ≡ afterFormat (now (image .entry)) n (now (name .entry)) (geometryOf geometry) ⌝ }
+{
+    if image.len() % 256 != 0 {
+        return Answer::Refused(1);
+    }
+    let sectors = image.len() / 256;
+    if sectors < 3 {
+        return Answer::Refused(1);
+    }
+    if sectors > 1600 {
+        return Answer::Refused(1);
+    }
+    if n != sectors {
+        return Answer::Refused(1);
+    }
+    if !name_rule(name) {
+        return Answer::Refused(7);
+    }
+    write_volume(image, n, name, geometry);
+    Answer::Done
+}
