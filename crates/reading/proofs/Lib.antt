@@ -2,3 +2,4 @@
 mod Pieces
 mod EntryLaws
 mod ReadLaws
+mod VolumeLaws

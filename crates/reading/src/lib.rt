@@ -5,8 +5,11 @@ mod opener;
 mod programs;
 mod row;
 mod sectors;
+mod volumes;
 
 pub use entries::entry;
 pub use opener::find;
 pub use programs::load;
 pub use sectors::read;
+pub use volumes::free_count;
+pub use volumes::summary;

@@ -14,3 +14,4 @@ pub mod Volume
 pub mod Verdict
 pub mod Outcome
 pub mod Formatted
+pub mod Listing

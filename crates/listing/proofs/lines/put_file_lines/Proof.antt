@@ -1,0 +1,82 @@
+-- `listing::lines::put_file_lines` meets its contract. The loop's invariant: the lines of the numbers from byte `place` on, laid from `next` on, give what all lines give (`Ahead`).
+-- The measure is what is left of sector 1. Assumes nothing.
+use mathlib.Core.Path.{sym, _∙_}
+use Prim.Native.Nat.{_-_}
+use native.Mathlib.Omega.{arith}
+use lib.ListN.{length}
+use Rattle.rules.proofs.Index.{numbers-end, numbers-short}
+use Rattle.listing.proofs.LineSteps.{Ahead, ahead-start, ahead-step, ahead-end, sector-short}
+use borrow.Author.Needs.{needs}
+use Rattle.listing.proofs.lines.put_file_lines.Statement.{statement}
+use Rattle.listing.proofs.lines.put_file_lines.Tie as tie
+
+abbrev Inv-loop : tie.InvT-loop
+Inv-loop text₀ at image sector1 next₀ place₀ text next place = Ahead image sector1 text₀ text at next place
+
+abbrev μ-loop : tie.MeasureT-loop
+μ-loop text₀ at image sector1 next₀ place₀ text next place = length sector1 - place
+
+sector-of-requires : tie.Need-sector-of-requires Inv-loop μ-loop
+sector-of-requires c κs = search needs
+
+loop-holds : tie.Need-loop-holds Inv-loop μ-loop
+loop-holds c = ahead-start _ _ _ _ (c .sector-of .ensures)
+
+add-loop : tie.Need-add-loop Inv-loop μ-loop
+add-loop c = search needs
+
+word-requires : tie.Need-word-requires Inv-loop μ-loop
+word-requires c κs = search needs
+
+same-length : tie.Need-same-length Inv-loop μ-loop
+same-length c = c .before .before .before .loop .inv .kept
+
+returns : tie.Need-returns Inv-loop μ-loop
+returns c =
+    let l = c .before .before .before .loop in
+    ahead-end (l .inv) (numbers-end _ _ (c .before .before .loop-test .taken) (sym (c .before .word .ensures .0) ∙ c .if1 .taken)) (sector-short _ _ _ (c .before .before .before .before .sector-of .ensures))
+
+sector-of-requires-2 : tie.Need-sector-of-requires-2 Inv-loop μ-loop
+sector-of-requires-2 c κs = search needs
+
+put-file-line-requires : tie.Need-put-file-line-requires Inv-loop μ-loop
+put-file-line-requires c κs =
+    let l = c .before .before .before .before .before .loop in
+    omega (arith, c .before .before .before .before .before .before .before .before .before .pre, l .inv .near, l .inv .inside, sector-short _ _ _ (c .before .before .before .before .before .before .sector-of .ensures))
+
+add-place : tie.Need-add-place Inv-loop μ-loop
+add-place c = search needs
+
+loop-less : tie.Need-loop-less Inv-loop μ-loop
+loop-less c = search needs
+
+loop-again : tie.Need-loop-again Inv-loop μ-loop
+loop-again c =
+    ahead-step (c .before .before .before .before .before .before .before .before .loop .inv) (c .before .before .before .before .before .before .before .loop-test .taken) (c .before .before .before .before .before .before .word .ensures .0) (c .before .before .before .before .before .if1 .left) (c .before .before .before .sector-of2 .ensures) (c .before .before .put-file-line .ensures)
+
+same-length-2 : tie.Need-same-length-2 Inv-loop μ-loop
+same-length-2 c = c .before .loop .inv .kept
+
+returns-2 : tie.Need-returns-2 Inv-loop μ-loop
+returns-2 c =
+    ahead-end (c .before .loop .inv) (numbers-short _ _ (c .loop-test .left)) (sector-short _ _ _ (c .before .before .sector-of .ensures))
+
+pub put-file-lines-spec : {M : Type 1} → statement M
+put-file-lines-spec =
+    tie.close
+    (tie.spec
+    Inv-loop
+    μ-loop
+    sector-of-requires
+    loop-holds
+    add-loop
+    word-requires
+    same-length
+    returns
+    sector-of-requires-2
+    put-file-line-requires
+    add-place
+    loop-less
+    loop-again
+    same-length-2
+    returns-2)

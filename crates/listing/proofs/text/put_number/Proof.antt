@@ -1,0 +1,104 @@
+-- `listing::text::put_number` meets its contract. The loop's invariant: the digits of what is left of the number, and those set already with the mark behind them, are the number's with the mark.
+-- The measure is what is left of the number. Assumes nothing.
+use mathlib.Core.Path.{_≡_, refl, sym, ap, _∙_}
+use mathlib.Core.List.{[], _∷_, _++_}
+use Prim.Native.Nat.{ℕ, suc, _-_, _/_, _^_, _≤_, _<_}
+use native.Mathlib.Omega.{arith}
+use lib.ListN.{length, length-take, drop, set, length-drop, length-set}
+use lib.Seq.{take-all}
+use Rattle.rules.specs.Calls.Listing.{digits, decimal}
+use Rattle.rules.proofs.Listing.{tenth-below}
+use Rattle.listing.proofs.LaidLaws.{laid-as}
+use Rattle.listing.proofs.TextSteps.{digit-more, digit-last, second-digit}
+use borrow.Author.Needs.{needs}
+use Rattle.listing.proofs.text.put_number.Statement.{statement}
+use Rattle.listing.proofs.text.put_number.Tie as tie
+
+abbrev Inv-loop : tie.InvT-loop
+Inv-loop text at number mark figures₀ left₀ first₀ figures left first = (length figures ≡ 21) × (first ≤ 19) × (left < 10 ^ suc first) × (digits (suc first) left ++ drop (suc first) figures ≡ decimal number ++ (mark ∷ []))
+
+abbrev μ-loop : tie.MeasureT-loop
+μ-loop text at number mark figures₀ left₀ first₀ figures left first = left
+
+array-write-figures : tie.Need-array-write-figures Inv-loop μ-loop
+array-write-figures c = search needs
+
+loop-holds : tie.Need-loop-holds Inv-loop μ-loop
+unfolding decimal
+loop-holds c = (refl, omega arith, omega (arith, c .before .fits .number), refl)
+
+digit-requires : tie.Need-digit-requires Inv-loop μ-loop
+digit-requires c κs = search needs
+
+array-write-figures-2 : tie.Need-array-write-figures-2 Inv-loop μ-loop
+array-write-figures-2 c = search needs
+
+sub-first : tie.Need-sub-first Inv-loop μ-loop
+sub-first c =
+    let l = c .before .before .loop in
+    second-digit (l .first) (l .left) (c .before .loop-test .taken) (l .inv .2)
+
+loop-less : tie.Need-loop-less Inv-loop μ-loop
+loop-less c = search needs
+
+loop-again : tie.Need-loop-again Inv-loop μ-loop
+loop-again c =
+    let l = c .before .before .loop in
+    let two = c .before .loop-test .taken in
+    let some = second-digit (l .first) (l .left) two (l .inv .2) in
+    let place : suc (l .first - 1) ≡ l .first = omega arith in (
+      simp length-set (l .inv .0),
+      omega arith,
+      rw place (tenth-below (l .first) (l .left) (l .inv .2)),
+      ap (λ (k : ℕ). digits k (l .left / 10) ++ drop k (set (l .figures) (l .first) (c .digit .result))) place
+          ∙ digit-more (l .figures) (l .first) (l .left) (c .digit .result) (omega (arith, l .inv .0, l .inv .1)) two (c .digit .ensures)
+          ∙ l .inv .3,
+    )
+
+digit-requires-2 : tie.Need-digit-requires-2 Inv-loop μ-loop
+digit-requires-2 c κs = search needs
+
+array-write-figures-3 : tie.Need-array-write-figures-3 Inv-loop μ-loop
+array-write-figures-3 c = search needs
+
+slice-aggregate-part : tie.Need-slice-aggregate-part Inv-loop μ-loop
+slice-aggregate-part c = simp length-set (sym (c .before .before .before .before .loop .inv .0))
+
+part-requires : tie.Need-part-requires Inv-loop μ-loop
+part-requires c κs = search needs
+
+put-requires : tie.Need-put-requires Inv-loop μ-loop
+put-requires c κs = (search needs, rw (c .part .ensures) (rw length-take (omega arith)))
+
+same-length : tie.Need-same-length Inv-loop μ-loop
+same-length c = search needs
+
+returns : tie.Need-returns Inv-loop μ-loop
+returns c =
+    let l = c .before .before .before .before .before .before .before .before .loop in
+    let figures = set (l .figures) (l .first) (c .before .before .before .before .before .before .digit2 .result) in
+    let few : length (drop (l .first) figures) ≤ 21 = simp (length-drop, length-set) (omega (arith, l .inv .0)) in
+    let all = c .before .before .before .part .ensures ∙ take-all 21 (drop (l .first) figures) few in
+    let last = digit-last (l .figures) (l .first) (l .left) (c .before .before .before .before .before .before .digit2 .result) (omega (arith, l .inv .0, l .inv .1)) (c .before .before .before .before .before .before .before .loop-test .left) (c .before .before .before .before .before .before .digit2 .ensures) in
+    laid-as (all ∙ last ∙ l .inv .3) (rw all few) (c .before .before .put .ensures)
+
+pub put-number-spec : {M : Type 1} → statement M
+put-number-spec =
+    tie.close
+    (tie.spec
+    Inv-loop
+    μ-loop
+    array-write-figures
+    loop-holds
+    digit-requires
+    array-write-figures-2
+    sub-first
+    loop-less
+    loop-again
+    digit-requires-2
+    array-write-figures-3
+    slice-aggregate-part
+    part-requires
+    put-requires
+    same-length
+    returns)

@@ -1,0 +1,44 @@
+// The catalogue program's text: the listing of a sound volume, and the line that stands for any other image.
+ghost use mathlib.Core.Path.{_≡_};
+ghost use lib.ListN.{length};
+ghost use Rattle.rules.specs.Bytes.{splice};
+ghost use Rattle.rules.specs.Outcome.{amountOf};
+ghost use Rattle.rules.specs.Calls.Listing.{listingOf, refusedLine};
+
+pub mod free;
+mod lines;
+mod text;
+
+use judge::judge;
+use lines::put_listing;
+use rules::Amount;
+use sector::buffer::lay;
+use sector::bytes::part;
+use text::put;
+use text::put_number;
+
+// The text goes into a local buffer first, since nothing is written where it does not fit. The buffer holds the longest:
+// a line of 21 bytes and 127 of 36.
+pub fn listing(image: &[u8], out: &mut [u8]) -> Amount
+    ensures { λ r. ⌜ (r ≡ amountOf (listingOf (now (image .entry)) (length (now (out .entry))))) × (now (out .exit) ≡ splice (now (out .entry)) 0 (listingOf (now (image .entry)) (length (now (out .entry))) .bytes)) ⌝ }
+{
+    let number = judge(image);
+    if number != 0 {
+        return Amount::Refused(number);
+    }
+    let mut text = [0u8; 4608];
+    let size = put_listing(&mut text, image);
+    if size > out.len() {
+        return Amount::Refused(15);
+    }
+    lay(out, 0, part(&text, 0, size));
+    Amount::Given(size)
+}
+
+// As much of the line as there is room for; its length is given in any case.
+pub fn refused_line(number: u32, out: &mut [u8]) -> usize
+    ensures { λ r. ⌜ (r ≡ length (refusedLine number)) × (now (out .exit) ≡ splice (now (out .entry)) 0 (refusedLine number)) ⌝ }
+{
+    let next = put(out, 0, b"REFUSED ");
+    put_number(out, next, number as usize, b'\n')
+}

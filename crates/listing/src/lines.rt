@@ -1,0 +1,67 @@
+// The lines of the listing: the disk's, then one a file in the order of sector 1.
+ghost use Prim.Native.Nat.{_≤_};
+ghost use Rattle.rules.specs.Volume.{files};
+ghost use Rattle.rules.specs.Calls.Listing.{diskLine, fileLine, fileLines, listingText};
+ghost use Rattle.listing.specs.Laid.{Laid};
+use crate::free::free_count_of;
+use crate::text::kind_length;
+use crate::text::put_kind;
+use crate::text::put_name;
+use crate::text::put_number;
+use crate::text::put_protection;
+use descriptor::kind::kind_of;
+use sector::bytes::byte;
+use sector::bytes::part;
+use sector::bytes::sector_of;
+use sector::bytes::word;
+
+// Disk name, number of sectors, free count.
+fn put_disk_line(text: &mut [u8], image: &[u8]) -> usize
+    ensures { λ r. ⌜ Laid 53 (now (text .entry)) (now (text .exit)) 0 r (diskLine (now (image .entry))) ⌝ }
+{
+    let sector0 = sector_of(image, 0);
+    let named = put_name(text, 0, part(sector0, 0, 10));
+    let counted = put_number(text, named, image.len() / 256, b' ');
+    put_number(text, counted, free_count_of(sector0), b'\n')
+}
+
+// Name, kind, length, sectors, protection.
+fn put_file_line(text: &mut [u8], at: usize, descriptor: &[u8]) -> usize
+    requires { ⌜ at ≤ 50000 ⌝ }
+    ensures { λ r. ⌜ Laid 63 (now (text .entry)) (now (text .exit)) at r (fileLine (now (descriptor .entry))) ⌝ }
+{
+    let status = byte(descriptor, 12);
+    let sectors = word(descriptor, 14);
+    let kind = kind_of(status, sectors, byte(descriptor, 16), byte(descriptor, 17));
+    let named = put_name(text, at, part(descriptor, 0, 10));
+    let sorted = put_kind(text, named, kind);
+    let measured = put_number(text, sorted, kind_length(kind), b' ');
+    let counted = put_number(text, measured, sectors, b' ');
+    put_protection(text, counted, status)
+}
+
+// A line for each number of sector 1 up to the first zero.
+fn put_file_lines(text: &mut [u8], at: usize, image: &[u8]) -> usize
+    requires { ⌜ at ≤ 53 ⌝ }
+    ensures { λ r. ⌜ Laid 16128 (now (text .entry)) (now (text .exit)) at r (fileLines (now (image .entry)) (files (now (image .entry)))) ⌝ }
+{
+    let sector1 = sector_of(image, 1);
+    let mut next = at;
+    let mut place = 0;
+    while place + 2 <= sector1.len() {
+        let k = word(sector1, place);
+        if k == 0 {
+            return next;
+        }
+        next = put_file_line(text, next, sector_of(image, k));
+        place += 2;
+    }
+    next
+}
+
+pub(crate) fn put_listing(text: &mut [u8], image: &[u8]) -> usize
+    ensures { λ r. ⌜ Laid 16181 (now (text .entry)) (now (text .exit)) 0 r (listingText (now (image .entry))) ⌝ }
+{
+    let next = put_disk_line(text, image);
+    put_file_lines(text, next, image)
+}

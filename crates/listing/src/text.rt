@@ -1,0 +1,127 @@
+// The pieces of a line: bytes, numbers, names, kinds. Each lays its bytes over the buffer from `at` on, as far as there
+// is room, and answers the place after them. The limits that the contracts name only keep the places small enough to add
+// up; how long the text can get is the rules' law `listing-short`.
+ghost use mathlib.Core.Path.{_≡_};
+ghost use mathlib.Core.Bool.{cond};
+ghost use mathlib.Core.List.{[], _∷_, _++_};
+ghost use Prim.Native.Nat.{_+_, _≤_, _<_};
+ghost use lib.ListN.{length};
+ghost use Rattle.rules.specs.Calls.Catalogue.{isProtected};
+ghost use Rattle.rules.specs.Calls.Listing.{decimal, unpadded, kindWord, kindLength};
+ghost use Rattle.listing.specs.Laid.{Laid};
+use rules::Kind;
+use sector::buffer::lay;
+use sector::bytes::part;
+
+pub(crate) fn put(text: &mut [u8], at: usize, bytes: &[u8]) -> usize
+    requires { ⌜ (at ≤ 100000) × (length (now bytes) ≤ 100) ⌝ }
+    ensures { λ r. ⌜ Laid (length (now (bytes .entry))) (now (text .entry)) (now (text .exit)) at r (now (bytes .entry)) ⌝ }
+{
+    lay(text, at, bytes);
+    at + bytes.len()
+}
+
+fn digit(value: usize) -> u8
+    requires { ⌜ value < 10 ⌝ }
+    ensures { λ r. ⌜ r ≡ 48 + value ⌝ }
+{
+    48 + value as u8
+}
+
+// A number in decimal, then the mark that ends it: a space or a newline. The digits come last one first, so they are
+// set from the end of an array that holds the largest number.
+pub(crate) fn put_number(text: &mut [u8], at: usize, number: usize, mark: u8) -> usize
+    requires { ⌜ at ≤ 100000 ⌝ }
+    ensures { λ r. ⌜ Laid 21 (now (text .entry)) (now (text .exit)) at r (decimal number ++ (mark ∷ [])) ⌝ }
+{
+    let mut figures = [0u8; 21];
+    figures[20] = mark;
+    let mut left = number;
+    let mut first = 19;
+    while left >= 10 {
+        figures[first] = digit(left % 10);
+        left = left / 10;
+        first -= 1;
+    }
+    figures[first] = digit(left);
+    put(text, at, part(&figures, first, 21))
+}
+
+// A name up to its padding.
+fn unpadded(name: &[u8]) -> &[u8]
+    ensures { λ r. ⌜ now r ≡ unpadded (now (name .entry)) ⌝ }
+{
+    let mut i = 0;
+    while i < name.len() {
+        if name[i] == 32 {
+            return part(name, 0, i);
+        }
+        i += 1;
+    }
+    name
+}
+
+// A name without its padding, then a space.
+pub(crate) fn put_name(text: &mut [u8], at: usize, name: &[u8]) -> usize
+    requires { ⌜ (at ≤ 50000) × (length (now name) ≤ 10) ⌝ }
+    ensures { λ r. ⌜ Laid 11 (now (text .entry)) (now (text .exit)) at r (unpadded (now (name .entry)) ++ (32 ∷ [])) ⌝ }
+{
+    let next = put(text, at, unpadded(name));
+    put(text, next, b" ")
+}
+
+// The word of a kind, then a space.
+pub(crate) fn put_kind(text: &mut [u8], at: usize, kind: Kind) -> usize
+    requires { ⌜ at ≤ 100000 ⌝ }
+    ensures { λ r. ⌜ Laid 8 (now (text .entry)) (now (text .exit)) at r (kindWord kind ++ (32 ∷ [])) ⌝ }
+{
+    match kind {
+        Kind::Program { length: _ } => put(text, at, b"PROGRAM "),
+        Kind::Fixed {
+            record_length: _,
+            internal,
+        } => {
+            if internal {
+                return put(text, at, b"INT/FIX ");
+            }
+            put(text, at, b"DIS/FIX ")
+        }
+        Kind::Variable {
+            record_length: _,
+            internal,
+        } => {
+            if internal {
+                return put(text, at, b"INT/VAR ");
+            }
+            put(text, at, b"DIS/VAR ")
+        }
+    }
+}
+
+// A program's length in bytes, or else the record length.
+pub(crate) fn kind_length(kind: Kind) -> usize
+    ensures { λ r. ⌜ r ≡ kindLength kind ⌝ }
+{
+    match kind {
+        Kind::Program { length } => length,
+        Kind::Fixed {
+            record_length,
+            internal: _,
+        } => record_length,
+        Kind::Variable {
+            record_length,
+            internal: _,
+        } => record_length,
+    }
+}
+
+// P for a protected file or U for another, and the end of its line.
+pub(crate) fn put_protection(text: &mut [u8], at: usize, status: usize) -> usize
+    requires { ⌜ at ≤ 100000 ⌝ }
+    ensures { λ r. ⌜ Laid 2 (now (text .entry)) (now (text .exit)) at r (cond (isProtected status) 0x50 0x55 ∷ (10 ∷ [])) ⌝ }
+{
+    if status / 8 % 2 == 1 {
+        return put(text, at, b"P\n");
+    }
+    put(text, at, b"U\n")
+}

@@ -1,0 +1,56 @@
+// The free count, and a volume's summary.
+ghost use mathlib.Core.Path.{_≡_};
+ghost use lib.ListN.{length};
+ghost use Rattle.rules.specs.Bytes.{splice};
+ghost use Rattle.rules.specs.Index.{numbers};
+ghost use Rattle.rules.specs.Outcome.{amountOf};
+ghost use Rattle.rules.specs.Calls.Free.{freeCountOf, summaryOf, summaryName};
+use listing::free::free_count_of;
+use rules::Amount;
+use rules::Summary;
+use sector::buffer::lay;
+use sector::bytes::part;
+use sector::bytes::sector_of;
+use sector::bytes::word;
+
+pub fn free_count(image: &[u8]) -> Amount
+    ensures { λ r. ⌜ r ≡ amountOf (freeCountOf (now (image .entry))) ⌝ }
+{
+    let number = judge::judge(image);
+    if number != 0 {
+        return Amount::Refused(number);
+    }
+    Amount::Given(free_count_of(sector_of(image, 0)))
+}
+
+// The numbers of sector 1.
+fn file_count(sector1: &[u8]) -> usize
+    ensures { λ r. ⌜ r ≡ length (numbers (now (sector1 .entry))) ⌝ }
+{
+    let mut files = 0;
+    let mut at = 0;
+    while at + 2 <= sector1.len() {
+        if word(sector1, at) == 0 {
+            return files;
+        }
+        files += 1;
+        at += 2;
+    }
+    files
+}
+
+pub fn summary(image: &[u8], name: &mut [u8; 10]) -> Summary
+    ensures { λ r. ⌜ (r ≡ summaryOf (now (image .entry))) × (now (name .exit) ≡ splice (now (name .entry)) 0 (summaryName (now (image .entry)))) ⌝ }
+{
+    let number = judge::judge(image);
+    if number != 0 {
+        return Summary::Refused(number);
+    }
+    let sector0 = sector_of(image, 0);
+    lay(name, 0, part(sector0, 0, 10));
+    Summary::Given {
+        sectors: image.len() / 256,
+        files: file_count(sector_of(image, 1)),
+        free: free_count_of(sector0),
+    }
+}

@@ -1,0 +1,143 @@
+-- The listing's text: numbers in decimal, names without their padding, and how long the text of a sound volume can get.
+use mathlib.Core.Path.{_≡_, refl}
+use mathlib.Core.Bool.{Bool, true, false, cond}
+use mathlib.Core.List.{List, [], _∷_, _++_}
+use Prim.Native.Nat.{ℕ, zero, suc, _+_, _*_, _/_, _%_, _^_, _≤_, _<_}
+use native.Mathlib.Omega.{arith}
+use native.Mathlib.Decide.{decLt}
+use lib.Dec.{eqb}
+use lib.ListN.{length, length-append}
+use borrow.Author.Tests.{eq-eqb, ne-eqb, lt-ltb, le-ltb, lt-leb, le-leb}
+use Rattle.rules.specs.Bytes.{byteAt, part}
+use Rattle.rules.specs.Sectors.{sectorOf, sectorCount}
+use Rattle.rules.specs.Kind.{isProgram, isInternal, isVariable, programLength, kindOf}
+use Rattle.rules.specs.Map.{mapBit, zeroBits, freeCount}
+use Rattle.rules.specs.Descriptor.{nameOf, statusOf, sectorsOf, fileKind}
+use Rattle.rules.specs.Volume.{files}
+use Rattle.rules.specs.Verdict.{verdict}
+use Rattle.rules.specs.Outcome.{gives, refuses, judged}
+use Rattle.rules.specs.Calls.Listing.{digits, decimal, unpadded, kindWord, kindLength, diskLine, fileLine, fileLines, listingText, listingOf}
+use Rattle.rules.specs.declared.Kind.{Kind}
+use Rattle.rules.specs.declared.Kind.the-variants.{Program, Fixed, Variable}
+use Rattle.rules.proofs.Bytes.{part-short}
+use Rattle.rules.proofs.Sectors.{sector-below}
+use Rattle.rules.proofs.Verdict.{sound}
+
+-- digits: one, or those of the tenth part and one more
+pub digits-one : (fuel x : ℕ) → x < 10 → digits (suc fuel) x ≡ (48 + x) ∷ []
+unfolding digits
+digits-one fuel x h = rw (lt-ltb x 10 h)
+
+pub digits-more : (fuel x : ℕ) → 10 ≤ x → digits (suc fuel) x ≡ digits fuel (x / 10) ++ ((48 + x % 10) ∷ [])
+unfolding digits
+digits-more fuel x h = rw (le-ltb x 10 h)
+
+-- a number below ten to the d has at most d of them
+pub tenth-below : (d x : ℕ) → x < 10 ^ suc d → x / 10 < 10 ^ d
+tenth-below d x h = omega arith
+
+digits-short : (fuel d x : ℕ) → x < 10 ^ suc d → length (digits fuel x) ≤ suc d
+unfolding digits
+digits-short zero d x h = omega arith
+digits-short (suc fuel) zero x h = rw (lt-ltb x 10 (omega arith)) (omega arith)
+digits-short (suc fuel) (suc d) x h =
+    elim (decLt x 10) [
+      | yes one ↦ rw (lt-ltb x 10 one) (omega arith)
+      | no more ↦ rw (le-ltb x 10 (omega arith), length-append) (omega (arith, digits-short fuel d (x / 10) (tenth-below (suc d) x h)))
+    ]
+
+decimal-short : (d x : ℕ) → x < 10 ^ suc d → length (decimal x) ≤ suc d
+unfolding decimal
+decimal-short d x h = digits-short 20 d x h
+
+-- a name is no longer without its padding
+pub unpadded-short : (name : List ℕ) → length (unpadded name) ≤ length name
+unfolding unpadded
+unpadded-short [] = omega arith
+unpadded-short (b ∷ name) = test (eqb b 32) (unpadded-short name)
+  where
+    test : (t : Bool) → length (unpadded name) ≤ length name → length (cond t [] (b ∷ unpadded name)) ≤ length (b ∷ name)
+    test true h = omega arith
+    test false h = omega arith
+
+-- the map has 1,600 bits
+zero-bits-few : (sector0 : List ℕ) (many k : ℕ) → zeroBits sector0 many k ≤ many
+unfolding zeroBits
+zero-bits-few sector0 zero k = omega arith
+zero-bits-few sector0 (suc many) k = test (eqb (mapBit sector0 k) 0) (zero-bits-few sector0 many (k + 1))
+  where
+    test : (t : Bool) → zeroBits sector0 many (k + 1) ≤ many → cond t 1 0 + zeroBits sector0 many (k + 1) ≤ suc many
+    test true h = omega arith
+    test false h = omega arith
+
+pub free-few : (sector0 : List ℕ) → freeCount sector0 ≤ 1600
+unfolding freeCount
+free-few sector0 = zero-bits-few sector0 1600 0
+
+-- a kind: its word has seven bytes, and its length is below 256 × 65,536
+kind-word-long : (kind : Kind) → length (kindWord kind) ≡ 7
+unfolding kindWord
+kind-word-long (Program bytes) = refl
+kind-word-long (Fixed recordLength true) = refl
+kind-word-long (Fixed recordLength false) = refl
+kind-word-long (Variable recordLength true) = refl
+kind-word-long (Variable recordLength false) = refl
+
+kind-length-below : (status c endOffset recordLength : ℕ) → c < 65536 → endOffset < 256 → recordLength < 256 → kindLength (kindOf status c endOffset recordLength) < 16777216
+unfolding kindOf kindLength programLength
+kind-length-below status c endOffset recordLength hc he hr = test (isProgram status) (isVariable status)
+  where
+    test : (program variable : Bool)
+        → kindLength (cond program (Program (programLength c endOffset)) (cond variable (Variable recordLength (isInternal status)) (Fixed recordLength (isInternal status)))) < 16777216
+    test true variable = omega arith
+    test false true = omega arith
+    test false false = omega arith
+
+-- a file's line: 10 + 1 + 7 + 1 + 8 + 1 + 5 + 1 + 1 + 1
+file-line-short : (d : List ℕ) → ((i : ℕ) → byteAt d i < 256) → length (fileLine d) ≤ 36
+unfolding fileLine nameOf fileKind
+file-line-short d small =
+    let name = unpadded-short (part d 0 10) in
+    let ten = part-short d 0 10 in
+    let word = kind-word-long (fileKind d) in
+    let c : sectorsOf d < 65536 = omega (arith, small 14, small 15) in
+    let long = decimal-short 7 (kindLength (fileKind d)) (omega (arith, kind-length-below (statusOf d) (sectorsOf d) (byteAt d 16) (byteAt d 17) c (small 16) (small 17))) in
+    let many = decimal-short 4 (sectorsOf d) (omega arith) in
+    simp length-append (omega arith)
+
+file-lines-short : (image ks : List ℕ) → ((i : ℕ) → byteAt image i < 256) → length (fileLines image ks) ≤ 36 * length ks
+unfolding fileLines
+file-lines-short image [] small = omega arith
+file-lines-short image (k ∷ ks) small =
+    rw length-append (omega (arith, file-line-short (sectorOf image k) (sector-below image k 256 (omega arith) small), file-lines-short image ks small))
+
+-- the disk's line: 10 + 1 + 4 + 1 + 4 + 1
+disk-line-short : (image : List ℕ) → sectorCount image ≤ 1600 → length (diskLine image) ≤ 21
+unfolding diskLine
+disk-line-short image size =
+    let name = unpadded-short (part (sectorOf image 0) 0 10) in
+    let ten = part-short (sectorOf image 0) 0 10 in
+    let n = decimal-short 3 (sectorCount image) (omega arith) in
+    let free = decimal-short 3 (freeCount (sectorOf image 0)) (omega (arith, free-few (sectorOf image 0))) in
+    simp length-append (omega arith)
+
+-- and a volume has at most 127 files
+pub listing-short : (image : List ℕ) → ((i : ℕ) → byteAt image i < 256) → verdict image ≡ 0 → length (listingText image) ≤ 4593
+unfolding listingText files
+listing-short image small e =
+    let is = sound image e in
+    rw length-append (omega (arith, disk-line-short image (is .size .1), file-lines-short image (files image) small, is .index .few))
+
+-- the listing, for a buffer of `room` bytes: of an unsound image, where the text is too long, and where it fits
+module _ (image : List ℕ) (room : ℕ) where
+  pub listing-unsound : (verdict image ≡ 0 → ⊥) → listingOf image room ≡ refuses (verdict image)
+  unfolding listingOf judged
+  listing-unsound ne = rw (ne-eqb (verdict image) 0 ne)
+
+  pub listing-narrow : verdict image ≡ 0 → room < length (listingText image) → listingOf image room ≡ refuses 15
+  unfolding listingOf judged
+  listing-narrow e h = rw (eq-eqb (verdict image) 0 e, lt-leb (length (listingText image)) room h)
+
+  pub listing-fits : verdict image ≡ 0 → length (listingText image) ≤ room → listingOf image room ≡ gives (length (listingText image)) (listingText image)
+  unfolding listingOf judged
+  listing-fits e h = rw (eq-eqb (verdict image) 0 e, le-leb (length (listingText image)) room h)
