@@ -1,6 +1,33 @@
 // The C interface, documented in include/pnoelithe.h: thin functions over the calls, each with the promise of the call below it.
+// Each gives its number, 0 where it was done; what a call gives beside it is written behind the pointers lent for it, with number 0 only.
 ghost use mathlib.Core.Path.{_≡_};
+ghost use lib.ListN.{length};
+ghost use Rattle.rules.specs.Bytes.{splice};
+ghost use Rattle.rules.specs.Sectors.{sectorOf, sectorCount};
+ghost use Rattle.rules.specs.Descriptor.{statusOf, sectorsOf, fileKind};
+ghost use Rattle.rules.specs.Map.{freeCount};
+ghost use Rattle.rules.specs.Volume.{files};
+ghost use Rattle.rules.specs.Sound.{fileAt};
 ghost use Rattle.rules.specs.Verdict.{verdict};
+ghost use Rattle.rules.specs.Outcome.{behind};
+ghost use Rattle.rules.specs.Calls.Format.{formatNumber, afterFormat};
+ghost use Rattle.rules.specs.Calls.Free.{freeCountOf, summaryName};
+ghost use Rattle.rules.specs.Calls.Catalogue.{isProtected, entryOf};
+ghost use Rattle.rules.specs.Calls.Read.{readOf};
+ghost use Rattle.rules.specs.Calls.Load.{loadOf};
+ghost use Rattle.rules.specs.Calls.Listing.{kindLength, listingOf};
+ghost use Rattle.pnoelithe.specs.Crossing.{kindNumber, flag};
+
+mod crossing;
+
+use crossing::amount_number;
+use crossing::answer_number;
+use crossing::flag_of;
+use crossing::kind_length;
+use crossing::kind_number;
+use rules::Answer;
+use rules::Summary;
+use writing::format::Geometry;
 
 // The number 0 to 6 of an image.
 #[no_mangle]
@@ -8,4 +35,123 @@ pub extern "C" fn pno_judge(image: &[u8]) -> u32
     ensures { λ r. ⌜ r ≡ verdict (now (image .entry)) ⌝ }
 {
     judge::judge(image)
+}
+
+// An empty volume of n sectors.
+#[no_mangle]
+pub extern "C" fn pno_format(
+    image: &mut [u8],
+    n: usize,
+    name: &[u8],
+    sectors_per_track: u8,
+    tracks: u8,
+    sides: u8,
+    density: u8,
+) -> u32
+    ensures { λ r. ⌜ (r ≡ formatNumber (now (image .entry)) n (now (name .entry))) × (now (image .exit) ≡ afterFormat (now (image .entry)) n (now (name .entry)) (record { sectorsPerTrack = «sectors_per_track»; tracks = tracks; sides = sides; density = density })) ⌝ }
+{
+    let geometry = Geometry {
+        sectors_per_track,
+        tracks,
+        sides,
+        density,
+    };
+    answer_number(writing::format::format(image, n, name, geometry))
+}
+
+// The number of free sectors.
+#[no_mangle]
+pub extern "C" fn pno_free_count(image: &[u8], free: &mut usize) -> u32
+    ensures { λ r. ⌜ (r ≡ freeCountOf (now (image .entry)) .number) × (now (free .exit) ≡ behind r (freeCountOf (now (image .entry)) .value) (now (free .entry))) ⌝ }
+{
+    amount_number(reading::free_count(image), free)
+}
+
+// Disk name, number of sectors, of files, and of free sectors.
+#[no_mangle]
+pub extern "C" fn pno_summary(
+    image: &[u8],
+    name: &mut [u8; 10],
+    sectors: &mut usize,
+    count: &mut usize,
+    free: &mut usize,
+) -> u32
+    ensures number { λ r. ⌜ r ≡ verdict (now (image .entry)) ⌝ }
+    ensures name { λ _. ⌜ now (name .exit) ≡ splice (now (name .entry)) 0 (summaryName (now (image .entry))) ⌝ }
+    ensures sectors { λ r. ⌜ now (sectors .exit) ≡ behind r (sectorCount (now (image .entry))) (now (sectors .entry)) ⌝ }
+    ensures count { λ r. ⌜ now (count .exit) ≡ behind r (length (files (now (image .entry)))) (now (count .entry)) ⌝ }
+    ensures free { λ r. ⌜ now (free .exit) ≡ behind r (freeCount (sectorOf (now (image .entry)) 0)) (now (free .entry)) ⌝ }
+{
+    let summary = reading::summary(image, name);
+    match summary {
+        Summary::Refused(number) => number,
+        Summary::Given {
+            sectors: n,
+            files: listed,
+            free: zeros,
+        } => {
+            *sectors = n;
+            *count = listed;
+            *free = zeros;
+            0
+        }
+    }
+}
+
+// A catalogue entry: the 28 header bytes, and the row's numbers.
+#[no_mangle]
+pub extern "C" fn pno_entry(
+    image: &[u8],
+    place: usize,
+    header: &mut [u8],
+    kind: &mut usize,
+    size: &mut usize,
+    sectors: &mut usize,
+    is_protected: &mut usize,
+) -> u32
+    ensures number { λ r. ⌜ r ≡ entryOf (now (image .entry)) place (length (now (header .entry))) .number ⌝ }
+    ensures header { λ _. ⌜ now (header .exit) ≡ splice (now (header .entry)) 0 (entryOf (now (image .entry)) place (length (now (header .entry))) .bytes) ⌝ }
+    ensures kind { λ r. ⌜ now (kind .exit) ≡ behind r (kindNumber (fileKind (sectorOf (now (image .entry)) (fileAt (now (image .entry)) place)))) (now (kind .entry)) ⌝ }
+    ensures size { λ r. ⌜ now (size .exit) ≡ behind r (kindLength (fileKind (sectorOf (now (image .entry)) (fileAt (now (image .entry)) place)))) (now (size .entry)) ⌝ }
+    ensures sectors { λ r. ⌜ now (sectors .exit) ≡ behind r (sectorsOf (sectorOf (now (image .entry)) (fileAt (now (image .entry)) place))) (now (sectors .entry)) ⌝ }
+    ensures protection { λ r. ⌜ now («is_protected» .exit) ≡ behind r (flag (isProtected (statusOf (sectorOf (now (image .entry)) (fileAt (now (image .entry)) place))))) (now («is_protected» .entry)) ⌝ }
+{
+    let entry = reading::entry(image, place, header);
+    let answer = entry.answer;
+    let row = entry.row;
+    match answer {
+        Answer::Refused(number) => number,
+        Answer::Done => {
+            let sort = row.kind;
+            *kind = kind_number(sort);
+            *size = kind_length(sort);
+            *sectors = row.sectors;
+            *is_protected = flag_of(row.protected);
+            0
+        }
+    }
+}
+
+// A sector of a file.
+#[no_mangle]
+pub extern "C" fn pno_read(image: &[u8], name: &[u8], offset: usize, out: &mut [u8]) -> u32
+    ensures { λ r. ⌜ (r ≡ readOf (now (image .entry)) (now (name .entry)) offset (length (now (out .entry))) .number) × (now (out .exit) ≡ splice (now (out .entry)) 0 (readOf (now (image .entry)) (now (name .entry)) offset (length (now (out .entry))) .bytes)) ⌝ }
+{
+    answer_number(reading::read(image, name, offset, out))
+}
+
+// A program's bytes and their number.
+#[no_mangle]
+pub extern "C" fn pno_load(image: &[u8], name: &[u8], out: &mut [u8], size: &mut usize) -> u32
+    ensures { λ r. ⌜ (r ≡ loadOf (now (image .entry)) (now (name .entry)) (length (now (out .entry))) .number) × (now (out .exit) ≡ splice (now (out .entry)) 0 (loadOf (now (image .entry)) (now (name .entry)) (length (now (out .entry))) .bytes)) × (now (size .exit) ≡ behind r (loadOf (now (image .entry)) (now (name .entry)) (length (now (out .entry))) .value) (now (size .entry))) ⌝ }
+{
+    amount_number(reading::load(image, name, out), size)
+}
+
+// The catalogue program's text and its length.
+#[no_mangle]
+pub extern "C" fn pno_listing(image: &[u8], out: &mut [u8], size: &mut usize) -> u32
+    ensures { λ r. ⌜ (r ≡ listingOf (now (image .entry)) (length (now (out .entry))) .number) × (now (out .exit) ≡ splice (now (out .entry)) 0 (listingOf (now (image .entry)) (length (now (out .entry))) .bytes)) × (now (size .exit) ≡ behind r (listingOf (now (image .entry)) (length (now (out .entry))) .value) (now (size .entry))) ⌝ }
+{
+    amount_number(listing::listing(image, out), size)
 }

@@ -1,0 +1,22 @@
+-- `pnoelithe::crossing::answer_number` meets its contract. Assumes nothing.
+use Rattle.rules.specs.Outcome.{answerNumber}
+use borrow.Author.Needs.{needs}
+use Rattle.pnoelithe.proofs.crossing.answer_number.Statement.{statement}
+use Rattle.pnoelithe.proofs.crossing.answer_number.Tie as tie
+
+enum-told : tie.Need-enum-told
+enum-told c = search needs
+
+enum-known-answer : tie.Need-enum-known-answer
+enum-known-answer c = search needs
+
+returns : tie.Need-returns
+unfolding answerNumber
+returns c = rw (c .enum-told .given .1)
+
+returns-2 : tie.Need-returns-2
+unfolding answerNumber
+returns-2 c = rw (c .before .answer .given .1)
+
+pub answer-number-spec : {M : Type 1} → statement M
+answer-number-spec = tie.close (tie.spec enum-told enum-known-answer returns returns-2)

@@ -1,0 +1,47 @@
+-- `pnoelithe::crossing::kind_number` meets its contract. Assumes nothing.
+use Rattle.pnoelithe.specs.Crossing.{kindNumber}
+use borrow.Author.Needs.{needs}
+use Rattle.pnoelithe.proofs.crossing.kind_number.Statement.{statement}
+use Rattle.pnoelithe.proofs.crossing.kind_number.Tie as tie
+
+enum-told : tie.Need-enum-told
+enum-told c = search needs
+
+enum-known-kind : tie.Need-enum-known-kind
+enum-known-kind c = search needs
+
+returns : tie.Need-returns
+unfolding kindNumber
+returns c = rw (c .before .before .kind .given .1, c .if1 .taken)
+
+enum-known-kind-2 : tie.Need-enum-known-kind-2
+enum-known-kind-2 c = search needs
+
+returns-2 : tie.Need-returns-2
+unfolding kindNumber
+returns-2 c = rw (c .before .before .kind2 .given .1, c .if2 .taken)
+
+returns-3 : tie.Need-returns-3
+unfolding kindNumber
+returns-3 c = rw (c .enum-told .given .1)
+
+returns-4 : tie.Need-returns-4
+unfolding kindNumber
+returns-4 c = rw (c .before .before .kind .given .1, c .if1 .left)
+
+returns-5 : tie.Need-returns-5
+unfolding kindNumber
+returns-5 c = rw (c .before .before .kind2 .given .1, c .if2 .left)
+
+pub kind-number-spec : {M : Type 1} → statement M
+kind-number-spec =
+    tie.close
+    (tie.spec
+    enum-told
+    enum-known-kind
+    returns
+    enum-known-kind-2
+    returns-2
+    returns-3
+    returns-4
+    returns-5)
