@@ -1,14 +1,15 @@
 //! Compares the library with both judges of this folder on many thousand images, and all three
-//! with the number that the paper gives where the image was built to have one.
+//! with the number that the paper gives where the image was built to have one; then its other
+//! calls with the reference and with the plans of disks.
 //!
-//! `compare [--images N] [--seed S] [IMAGE...]`
+//! `compare [--images N] [--calls N] [--seed S] [IMAGE...]`
 
 use host::random::Random;
 use host::reference::{self, Descriptor, Form, Kind};
-use host::suites::{edges_of_a_block, of_every_value, Batch};
+use host::suites::{edges_of_a_block, of_every_value, Batch, Image};
 use host::volumes::{Disk, File, MOST_BLOCKS, MOST_FILES, MOST_SECTORS, SECTOR_BYTES};
-use host::{library, tuned};
-use std::path::{Path, PathBuf};
+use host::{calls, library, tuned};
+use std::path::PathBuf;
 use std::process::ExitCode;
 
 /// How many images a number must at least have been given for.
@@ -29,17 +30,20 @@ fn main() -> ExitCode {
 
 struct Arguments {
     images: u64,
+    calls: u64,
     seed: u64,
     files: Vec<PathBuf>,
 }
 
 impl Arguments {
     fn read() -> Result<Self, String> {
-        let mut arguments = Arguments { images: 200_000, seed: 1, files: Vec::new() };
+        let mut arguments =
+            Arguments { images: 200_000, calls: 200_000, seed: 1, files: Vec::new() };
         let mut words = std::env::args().skip(1);
         while let Some(word) = words.next() {
             match word.as_str() {
                 "--images" => arguments.images = number_after(&word, words.next())?,
+                "--calls" => arguments.calls = number_after(&word, words.next())?,
                 "--seed" => arguments.seed = number_after(&word, words.next())?,
                 _ => arguments.files.push(PathBuf::from(word)),
             }
@@ -54,6 +58,33 @@ fn number_after(word: &str, next: Option<String>) -> Result<u64, String> {
 }
 
 fn run(arguments: &Arguments) -> Result<(), String> {
+    let outside = read_files(&arguments.files)?;
+    compare_images(arguments, &outside)?;
+    println!();
+    compare_calls(arguments, &outside)
+}
+
+/// An image from outside, with what is expected of it where that lies beside it.
+struct Outside {
+    name: String,
+    image: Vec<u8>,
+    /// The lines of its catalogue, and what the catalogue program prints for it.
+    rows: Option<String>,
+    program: Option<String>,
+}
+
+fn read_files(paths: &[PathBuf]) -> Result<Vec<Outside>, String> {
+    let outside = |path: &PathBuf| {
+        let name = path.file_name().unwrap_or_default().to_string_lossy().into_owned();
+        let image =
+            std::fs::read(path).map_err(|error| format!("{}: {}", path.display(), error))?;
+        let beside = |ending| std::fs::read_to_string(path.with_extension(ending)).ok();
+        Ok(Outside { name, image, rows: beside("rows.txt"), program: beside("program.txt") })
+    };
+    paths.iter().map(outside).collect()
+}
+
+fn compare_images(arguments: &Arguments, outside: &[Outside]) -> Result<(), String> {
     let mut comparison = Comparison::new(arguments.seed);
     let random = &mut Random::new(arguments.seed);
     for batch in of_every_value(random) {
@@ -73,15 +104,48 @@ fn run(arguments: &Arguments) -> Result<(), String> {
         let sectors = random.within(sizes.clone());
         comparison.batch(&Batch::of_any_shape(sectors, CHANGES, random))?;
     }
-    for file in &arguments.files {
-        comparison.file(file)?;
+    for outside in outside {
+        comparison.outside(outside)?;
     }
     comparison.report()
 }
 
+fn compare_calls(arguments: &Arguments, outside: &[Outside]) -> Result<(), String> {
+    let mut comparison = calls::Comparison::new(arguments.seed);
+    comparison.run(arguments.calls)?;
+    for outside in outside {
+        comparison.outside(&outside.name, &outside.image)?;
+        compare_text(outside)?;
+    }
+    comparison.report()
+}
+
+/// The listings of an image from outside beside the texts that came with it.
+fn compare_text(outside: &Outside) -> Result<(), String> {
+    let Outside { name, image, rows, program } = outside;
+    let same = |expected: &Option<String>, found: String| {
+        expected.as_ref().map_or(true, |expected| *expected == found)
+    };
+    if !same(rows, library_lists(image)) {
+        return Err(format!("the library lists {} otherwise than is expected", name));
+    }
+    if !same(program, reference::catalogue(image)) {
+        return Err(format!("the reference lists {} otherwise than is expected", name));
+    }
+    Ok(())
+}
+
+fn library_lists(image: &[u8]) -> String {
+    let (mut text, mut length) = (vec![0; 10_000], 0);
+    match library::listing(&mut image.to_vec(), &mut text, &mut length) {
+        0 => String::from_utf8_lossy(&text[..length]).into_owned(),
+        number => format!("REFUSED {}\n", number),
+    }
+}
+
 struct Comparison {
     seed: u64,
-    /// The image under test, with bytes after it for lengths that are too great.
+    /// Where the images are laid.
     buffer: Vec<u8>,
     /// How many images each number was given for.
     given: [u64; 7],
@@ -100,55 +164,39 @@ impl Comparison {
         self.given.iter().sum()
     }
 
-    /// The disk as it stands, then each of its changes.
     fn batch(&mut self, batch: &Batch) -> Result<(), String> {
-        let image = &batch.disk.image;
-        self.buffer[..image.len()].copy_from_slice(image);
-        self.image("disk as built", image.len(), Some(batch.number))?;
+        let mut buffer = std::mem::take(&mut self.buffer);
+        batch.each_image(&mut buffer, |image| self.image(image))?;
+        self.buffer = buffer;
         if batch.number == 0 {
             self.seen.count(&batch.disk);
             reads_back(&batch.disk).ok_or("the reference reads other files than were planned")?;
         }
-        for change in &batch.changes {
-            for edit in &change.edits {
-                self.buffer[edit.at..][..edit.bytes.len()].copy_from_slice(&edit.bytes);
-            }
-            self.image(change.what, change.length, change.number)?;
-            for edit in &change.edits {
-                let bytes = edit.at..edit.at + edit.bytes.len();
-                self.buffer[bytes.clone()].copy_from_slice(&image[bytes]);
-            }
-        }
         Ok(())
     }
 
-    /// The first `length` bytes of the buffer, and the number that the paper gives for them.
-    fn image(&mut self, what: &str, length: usize, paper: Option<u32>) -> Result<(), String> {
-        let image = &self.buffer[..length];
-        let given = Given::of(image);
-        if !given.agree_with(paper) {
-            return Err(self.difference(what, image, &given, paper));
+    fn image(&mut self, image: &Image) -> Result<(), String> {
+        let given = Given::of(image.bytes);
+        if !given.agree_with(image.number) {
+            return Err(self.difference(image, &given));
         }
         self.given[given.library as usize] += 1;
-        self.known += u64::from(paper.is_some());
+        self.known += u64::from(image.number.is_some());
         Ok(())
     }
 
-    fn difference(&self, what: &str, image: &[u8], given: &Given, paper: Option<u32>) -> String {
-        let kept = keep(image).unwrap_or_else(|error| format!("no file: {}", error));
-        let paper = paper.map_or("not settled".to_string(), |number| number.to_string());
-        let case = format!("difference in \"{}\": {}, by the paper {}", what, given, paper);
+    fn difference(&self, image: &Image, given: &Given) -> String {
+        let paper = image.number.map_or("not settled".to_string(), |number| number.to_string());
+        let case = format!("difference in \"{}\": {}, by the paper {}", image.what, given, paper);
         let nth = self.compared() + 1;
-        format!("{}\n  seed {}, image {} of it, kept as {}", case, self.seed, nth, kept)
+        format!("{}\n  seed {}, image {} of it, kept as {}", case, self.seed, nth, image.keep())
     }
 
-    fn file(&mut self, path: &Path) -> Result<(), String> {
-        let image =
-            std::fs::read(path).map_err(|error| format!("{}: {}", path.display(), error))?;
-        let given = Given::of(&image);
-        println!("{}: {}", path.file_name().unwrap_or_default().to_string_lossy(), given);
+    fn outside(&mut self, outside: &Outside) -> Result<(), String> {
+        let given = Given::of(&outside.image);
+        println!("{}: {}", outside.name, given);
         if !given.agree_with(None) {
-            return Err(format!("difference in {}", path.display()));
+            return Err(format!("difference in {}", outside.name));
         }
         self.given[given.library as usize] += 1;
         Ok(())
@@ -196,13 +244,6 @@ impl std::fmt::Display for Given {
         let Given { library, reference, tuned } = self;
         write!(out, "library {}, reference {}, tuned {}", library, reference, tuned)
     }
-}
-
-/// Writes an image beside this program and gives the file's name.
-fn keep(image: &[u8]) -> std::io::Result<String> {
-    let path = std::env::current_exe()?.with_file_name("difference.dsk");
-    std::fs::write(&path, image)?;
-    Ok(path.display().to_string())
 }
 
 /// Whether the reference finds the files of a sound disk as they were planned.

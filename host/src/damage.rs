@@ -115,7 +115,7 @@ fn in_chain(file: &File, block: usize) -> usize {
 const NO_LETTERS: [u8; 7] = [0, 31, 46, 127, 128, 160, 255];
 
 /// Names that differ from a given one in one place, and blank ones.
-fn changed_names(name: Name, random: &mut Random) -> Vec<Name> {
+pub(crate) fn changed_names(name: Name, random: &mut Random) -> Vec<Name> {
     let mut changed = vec![[32; 10], [0; 10], *b" A        ", *b"A B       ", *b"A.B       "];
     for place in 0..10 {
         for byte in [random.pick(&NO_LETTERS), 32, random.pick(&[33, 45, 47, 126])] {

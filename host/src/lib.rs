@@ -1,6 +1,7 @@
-//! What the two programs of this folder share: three judges of document 01, and the images that
-//! they are held to.
+//! What the programs of this folder share: three judges of document 01, its calls twice, and the
+//! images that all of them are held to.
 
+pub mod calls;
 pub mod damage;
 pub mod library;
 pub mod random;

@@ -1,9 +1,18 @@
-//! Document 01 in safe Rust, written from the paper alone and for the reader: the judge that the
-//! library is compared with and measured against. `volume` reads bytes by the layout and refuses
-//! nothing; `judge` holds what was read to the rules, in the order of the paper's numbers.
+//! Document 01 in safe Rust, written from the paper alone and for the reader: what the library is
+//! compared with and measured against. `volume` reads bytes by the layout and refuses nothing;
+//! `judge` holds what was read to the rules, in the order of the paper's numbers. The calls stand
+//! on both: an answer is a value, and what it has to fit into comes as a length.
 
+mod format;
 mod judge;
+mod listing;
+mod reading;
+mod refusal;
 mod volume;
 
-pub use judge::{judge, number, Refusal};
+pub use format::{format, Geometry};
+pub use judge::{judge, number};
+pub use listing::{catalogue, listing};
+pub use reading::{entry, free_count, load, read, summary, Entry, Row, Summary};
+pub use refusal::Refusal;
 pub use volume::{Block, Chain, Descriptor, Form, Index, Kind, Label, Name, Sector, Volume};

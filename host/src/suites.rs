@@ -13,7 +13,56 @@ pub struct Batch {
     pub changes: Vec<Change>,
 }
 
+/// One image of a batch.
+pub struct Image<'batch> {
+    /// What was done to the disk, for a report.
+    pub what: &'batch str,
+    pub bytes: &'batch [u8],
+    /// The paper's number, where it is settled.
+    pub number: Option<u32>,
+    /// The disk, where it is sound and the image is as planned.
+    pub planned: Option<&'batch Disk>,
+}
+
+impl Image<'_> {
+    /// Writes the image beside this program and says where.
+    pub fn keep(&self) -> String {
+        let kept = std::env::current_exe().and_then(|program| {
+            let path = program.with_file_name("difference.dsk");
+            std::fs::write(&path, self.bytes)?;
+            Ok(path.display().to_string())
+        });
+        kept.unwrap_or_else(|error| format!("no file: {}", error))
+    }
+}
+
 impl Batch {
+    /// The disk as it stands, then each of its changes. They are laid into the start of a buffer,
+    /// where bytes after them serve for lengths that are too great.
+    pub fn each_image(
+        &self,
+        buffer: &mut [u8],
+        mut each: impl FnMut(&Image) -> Result<(), String>,
+    ) -> Result<(), String> {
+        let image = &self.disk.image;
+        buffer[..image.len()].copy_from_slice(image);
+        let planned = (self.number == 0).then_some(&self.disk);
+        let bytes = &buffer[..image.len()];
+        each(&Image { what: "disk as built", bytes, number: Some(self.number), planned })?;
+        for change in &self.changes {
+            for edit in &change.edits {
+                buffer[edit.at..][..edit.bytes.len()].copy_from_slice(&edit.bytes);
+            }
+            let bytes = &buffer[..change.length];
+            each(&Image { what: change.what, bytes, number: change.number, planned: None })?;
+            for edit in &change.edits {
+                let bytes = edit.at..edit.at + edit.bytes.len();
+                buffer[bytes.clone()].copy_from_slice(&image[bytes]);
+            }
+        }
+        Ok(())
+    }
+
     fn of_sound(disk: Disk, damage: impl FnOnce(&mut Damage)) -> Self {
         let mut collected = Damage::new(&disk);
         damage(&mut collected);
@@ -28,6 +77,14 @@ impl Batch {
         random.shuffle(&mut batch.changes);
         batch.changes.truncate(changes);
         batch
+    }
+
+    /// A full disk of few files, which are therefore long.
+    pub fn of_long_files(random: &mut Random) -> Self {
+        let sectors = random.within(MOST_SECTORS / 2..=MOST_SECTORS);
+        let files = random.within(1..=3);
+        let disk = Shape::full(sectors, files, MOST_BLOCKS, Order::Shuffled).build(random);
+        Batch { disk, number: 0, changes: Vec::new() }
     }
 
     /// A small disk whose files lie anywhere, over one another and past the end.

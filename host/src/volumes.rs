@@ -14,6 +14,8 @@ pub const HEADER_BYTES: usize = 28;
 pub const DATA_STATUS: [u8; 8] = [0x00, 0x02, 0x08, 0x0A, 0x80, 0x82, 0x88, 0x8A];
 pub const PROGRAM_STATUS: [u8; 2] = [0x01, 0x09];
 
+const EDGES: [u8; 3] = [0, 1, 255];
+
 pub type Name = [u8; 10];
 
 /// Consecutive sectors of the disk: what one block of a chain stands for.
@@ -44,6 +46,12 @@ impl File {
     pub fn new(name: Name, descriptor: usize, runs: Vec<Run>, random: &mut Random) -> Self {
         let mut header = [0; HEADER_BYTES];
         random.fill(&mut header);
+        if header[27] % 2 == 0 {
+            // The end offset and the record length at an edge. Bytes that are there already say
+            // which, so that it takes no further numbers from the generator.
+            header[16] = EDGES[usize::from(header[26]) % EDGES.len()];
+            header[17] = EDGES[usize::from(header[25]) % EDGES.len()];
+        }
         header[..10].copy_from_slice(&name);
         let program = !runs.is_empty() && random.once_in(3);
         header[12] = random.pick(if program { &PROGRAM_STATUS } else { &DATA_STATUS });

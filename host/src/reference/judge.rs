@@ -1,19 +1,9 @@
 //! The judge: numbers 0 to 6 of document 01. Each test looks at the whole image and is only met
 //! by an image that passed those before it, so a reading never leaves the image.
 
+use super::refusal::{holds, Refusal};
 use super::volume::{Block, Chain, Descriptor, Name, Volume};
 use super::volume::{MOST_SECTORS, SECTOR_BYTES};
-
-/// Why an image is no sound volume; each case stands for the paper's number.
-#[derive(Clone, Copy, Debug, PartialEq, Eq)]
-pub enum Refusal {
-    Length = 1,
-    Label = 2,
-    Index = 3,
-    Descriptor = 4,
-    TwoHolders = 5,
-    Map = 6,
-}
 
 /// The sound volume that an image is, or the first refusal in the paper's order.
 pub fn judge(image: &[u8]) -> Result<Volume<'_>, Refusal> {
@@ -30,23 +20,18 @@ pub fn judge(image: &[u8]) -> Result<Volume<'_>, Refusal> {
 pub fn number(image: &[u8]) -> u32 {
     match judge(image) {
         Ok(_) => 0,
-        Err(refusal) => refusal as u32,
-    }
-}
-
-fn holds(rule: bool, refusal: Refusal) -> Result<(), Refusal> {
-    if rule {
-        Ok(())
-    } else {
-        Err(refusal)
+        Err(refusal) => refusal.number(),
     }
 }
 
 fn judge_length(image: &[u8]) -> Result<Volume<'_>, Refusal> {
-    let volume = Volume::new(image);
-    let whole = image.len() % SECTOR_BYTES == 0;
-    holds(whole && (3..=MOST_SECTORS).contains(&volume.sectors()), Refusal::Length)?;
-    Ok(volume)
+    holds(is_length(image.len()), Refusal::Length)?;
+    Ok(Volume::new(image))
+}
+
+/// Whether an image of so many bytes can be a volume.
+pub(super) fn is_length(bytes: usize) -> bool {
+    bytes % SECTOR_BYTES == 0 && (3..=MOST_SECTORS).contains(&(bytes / SECTOR_BYTES))
 }
 
 fn judge_label(volume: Volume) -> Result<(), Refusal> {
@@ -85,7 +70,7 @@ fn is_descriptor(descriptor: Descriptor, sectors: usize) -> bool {
         && descriptor.kind().is_some()
 }
 
-fn is_name(name: &Name) -> bool {
+pub(super) fn is_name(name: &Name) -> bool {
     let used = name.iter().take_while(|byte| **byte != b' ').count();
     let (used, padding) = name.split_at(used);
     !used.is_empty()

@@ -5,6 +5,7 @@ use std::ops::Range;
 
 pub const SECTOR_BYTES: usize = 256;
 pub const MOST_SECTORS: usize = 1600;
+pub const HEADER_BYTES: usize = 28;
 
 pub type Sector = [u8; SECTOR_BYTES];
 
@@ -66,6 +67,11 @@ impl<'image> Label<'image> {
     pub fn map(self) -> impl Iterator<Item = &'static [bool; 8]> + 'image {
         self.0[56..].iter().map(|byte| &BITS[usize::from(*byte)])
     }
+
+    /// The free count: how many bits of the map are zero.
+    pub fn free_sectors(self) -> usize {
+        self.map().flatten().filter(|taken| !**taken).count()
+    }
 }
 
 /// Sector 1.
@@ -93,6 +99,11 @@ impl<'image> Descriptor<'image> {
     pub const INTERNAL: u8 = 0x02;
     pub const PROTECTED: u8 = 0x08;
     pub const VARIABLE: u8 = 0x80;
+
+    /// Bytes 0 to 27.
+    pub fn header(self) -> &'image [u8; HEADER_BYTES] {
+        array(self.0)
+    }
 
     pub fn name(self) -> &'image Name {
         array(self.0)
@@ -127,7 +138,7 @@ impl<'image> Descriptor<'image> {
     }
 
     pub fn chain(self) -> Chain<'image> {
-        Chain(&self.0[28..])
+        Chain(&self.0[HEADER_BYTES..])
     }
 }
 
@@ -136,6 +147,18 @@ pub enum Kind {
     Program { length: usize },
     Fixed { record_length: u8, form: Form },
     Variable { record_length: u8, form: Form },
+}
+
+impl Kind {
+    /// What a catalogue gives as the length: a program's bytes, or else the record length.
+    pub fn length(self) -> usize {
+        match self {
+            Kind::Program { length } => length,
+            Kind::Fixed { record_length, .. } | Kind::Variable { record_length, .. } => {
+                usize::from(record_length)
+            }
+        }
+    }
 }
 
 #[derive(Clone, Copy, Debug, PartialEq, Eq)]

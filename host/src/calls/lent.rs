@@ -1,0 +1,104 @@
+//! The memory that is lent to one call of the library, so that all of it can be looked at after.
+
+use super::{Call, Written};
+use crate::library;
+use crate::random::Random;
+
+/// How many bytes lie before and behind each part that is lent, and must stay as they are. It is
+/// odd, so that no part begins where a machine would like it to.
+const MARGIN: usize = 21;
+
+/// Bytes in memory, of which some are lent.
+#[derive(Clone, PartialEq, Eq)]
+struct Part {
+    bytes: Vec<u8>,
+    length: usize,
+}
+
+impl Part {
+    /// The first `length` of the bytes are lent.
+    fn of(bytes: &[u8], length: usize, random: &mut Random) -> Self {
+        let bytes = [&random.bytes(MARGIN), bytes, &random.bytes(MARGIN)].concat();
+        Part { bytes, length }
+    }
+
+    fn lent(&mut self) -> &mut [u8] {
+        &mut self.bytes[MARGIN..][..self.length]
+    }
+
+    /// Where this and another part first differ.
+    fn difference(&self, what: &str, expected: &Part) -> Option<String> {
+        let mut pairs = self.bytes.iter().zip(&expected.bytes);
+        let place = pairs.position(|(found, expected)| found != expected)?;
+        let (found, expected) = (self.bytes[place], expected.bytes[place]);
+        let place = place as isize - MARGIN as isize;
+        let of = self.length;
+        Some(format!("{} byte {} (of {}): {}, not {}", what, place, of, found, expected))
+    }
+}
+
+#[derive(Clone, PartialEq, Eq)]
+pub(super) struct Lent {
+    image: Part,
+    name: Part,
+    buffer: Part,
+    /// Behind the pointers, in the order of the C interface.
+    numbers: [usize; 4],
+}
+
+impl Lent {
+    /// Everything that the call is to write into is random before.
+    pub(super) fn to(call: &Call, image: &[u8], random: &mut Random) -> Self {
+        let buffer = random.bytes(call.room());
+        let name = call.name();
+        Lent {
+            image: Part::of(image, image.len(), random),
+            name: Part::of(
+                name.map_or(&[], |name| &name.bytes),
+                name.map_or(0, |name| name.length),
+                random,
+            ),
+            buffer: Part::of(&buffer, buffer.len(), random),
+            numbers: [(); 4].map(|()| random.number() as usize),
+        }
+    }
+
+    /// The library's number.
+    pub(super) fn call(&mut self, call: &Call) -> u32 {
+        let (image, name) = (self.image.lent(), self.name.lent());
+        let buffer = self.buffer.lent();
+        let [first, second, third, fourth] = &mut self.numbers;
+        match call {
+            Call::Judge => library::judge(image),
+            Call::Format { n, geometry, .. } => library::format(image, *n, name, *geometry),
+            Call::FreeCount => library::free_count(image, first),
+            Call::Summary => {
+                let disk_name = buffer.try_into().expect("ten bytes");
+                library::summary(image, disk_name, first, second, third)
+            }
+            Call::Entry { place, .. } => {
+                library::entry(image, *place, buffer, first, second, third, fourth)
+            }
+            Call::Read { offset, .. } => library::read(image, name, *offset, buffer),
+            Call::Load { .. } => library::load(image, name, buffer, first),
+            Call::Listing { .. } => library::listing(image, buffer, first),
+        }
+    }
+
+    /// Lays down what a call that is done must have written.
+    pub(super) fn write(&mut self, call: &Call, written: &Written) {
+        let into = if let Call::Format { .. } = call { &mut self.image } else { &mut self.buffer };
+        into.lent()[..written.bytes.len()].copy_from_slice(&written.bytes);
+        self.numbers[..written.numbers.len()].copy_from_slice(&written.numbers);
+    }
+
+    /// Where the memory first is not what it is expected to be.
+    pub(super) fn difference(&self, expected: &Lent) -> Option<String> {
+        let parts = self.image.difference("image", &expected.image);
+        let parts = parts.or_else(|| self.name.difference("name", &expected.name));
+        let parts = parts.or_else(|| self.buffer.difference("buffer", &expected.buffer));
+        let differs = self.numbers != expected.numbers;
+        let numbers = || format!("numbers {:?}, not {:?}", self.numbers, expected.numbers);
+        parts.or_else(|| differs.then(numbers))
+    }
+}

@@ -1,0 +1,116 @@
+//! Writes inputs for the catalogue program into a folder, each with what the program must print:
+//! `NAME.dsk` and `NAME.program.txt`. To those made here come the images that are given.
+//!
+//! `inputs FOLDER [IMAGE...]`
+
+use host::calls::lines;
+use host::random::Random;
+use host::reference::catalogue;
+use host::suites::Batch;
+use host::volumes::{Disk, Order, Shape, MOST_FILES, MOST_SECTORS, SECTOR_BYTES};
+use std::path::{Path, PathBuf};
+use std::process::ExitCode;
+
+/// The sectors of an image of 65,536 bytes, the longest that the program takes.
+const MOST_TAKEN: usize = 256;
+const CHANGES: usize = 200;
+
+fn main() -> ExitCode {
+    let mut words = std::env::args().skip(1).map(PathBuf::from);
+    let folder = words.next().ok_or_else(|| "a folder?".to_string());
+    let done = folder.and_then(|folder| {
+        inputs()?.iter().try_for_each(|input| input.write(&folder))?;
+        words.try_for_each(|path| Input::of_file(&path)?.write(&folder))
+    });
+    match done {
+        Ok(()) => ExitCode::SUCCESS,
+        Err(message) => {
+            eprintln!("inputs: {}", message);
+            ExitCode::FAILURE
+        }
+    }
+}
+
+struct Input {
+    name: String,
+    bytes: Vec<u8>,
+}
+
+impl Input {
+    fn new(name: &str, bytes: &[u8]) -> Self {
+        Input { name: name.to_string(), bytes: bytes.to_vec() }
+    }
+
+    fn of_file(path: &Path) -> Result<Self, String> {
+        let bytes =
+            std::fs::read(path).map_err(|error| format!("{}: {}", path.display(), error))?;
+        let name = path.file_stem().unwrap_or_default().to_string_lossy();
+        Ok(Input::new(&name, &bytes))
+    }
+
+    fn write(&self, folder: &Path) -> Result<(), String> {
+        let path = folder.join(format!("{}.dsk", self.name));
+        let expected = catalogue(&self.bytes);
+        std::fs::write(&path, &self.bytes)
+            .and_then(|()| std::fs::write(path.with_extension("program.txt"), expected))
+            .map_err(|error| format!("{}: {}", path.display(), error))
+    }
+}
+
+fn inputs() -> Result<Vec<Input>, String> {
+    let random = &mut Random::new(1);
+    let mut inputs = Vec::new();
+    for (name, disk) in sound_disks(random) {
+        let taken = disk.sectors <= MOST_TAKEN;
+        let planned = if taken { lines(&disk) } else { "REFUSED 1\n".to_string() };
+        if catalogue(&disk.image) != planned {
+            return Err(format!("{}: the reference lists other lines than were planned", name));
+        }
+        inputs.push(Input { name, bytes: disk.image });
+    }
+    inputs.extend(of_no_volume(random));
+    inputs.extend(unsound(random)?);
+    Ok(inputs)
+}
+
+/// Disks of the greatest length that is taken, of the next one, and of other sizes.
+fn sound_disks(random: &mut Random) -> Vec<(String, Disk)> {
+    let mut disks = Vec::new();
+    let mut add = |name: &str, shape: Shape, random: &mut Random| {
+        disks.push((name.to_string(), shape.build(random)));
+    };
+    let order = Order::Shuffled;
+    add("65536-many-files", Shape::full(MOST_TAKEN, MOST_FILES, 1, order), random);
+    add("65536-few-files", Shape::full(MOST_TAKEN, 5, 20, order), random);
+    add("65792-sound-but-too-long", Shape::full(MOST_TAKEN + 1, 5, 20, order), random);
+    add("longest-volume", Shape::full(MOST_SECTORS, MOST_FILES, 8, order), random);
+    for sectors in [3, 4, 8, 34, 35, 64, 90, 100, 150, 180, 200, 240, MOST_TAKEN - 1, MOST_TAKEN] {
+        add(&format!("sound-{}-sectors", sectors), Shape::any(sectors, random), random);
+    }
+    disks
+}
+
+/// Inputs of a length that no volume has, most of them with a sound volume at the start.
+fn of_no_volume(random: &mut Random) -> Vec<Input> {
+    let mut bytes = Shape::full(MOST_TAKEN, 20, 4, Order::Ascending).build(random).image;
+    bytes.extend(random.bytes(SECTOR_BYTES * (MOST_SECTORS + 1 - MOST_TAKEN)));
+    let lengths = [0, 1, 255, 512, 767, 769, 65_535, 65_537, 66_000, bytes.len()];
+    lengths.map(|length| Input::new(&format!("{}-bytes", length), &bytes[..length])).into()
+}
+
+/// For each of the numbers 2 to 6 a damaged disk of the greatest length that is taken.
+fn unsound(random: &mut Random) -> Result<Vec<Input>, String> {
+    let mut buffer = random.bytes(SECTOR_BYTES * (MOST_SECTORS + 2));
+    let mut inputs = Vec::new();
+    while inputs.len() < 5 {
+        let batch = Batch::of_any_shape(MOST_TAKEN, CHANGES, random);
+        batch.each_image(&mut buffer, |image| {
+            let wanted = 2 + inputs.len() as u32;
+            if image.number == Some(wanted) && image.bytes.len() == SECTOR_BYTES * MOST_TAKEN {
+                inputs.push(Input::new(&format!("65536-number-{}", wanted), image.bytes));
+            }
+            Ok(())
+        })?;
+    }
+    Ok(inputs)
+}

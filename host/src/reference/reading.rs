@@ -1,0 +1,111 @@
+//! The reading calls. Each judges the image before it looks at its arguments; `room` is the length
+//! of the buffer that the answer is to fill.
+
+use super::judge::{is_name, judge};
+use super::refusal::{holds, Refusal};
+use super::volume::{Descriptor, Kind, Name, Sector, Volume};
+use super::volume::{HEADER_BYTES, SECTOR_BYTES};
+
+/// What a volume is like as a whole.
+#[derive(Clone, Copy, Debug, PartialEq, Eq)]
+pub struct Summary {
+    pub disk_name: Name,
+    pub sectors: usize,
+    pub files: usize,
+    pub free_sectors: usize,
+}
+
+impl Summary {
+    /// Meant for a sound volume.
+    pub(super) fn of(volume: Volume) -> Self {
+        let label = volume.label();
+        Summary {
+            disk_name: *label.disk_name(),
+            sectors: volume.sectors(),
+            files: volume.files().count(),
+            free_sectors: label.free_sectors(),
+        }
+    }
+}
+
+/// A file in the catalogue.
+#[derive(Clone, Copy, Debug, PartialEq, Eq)]
+pub struct Row {
+    pub name: Name,
+    pub kind: Kind,
+    pub sectors: usize,
+    pub protected: bool,
+}
+
+impl Row {
+    /// Meant for a descriptor of a sound volume.
+    pub(super) fn of(descriptor: Descriptor) -> Self {
+        Row {
+            name: *descriptor.name(),
+            kind: descriptor.kind().expect("a file of a sound volume has a kind"),
+            sectors: descriptor.sectors(),
+            protected: descriptor.has(Descriptor::PROTECTED),
+        }
+    }
+}
+
+#[derive(Clone, Copy, Debug, PartialEq, Eq)]
+pub struct Entry {
+    pub header: [u8; HEADER_BYTES],
+    pub row: Row,
+}
+
+pub fn free_count(image: &[u8]) -> Result<usize, Refusal> {
+    Ok(judge(image)?.label().free_sectors())
+}
+
+pub fn summary(image: &[u8]) -> Result<Summary, Refusal> {
+    Ok(Summary::of(judge(image)?))
+}
+
+/// The catalogue entry at a place, counted from 0 in name order.
+pub fn entry(image: &[u8], place: usize, room: usize) -> Result<Entry, Refusal> {
+    let volume = judge(image)?;
+    let (_, descriptor) = volume.files().nth(place).ok_or(Refusal::Absent)?;
+    holds(room >= HEADER_BYTES, Refusal::Argument)?;
+    Ok(Entry { header: *descriptor.header(), row: Row::of(descriptor) })
+}
+
+/// The sector of a file at an offset; programs and protected files may be read too.
+pub fn read<'image>(
+    image: &'image [u8],
+    name: &[u8],
+    offset: usize,
+    room: usize,
+) -> Result<&'image Sector, Refusal> {
+    let volume = judge(image)?;
+    let mut places = find(volume, name)?.chain().places();
+    let place = places.nth(offset).ok_or(Refusal::Argument)?;
+    holds(room >= SECTOR_BYTES, Refusal::Argument)?;
+    Ok(volume.sector(place))
+}
+
+/// The bytes of a program.
+pub fn load(image: &[u8], name: &[u8], room: usize) -> Result<Vec<u8>, Refusal> {
+    let volume = judge(image)?;
+    let descriptor = find(volume, name)?;
+    let length = match descriptor.kind() {
+        Some(Kind::Program { length }) => length,
+        _ => return Err(Refusal::Kind),
+    };
+    holds(room >= length, Refusal::Argument)?;
+    let bytes = descriptor.chain().places().flat_map(|place| volume.sector(place));
+    Ok(bytes.copied().take(length).collect())
+}
+
+fn find<'image>(volume: Volume<'image>, name: &[u8]) -> Result<Descriptor<'image>, Refusal> {
+    let name = given_name(name)?;
+    let mut descriptors = volume.files().map(|(_, descriptor)| descriptor);
+    descriptors.find(|descriptor| descriptor.name() == name).ok_or(Refusal::Absent)
+}
+
+/// A name as it was lent, if it is one.
+pub(super) fn given_name(bytes: &[u8]) -> Result<&Name, Refusal> {
+    let ten: Option<&Name> = bytes.try_into().ok();
+    ten.filter(|name| is_name(name)).ok_or(Refusal::Name)
+}

@@ -1,0 +1,35 @@
+//! Why a call is refused.
+
+/// Each case stands for the paper's number.
+#[derive(Clone, Copy, Debug, PartialEq, Eq)]
+pub enum Refusal {
+    /// The image's length, or in formatting that the n asked for is another.
+    Length = 1,
+    Label = 2,
+    Index = 3,
+    Descriptor = 4,
+    TwoHolders = 5,
+    Map = 6,
+    /// A given name is not lent as ten bytes, or breaks the name rule.
+    Name = 7,
+    /// No such file, or no such place in the catalogue.
+    Absent = 8,
+    /// A program is asked for and the file is not one.
+    Kind = 14,
+    /// An offset not below c, or a buffer too short for what it is to be filled with.
+    Argument = 15,
+}
+
+impl Refusal {
+    pub fn number(self) -> u32 {
+        self as u32
+    }
+}
+
+pub(super) fn holds(rule: bool, refusal: Refusal) -> Result<(), Refusal> {
+    if rule {
+        Ok(())
+    } else {
+        Err(refusal)
+    }
+}
