@@ -12,6 +12,7 @@ pub mod Descriptor
 pub mod Index
 pub mod Volume
 pub mod Verdict
+pub mod Free
 pub mod Outcome
 pub mod Formatted
 pub mod Listing

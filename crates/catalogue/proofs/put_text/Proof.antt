@@ -1,0 +1,82 @@
+-- `catalogue::put_text` meets its contract: what stands at the front of the text is what the program writes for the image. Assumes nothing.
+use mathlib.Core.Path.{_≡_, sym, ap, _∙_}
+use native.Mathlib.Omega.{arith}
+use lib.ListN.{length}
+use Rattle.rules.specs.Bytes.{splice}
+use Rattle.rules.specs.Calls.Listing.{refusedLine}
+use Rattle.catalogue.specs.Output.{listed}
+use Rattle.catalogue.proofs.Outputs.{refused-short, front, when-given, when-refused, output-long, output-short}
+use borrow.Author.Needs.{needs}
+use Rattle.catalogue.proofs.put_text.Statement.{statement}
+use Rattle.catalogue.proofs.put_text.Tie as tie
+
+refused-line-requires : tie.Need-refused-line-requires
+refused-line-requires c κs = search needs
+
+same-length : tie.Need-same-length
+same-length c = search needs
+
+returns : tie.Need-returns
+returns c =
+    let y = c .before .before in
+    let long = y .before .before in
+    let start = long .before .before .before in
+    front (start .args .text .now) (refusedLine 1) (y .refused-line .ensures .0) (y .refused-line .ensures .1) (omega (arith, refused-short 1, start .pre))
+    ∙ sym (output-long (start .args .image .now) (long .if1 .taken))
+
+listing-requires : tie.Need-listing-requires
+listing-requires c κs = search needs
+
+enum-known-amount : tie.Need-enum-known-amount
+enum-known-amount c = search needs
+
+enum-known-amount-2 : tie.Need-enum-known-amount-2
+enum-known-amount-2 c = search needs
+
+refused-line-requires-2 : tie.Need-refused-line-requires-2
+refused-line-requires-2 c κs = search needs
+
+same-length-2 : tie.Need-same-length-2
+same-length-2 c = search needs
+
+returns-2 : tie.Need-returns-2
+returns-2 c =
+    let o = c .before in
+    let y = o .before .before .before .before in
+    let short = y .before .before in
+    let start = short .before .before .before in
+    let image = start .args .image .now in
+    let text = start .args .text .now in
+    let is = when-given image (length text) (λ i. omega (arith, short .before .before .shared-slice-known .given i)) (omega (arith, start .pre)) _ (sym (o .amount .given .1) ∙ y .listing .ensures .0) in
+    front text (listed image) (is .long) (y .listing .ensures .1 ∙ ap (splice text 0) (is .is)) (is .fits) ∙ sym (output-short image (short .if1 .left))
+
+same-length-3 : tie.Need-same-length-3
+same-length-3 c = search needs
+
+returns-3 : tie.Need-returns-3
+returns-3 c =
+    let y = c .before .before in
+    let o = y .before .before .before in
+    let l = o .before .before .before .before in
+    let short = l .before .before in
+    let start = short .before .before .before in
+    let image = start .args .image .now in
+    let text = start .args .text .now in
+    let is = when-refused image (length text) (λ i. omega (arith, short .before .before .shared-slice-known .given i)) (omega (arith, start .pre)) _ (sym (o .amount2 .given .1) ∙ l .listing .ensures .0) in
+    front _ _ (y .refused-line2 .ensures .0) (y .refused-line2 .ensures .1) (omega (arith, refused-short (o .amount2 .given .0 .0), start .pre)) ∙ is ∙ sym (output-short image (short .if1 .left))
+
+pub put-text-spec : {M : Type 1} → statement M
+put-text-spec =
+    tie.close
+    (tie.spec
+    refused-line-requires
+    same-length
+    returns
+    listing-requires
+    enum-known-amount
+    enum-known-amount-2
+    refused-line-requires-2
+    same-length-2
+    returns-2
+    same-length-3
+    returns-3)

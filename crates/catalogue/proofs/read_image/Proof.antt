@@ -1,0 +1,100 @@
+-- `catalogue::read_image` meets its contract: what it counts lies within the buffer. The loop's invariant: the buffer keeps its length, and what
+-- is filled lies within it. The measure is the room that is left, which falls since a turn that reads nothing leaves the loop.
+-- Assumes nothing.
+use Prim.Native.Nat.{_+_, _≤_, _-_}
+use mathlib.Core.Path.{_≡_}
+use native.Mathlib.Omega.{arith}
+use lib.ListN.{length, length-take, length-drop}
+use borrow.Author.Needs.{needs}
+use Rattle.io.proofs.Counting.{counts}
+use Rattle.catalogue.proofs.Readings.{counted}
+use Rattle.catalogue.proofs.read_image.Statement.{statement}
+use Rattle.catalogue.proofs.read_image.Tie as tie
+
+abbrev Inv-loop : tie.InvT-loop
+Inv-loop descriptor buffer₀ filled₀ buffer filled = (length buffer ≡ length buffer₀) × (filled ≤ length buffer)
+
+abbrev μ-loop : tie.MeasureT-loop
+μ-loop descriptor buffer₀ filled₀ buffer filled = length buffer - filled
+
+-- what is filled, with what this turn read, lies within the buffer: the turn read into the part from `filled` on
+within : (c : tie.Else1 Inv-loop μ-loop)
+    → c .before .before .before .before .before .before .before .before .before .loop .filled + c .before .before .reading .given .0 .0
+    ≤ length (c .before .before .before .before .before .before .before .before .before .loop .buffer)
+within c =
+    omega (
+      arith,
+      counted _ (c .before .before .reading .given .1) (c .before .before .before .before .before .before .read-once .ensures) .0,
+      simp (length-take, length-drop) at (c .before .before .before .before .before .buffer .given .0),
+    )
+
+loop-holds : tie.Need-loop-holds Inv-loop μ-loop
+loop-holds c = search needs
+
+sub-read-once : tie.Need-sub-read-once Inv-loop μ-loop
+sub-read-once c = search needs
+
+part-read-once-start : tie.Need-part-read-once-start Inv-loop μ-loop
+part-read-once-start c = search needs
+
+part-read-once-end : tie.Need-part-read-once-end Inv-loop μ-loop
+part-read-once-end c = search needs
+
+read-once-requires : tie.Need-read-once-requires Inv-loop μ-loop
+read-once-requires c κs = search needs
+
+enum-known-reading : tie.Need-enum-known-reading Inv-loop μ-loop
+enum-known-reading c = search needs
+
+enum-told : tie.Need-enum-told Inv-loop μ-loop
+enum-told c = search needs
+
+same-length : tie.Need-same-length Inv-loop μ-loop
+same-length c = search needs
+
+returns : tie.Need-returns Inv-loop μ-loop
+returns c = tt
+
+same-length-2 : tie.Need-same-length-2 Inv-loop μ-loop
+same-length-2 c = search needs
+
+returns-2 : tie.Need-returns-2 Inv-loop μ-loop
+returns-2 c = counts _ _ (omega arith)
+
+add-filled : tie.Need-add-filled Inv-loop μ-loop
+add-filled c = let h = within c in search needs
+
+loop-less : tie.Need-loop-less Inv-loop μ-loop
+loop-less c = let h = within c in omega arith
+
+loop-again : tie.Need-loop-again Inv-loop μ-loop
+loop-again c = let h = within c in (omega arith, omega arith)
+
+same-length-3 : tie.Need-same-length-3 Inv-loop μ-loop
+same-length-3 c = search needs
+
+returns-3 : tie.Need-returns-3 Inv-loop μ-loop
+returns-3 c = counts _ _ (omega arith)
+
+pub read-image-spec : {M : Type 1} → statement M
+read-image-spec =
+    tie.close
+    (tie.spec
+    Inv-loop
+    μ-loop
+    loop-holds
+    sub-read-once
+    part-read-once-start
+    part-read-once-end
+    read-once-requires
+    enum-known-reading
+    enum-told
+    same-length
+    returns
+    same-length-2
+    returns-2
+    add-filled
+    loop-less
+    loop-again
+    same-length-3
+    returns-3)

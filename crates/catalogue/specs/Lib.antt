@@ -1,0 +1,3 @@
+-- The definitions that the contracts of `catalogue` cite.
+pub mod Filled
+pub mod Output

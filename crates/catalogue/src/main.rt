@@ -1,0 +1,100 @@
+// The catalogue program: reads the image of a disk on standard input and writes its listing, or, for
+// an image that is refused, one line with its number.
+//
+// `put_text` makes the text, and is proved to give what document 01 says for any image. Of the rest
+// only safety is proved, since no contract can say what is read or written. Where standard input
+// cannot be read, nothing is written but the reason, on standard error.
+ghost use mathlib.Core.Path.{_≡_};
+ghost use Prim.Native.Nat.{_≤_};
+ghost use lib.ListN.{length};
+ghost use Rattle.rules.specs.Bytes.{part};
+ghost use Rattle.catalogue.specs.Filled.{Filled};
+ghost use Rattle.catalogue.specs.Output.{output};
+use libc::STDIN_FILENO;
+use libc::STDOUT_FILENO;
+use listing::listing;
+use listing::refused_line;
+use rules::Amount;
+use sector::bytes::part;
+
+// The longest image that the program takes.
+const IMAGE_MOST: usize = 65536;
+
+// One byte more than that: an image that is too long fills the buffer, whatever comes after.
+const IMAGE_ROOM: usize = 65537;
+
+// No listing is longer: a line of at most 21 bytes and at most 127 of at most 36.
+const TEXT_ROOM: usize = 4593;
+
+// What a reading gives: how many bytes it put at the start of the buffer.
+enum Reading {
+    Bytes(usize),
+    Failed,
+}
+
+// One read. At the end of the input it gives 0 bytes.
+fn read_once(descriptor: i32, buffer: &mut [u8]) -> Reading
+    ensures { λ r. ⌜ Filled r (now (buffer .exit)) ⌝ }
+{
+    let got = libc::read(descriptor, buffer);
+    if got < 0 {
+        return Reading::Failed;
+    }
+    Reading::Bytes(io::count(got, buffer))
+}
+
+// Reads until the input ends or the buffer is full. `io::read_full` answers a short count where a
+// read fails, as if the input ended there, and the bytes before a failure are no image to list.
+fn read_image(descriptor: i32, buffer: &mut [u8]) -> Reading
+    ensures { λ r. ⌜ Filled r (now (buffer .exit)) ⌝ }
+{
+    let mut filled = 0;
+    while filled < buffer.len() {
+        let reading = read_once(descriptor, &mut buffer[filled..]);
+        let Reading::Bytes(more) = reading else {
+            return Reading::Failed;
+        };
+        if more == 0 {
+            return Reading::Bytes(filled);
+        }
+        filled += more;
+    }
+    Reading::Bytes(filled)
+}
+
+// Puts what the program writes for an image at the front of the text, and gives its length. The
+// length is tested here, since the library takes images that are longer than the program's.
+fn put_text(image: &[u8], text: &mut [u8]) -> usize
+    requires { ⌜ 4593 ≤ length (now text) ⌝ }
+    ensures { λ r. ⌜ part (now (text .exit)) 0 r ≡ output (now (image .entry)) ⌝ }
+{
+    if image.len() > IMAGE_MOST {
+        return refused_line(1, text);
+    }
+    let amount = listing(image, text);
+    match amount {
+        Amount::Given(length) => length,
+        Amount::Refused(number) => refused_line(number, text),
+    }
+}
+
+fn run(buffer: &mut [u8], text: &mut [u8])
+    requires { ⌜ 4593 ≤ length (now text) ⌝ }
+{
+    let reading = read_image(STDIN_FILENO, buffer);
+    let Reading::Bytes(length) = reading else {
+        os::fail(b"standard input");
+        return;
+    };
+    let size = put_text(&buffer[..length], text);
+    if !io::write_all(STDOUT_FILENO, part(text, 0, size)) {
+        os::fail(b"standard output");
+    }
+}
+
+// The buffers are lent from here, once, so that every other function works on plain slices.
+fn main() {
+    let mut buffer = [0u8; IMAGE_ROOM];
+    let mut text = [0u8; TEXT_ROOM];
+    run(&mut buffer, &mut text);
+}

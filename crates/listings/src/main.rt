@@ -1,0 +1,132 @@
+// Writes the listing of each image that the command line names, one after the other.
+//
+// The text is `listing::listing`'s, or the line of its refusal, for an image of any size: the bound of
+// the catalogue program is not one of the library. What stands here reads the images and writes the
+// text, and of that only safety is proved, since no contract can say what is read or written. For an
+// image that cannot be read there is a line `-`, with the reason on standard error, and the images
+// after it are listed all the same.
+ghost use Rattle.listings.specs.Filled.{Filled};
+use libc::STDOUT_FILENO;
+use listing::listing;
+use listing::refused_line;
+use rules::Amount;
+use sector::buffer::lay;
+use sector::bytes::part;
+
+// One byte more than the longest image that can be sound. An image that is too long fills the
+// buffer and is refused for its length, whatever comes after the bytes that were read.
+const IMAGE_ROOM: usize = 409601;
+
+// One byte more than the longest argument that Linux passes where a page has 4,096 bytes.
+const ARGUMENT_ROOM: usize = 131072;
+
+// No listing is longer: a line of at most 21 bytes and at most 127 of at most 36.
+const TEXT_ROOM: usize = 4593;
+
+// What a reading gives: how many bytes it put at the start of the buffer.
+enum Reading {
+    Bytes(usize),
+    Failed,
+}
+
+// One read. At the end of the input it gives 0 bytes.
+fn read_once(descriptor: i32, buffer: &mut [u8]) -> Reading
+    ensures { λ r. ⌜ Filled r (now (buffer .exit)) ⌝ }
+{
+    let got = libc::read(descriptor, buffer);
+    if got < 0 {
+        return Reading::Failed;
+    }
+    Reading::Bytes(io::count(got, buffer))
+}
+
+// Reads until the input ends or the buffer is full. `io::read_full` answers a short count where a
+// read fails, as if the input ended there, and the bytes before a failure are no image to list.
+fn read_image(descriptor: i32, buffer: &mut [u8]) -> Reading
+    ensures { λ r. ⌜ Filled r (now (buffer .exit)) ⌝ }
+{
+    let mut filled = 0;
+    while filled < buffer.len() {
+        let reading = read_once(descriptor, &mut buffer[filled..]);
+        let Reading::Bytes(more) = reading else {
+            return Reading::Failed;
+        };
+        if more == 0 {
+            return Reading::Bytes(filled);
+        }
+        filled += more;
+    }
+    Reading::Bytes(filled)
+}
+
+// Each `put_` puts a text at the front of the lent one and gives its length.
+fn put_listing(image: &[u8], text: &mut [u8]) -> usize {
+    let amount = listing(image, text);
+    match amount {
+        Amount::Given(length) => length,
+        Amount::Refused(number) => refused_line(number, text),
+    }
+}
+
+fn put_unread(text: &mut [u8]) -> usize {
+    lay(text, 0, b"-\n");
+    2
+}
+
+// Lists what the descriptor gives. A reason, which begins with `name`, is written before the caller
+// closes the descriptor, since closing can set errno anew.
+fn put_descriptor(descriptor: i32, name: &[u8], buffer: &mut [u8], text: &mut [u8]) -> usize {
+    let reading = read_image(descriptor, buffer);
+    let Reading::Bytes(length) = reading else {
+        os::fail(name);
+        return put_unread(text);
+    };
+    put_listing(&buffer[..length], text)
+}
+
+fn put_file(path: &[u8], buffer: &mut [u8], text: &mut [u8]) -> usize {
+    let descriptor = os::open_read(path);
+    if descriptor < 0 {
+        os::fail(path);
+        return put_unread(text);
+    }
+    let size = put_descriptor(descriptor, path, buffer, text);
+    libc::close(descriptor);
+    size
+}
+
+fn put_argument(position: usize, argument: &mut [u8], buffer: &mut [u8], text: &mut [u8]) -> usize {
+    let length = os::arg(position, argument);
+    if os::errno() != 0 {
+        os::fail(b"argument");
+        return put_unread(text);
+    }
+    put_file(&argument[..length], buffer, text)
+}
+
+// Argument 0 is the program's own name. The answer is whether every text could be written.
+fn write_listings(argument: &mut [u8], buffer: &mut [u8], text: &mut [u8]) -> bool {
+    let count = os::arg_count();
+    for position in 1..count {
+        let size = put_argument(position, argument, buffer, text);
+        if !io::write_all(STDOUT_FILENO, part(text, 0, size)) {
+            return false;
+        }
+    }
+    true
+}
+
+// A text that cannot be written ends the run: no later one would do better.
+fn run(argument: &mut [u8], buffer: &mut [u8], text: &mut [u8]) {
+    if !write_listings(argument, buffer, text) {
+        os::fail(b"standard output");
+    }
+}
+
+// The buffers are lent from here, once, so that every other function works on plain slices.
+fn main() {
+    let mut argument = [0u8; ARGUMENT_ROOM];
+    let mut buffer = [0u8; IMAGE_ROOM];
+    let mut text = [0u8; TEXT_ROOM];
+    run(&mut argument, &mut buffer, &mut text);
+}
