@@ -27,20 +27,108 @@ extern "C" {
 
 /* The numbers a call gives back. Where several are due, the first in this order is given. */
 enum pno_number {
-    PNO_DONE = 0,        /* done; of an image: a sound volume */
-    PNO_LENGTH = 1,      /* the image's length is not 256 x n for n from 3 to 1,600 */
-    PNO_LABEL = 2,       /* sector 0: bad disk name, n or "DSK" */
-    PNO_INDEX = 3,       /* sector 1 breaks its range or end rule */
-    PNO_DESCRIPTOR = 4,  /* a descriptor breaks name, status, chain or kind rules, or names do not ascend */
-    PNO_TWO_HOLDERS = 5, /* a sector has two holders */
-    PNO_MAP = 6          /* the map is not that of the holders */
+    PNO_DONE = 0,         /* done; of an image: a sound volume */
+    PNO_LENGTH = 1,       /* the image's length is not 256 x n for n from 3 to 1,600 */
+    PNO_LABEL = 2,        /* sector 0: bad disk name, n or "DSK" */
+    PNO_INDEX = 3,        /* sector 1 breaks its range or end rule */
+    PNO_DESCRIPTOR = 4,   /* a descriptor breaks name, status, chain or kind rules, or names do not ascend */
+    PNO_TWO_HOLDERS = 5,  /* a sector has two holders */
+    PNO_MAP = 6,          /* the map is not that of the holders */
+    PNO_NAME = 7,         /* a name breaks its rule */
+    PNO_NOT_FOUND = 8,    /* no file of that name, or no file at that place of the catalogue */
+    PNO_NOT_PROGRAM = 14, /* the file is not a program */
+    PNO_SIZE = 15         /* a buffer is too short, or the file has no sector at that offset */
 };
+
+/*
+ * Names
+ *   A disk or file name is ten bytes: one to ten printable ones (21 to 7E hex, no dot), then spaces (20 hex)
+ *   up to the tenth. A name of another length, or one that breaks the rule, is number 7.
+ *
+ * What a call gives back
+ *   Each call first judges the image (format does not) and gives back 1 to 6 where it is no sound volume.
+ *   Bytes go to the front of the lent buffer, and the rest of the buffer stays as it was. A buffer may be
+ *   longer than what goes into it, never shorter.
+ */
 
 /*
  * Judges an image: 0 where it is a sound volume, else the first of 1 to 6 that is due. The whole image is
  * tested for 1, then for 2, and so on.
  */
 uint32_t pno_judge(const uint8_t *image, size_t image_len);
+
+/*
+ * Makes an empty volume of n sectors of the image, whatever its bytes were: the label with the name, n and the
+ * drive's numbers, the map, an empty catalogue, and E5 hex in every byte from sector 2 on.
+ *
+ * Numbers: 1 where image_len is not 256 x n, or n is not from 3 to 1,600; 7.
+ */
+uint32_t pno_format(uint8_t *image, size_t image_len, size_t n, const uint8_t *name, size_t name_len,
+                    uint8_t sectors_per_track, uint8_t tracks, uint8_t sides, uint8_t density);
+
+/*
+ * The number of free sectors: the zero bits of the map, which on a sound volume are n less the sectors that
+ * the system and the files hold.
+ *
+ * Numbers: 1 to 6.
+ */
+uint32_t pno_free_count(const uint8_t *image, size_t image_len, size_t *free_sectors);
+
+/*
+ * A volume's summary: its name with the padding, its number of sectors n, of files, and of free sectors.
+ *
+ * Numbers: 1 to 6.
+ */
+uint32_t pno_summary(const uint8_t *image, size_t image_len, uint8_t name[10], size_t *n, size_t *files,
+                     size_t *free_sectors);
+
+/* The kinds of file that pno_entry gives. */
+enum pno_kind {
+    PNO_PROGRAM = 0,
+    PNO_DIS_FIX = 1,
+    PNO_DIS_VAR = 2,
+    PNO_INT_FIX = 3,
+    PNO_INT_VAR = 4
+};
+
+/*
+ * An entry of the catalogue: the file at a place, counted from 0 in the order of names. The first 28 bytes of
+ * its descriptor go into the header buffer (bytes 0 to 9 are the name), and behind the pointers
+ *   kind          one of enum pno_kind
+ *   length        a program's length in bytes, which can pass 65,535; else the record length
+ *   sectors       the number of its sectors, without the descriptor
+ *   is_protected  1 or 0
+ *
+ * Numbers: 1 to 6; 8 past the last file; 15 where header_len is below 28.
+ */
+uint32_t pno_entry(const uint8_t *image, size_t image_len, size_t place, uint8_t *header, size_t header_len,
+                   size_t *kind, size_t *length, size_t *sectors, size_t *is_protected);
+
+/*
+ * Reads a sector of a file of any kind, protected or not: its 256 bytes. Offsets count from 0.
+ *
+ * Numbers: 1 to 6; 7; 8; 15 for an offset past the last sector, or where out_len is below 256.
+ */
+uint32_t pno_read(const uint8_t *image, size_t image_len, const uint8_t *name, size_t name_len, size_t offset,
+                  uint8_t *out, size_t out_len);
+
+/*
+ * Loads a program: its bytes, and their number behind length.
+ *
+ * Numbers: 1 to 6; 7; 8; 14; 15 where out_len is below the program's length (below 409,600).
+ */
+uint32_t pno_load(const uint8_t *image, size_t image_len, const uint8_t *name, size_t name_len, uint8_t *out,
+                  size_t out_len, size_t *length);
+
+/*
+ * The catalogue as text, and its length behind length. The first line has disk name, n and free count; then
+ * one line a file, in the order of names: name, kind, length in bytes of a program or else record length,
+ * sectors, and P or U for protected or not. One space between fields, names without their padding, and one
+ * newline at the end of each line; no byte of zero ends the text.
+ *
+ * Numbers: 1 to 6; 15 where out_len is below the length of the text. 4,593 bytes are always enough.
+ */
+uint32_t pno_listing(const uint8_t *image, size_t image_len, uint8_t *out, size_t out_len, size_t *length);
 
 #ifdef __cplusplus
 }

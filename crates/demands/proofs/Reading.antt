@@ -131,8 +131,8 @@ module _ (image : List ℕ) (is : Sound image) where
   entries =
       record {
         given = λ p room h large.
-          let inside = place-of p h in
-          entry-inside p room inside ∙ rw (le-leb 28 room large, file-of p inside);
+            let inside = place-of p h in
+            entry-inside p room inside ∙ rw (le-leb 28 room large, file-of p inside);
         ended = entry-past;
         only = λ p room e. elim (decLt p (length (catalogue image))) [
           | yes h ↦ absurd (entry-not-8 p room (place-of p h) e)

@@ -5,7 +5,9 @@ use Prim.Native.Nat.{ℕ, _<_}
 use lib.ListN.{length, replicate, getD}
 use Rattle.rules.specs.Bytes.{byteAt, part}
 use Rattle.rules.specs.Chain.{blockBytes}
-use Rattle.rules.specs.Map.{mapOf, freeCount}
+use Rattle.rules.specs.Sectors.{sectorOf}
+use Rattle.rules.specs.Map.{freeCount}
+use Rattle.rules.specs.Calls.Format.{Geometry, formatted}
 
 -- a case: its number in the paper, what the rules compute, and what the paper prints
 pub record Case : Type 0 where
@@ -16,17 +18,27 @@ pub record Case : Type 0 where
 abbrev case : ℕ → List ℕ → List ℕ → Case
 case number computed printed = record { number = number; computed = computed; printed = printed }
 
--- sector 0 of an empty volume of n sectors, as far as its map goes
-abbrev emptyMap : ℕ → List ℕ
-emptyMap n = replicate 56 0 ++ mapOf n (0 ∷ (1 ∷ []))
+-- sector 0 of a volume of n sectors, just formatted, named X
+abbrev pub diskX : List ℕ
+diskX = 0x58 ∷ replicate 9 32
 
-unfoldable pub table : List Case
-table =
+abbrev pub geometry : Geometry
+geometry = record { sectorsPerTrack = 9; tracks = 40; sides = 1; density = 1 }
+
+abbrev pub empty : ℕ → List ℕ
+empty n = sectorOf (formatted n diskX geometry) 0
+
+-- the cases, with the sector 0 of an empty volume of 35 sectors and of one of 360
+unfoldable pub tableOf : List ℕ → List ℕ → List Case
+tableOf empty35 empty360 =
     case 1 (blockBytes (record { start = 34; last = 0 })) (0x22 ∷ (0x00 ∷ (0x00 ∷ [])))
     ∷ (case 2 (blockBytes (record { start = 34; last = 19 })) (0x22 ∷ (0x30 ∷ (0x01 ∷ [])))
     ∷ (case 3 (blockBytes (record { start = 1599; last = 1597 })) (0x3F ∷ (0xD6 ∷ (0x63 ∷ [])))
-    ∷ (case 4 (byteAt (emptyMap 35) 56 ∷ (byteAt (emptyMap 35) 60 ∷ (freeCount (emptyMap 35) ∷ []))) (0x03 ∷ (0xF8 ∷ (33 ∷ [])))
-    ∷ (case 5 (part (emptyMap 360) 57 44 ++ part (emptyMap 360) 101 155) (replicate 44 0x00 ++ replicate 155 0xFF) ∷ []))))
+    ∷ (case 4 (byteAt empty35 56 ∷ (byteAt empty35 60 ∷ (freeCount empty35 ∷ []))) (0x03 ∷ (0xF8 ∷ (33 ∷ [])))
+    ∷ (case 5 (part empty360 57 44 ++ part empty360 101 155) (replicate 44 0x00 ++ replicate 155 0xFF) ∷ []))))
+
+unfoldable pub table : List Case
+table = tableOf (empty 35) (empty 360)
 
 -- the statement: each case of the table, by its place in it
 unfoldable pub Bench : Type 0

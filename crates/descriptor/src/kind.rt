@@ -2,6 +2,7 @@
 ghost use mathlib.Core.Path.{_≡_};
 ghost use Prim.Native.Nat.{_<_};
 ghost use Rattle.rules.specs.Kind.{programLength, statusRule, kindOf};
+ghost use Rattle.rules.specs.Calls.Listing.{kindLength};
 use rules::Kind;
 
 // Whether a status has allowed bits alone, and a program's is neither internal nor variable.
@@ -54,5 +55,22 @@ pub fn kind_of(status: usize, c: usize, end_offset: usize, record_length: usize)
     Kind::Fixed {
         record_length,
         internal,
+    }
+}
+
+// A program's length in bytes, or else the record length.
+pub fn kind_length(kind: Kind) -> usize
+    ensures { λ r. ⌜ r ≡ kindLength kind ⌝ }
+{
+    match kind {
+        Kind::Program { length } => length,
+        Kind::Fixed {
+            record_length,
+            internal: _,
+        } => record_length,
+        Kind::Variable {
+            record_length,
+            internal: _,
+        } => record_length,
     }
 }

@@ -7,7 +7,7 @@ ghost use mathlib.Core.List.{[], _∷_, _++_};
 ghost use Prim.Native.Nat.{_+_, _≤_, _<_};
 ghost use lib.ListN.{length};
 ghost use Rattle.rules.specs.Calls.Catalogue.{isProtected};
-ghost use Rattle.rules.specs.Calls.Listing.{decimal, unpadded, kindWord, kindLength};
+ghost use Rattle.rules.specs.Calls.Listing.{decimal, unpadded, kindWord};
 ghost use Rattle.listing.specs.Laid.{Laid};
 use rules::Kind;
 use sector::buffer::lay;
@@ -95,23 +95,6 @@ pub(crate) fn put_kind(text: &mut [u8], at: usize, kind: Kind) -> usize
             }
             put(text, at, b"DIS/VAR ")
         }
-    }
-}
-
-// A program's length in bytes, or else the record length.
-pub(crate) fn kind_length(kind: Kind) -> usize
-    ensures { λ r. ⌜ r ≡ kindLength kind ⌝ }
-{
-    match kind {
-        Kind::Program { length } => length,
-        Kind::Fixed {
-            record_length,
-            internal: _,
-        } => record_length,
-        Kind::Variable {
-            record_length,
-            internal: _,
-        } => record_length,
     }
 }
 

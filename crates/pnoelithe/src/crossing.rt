@@ -1,7 +1,6 @@
 // How answers cross to C, which has no enums and no bools: as numbers, and values behind pointers.
 ghost use mathlib.Core.Path.{_≡_};
 ghost use Rattle.rules.specs.Outcome.{answerNumber, amountNumber};
-ghost use Rattle.rules.specs.Calls.Listing.{kindLength};
 ghost use Rattle.pnoelithe.specs.Crossing.{kindNumber, flag, amountBehind};
 use rules::Amount;
 use rules::Answer;
@@ -51,22 +50,6 @@ pub(crate) fn kind_number(kind: Kind) -> usize
             }
             2
         }
-    }
-}
-
-pub(crate) fn kind_length(kind: Kind) -> usize
-    ensures { λ r. ⌜ r ≡ kindLength kind ⌝ }
-{
-    match kind {
-        Kind::Program { length } => length,
-        Kind::Fixed {
-            record_length,
-            internal: _,
-        } => record_length,
-        Kind::Variable {
-            record_length,
-            internal: _,
-        } => record_length,
     }
 }
 

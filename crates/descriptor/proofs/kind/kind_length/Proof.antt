@@ -1,8 +1,8 @@
--- `listing::text::kind_length` meets its contract, case by case. Assumes nothing.
+-- `descriptor::kind::kind_length` meets its contract, case by case. Assumes nothing.
 use Rattle.rules.specs.Calls.Listing.{kindLength}
 use borrow.Author.Needs.{needs}
-use Rattle.listing.proofs.text.kind_length.Statement.{statement}
-use Rattle.listing.proofs.text.kind_length.Tie as tie
+use Rattle.descriptor.proofs.kind.kind_length.Statement.{statement}
+use Rattle.descriptor.proofs.kind.kind_length.Tie as tie
 
 enum-known-kind : tie.Need-enum-known-kind
 enum-known-kind c = search needs
