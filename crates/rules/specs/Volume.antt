@@ -26,10 +26,6 @@ fileHolders image (k ∷ ks) = k ∷ (placesIn image k ++ fileHolders image ks)
 unfoldable pub holders : List ℕ → List ℕ
 holders image = 0 ∷ (1 ∷ fileHolders image (files image))
 
--- the label area: bytes 0 to 55 of sector 0
-unfoldable pub labelArea : List ℕ → List ℕ
-labelArea image = part (sectorOf image 0) 0 56
-
 -- what the catalogue holds of a file: its 28 header bytes, and the contents of its sectors in order
 pub record File : Type 0 where
   pub header : List ℕ
