@@ -6,7 +6,7 @@ ghost use mathlib.Core.Bool.{cond};
 ghost use mathlib.Core.List.{[], _∷_, _++_};
 ghost use Prim.Native.Nat.{_+_, _≤_, _<_};
 ghost use lib.ListN.{length};
-ghost use Rattle.rules.specs.Calls.Catalogue.{isProtected};
+ghost use Rattle.rules.specs.Kind.{isProtected};
 ghost use Rattle.rules.specs.Calls.Listing.{decimal, unpadded, kindWord};
 ghost use Rattle.listing.specs.Laid.{Laid};
 use rules::Kind;

@@ -1,7 +1,7 @@
 -- Readings of bytes. Each is total: past the end of a list stand zeros, and a part is as long as what is there.
 use mathlib.Core.Bool.{Bool, true, false, _&&_}
 use mathlib.Core.List.{List, [], _∷_}
-use Prim.Native.Nat.{ℕ, zero, suc, _+_, _*_, _/_, _%_, _^_}
+use Prim.Native.Nat.{ℕ, zero, suc, _+_, _-_, _*_, _/_, _%_, _^_}
 use lib.Dec.{eqb}
 use lib.ListN.{take, drop, getD}
 
@@ -12,9 +12,16 @@ byteAt bytes i = getD bytes i 0
 abbrev pub wordAt : List ℕ → ℕ → ℕ
 wordAt bytes i = 256 * byteAt bytes i + byteAt bytes (i + 1)
 
+abbrev pub wordBytes : ℕ → List ℕ
+wordBytes number = (number / 256) ∷ ((number % 256) ∷ [])
+
 -- bit j of a byte, the lowest is bit 0
 abbrev pub bitOf : ℕ → ℕ → ℕ
 bitOf byte j = byte / 2 ^ j % 2
+
+-- the byte with its bit j made `bit`
+unfoldable pub withBit : ℕ → ℕ → ℕ → ℕ
+withBit byte j bit = byte - bitOf byte j * 2 ^ j + bit * 2 ^ j
 
 -- `count` bytes from byte `from` on
 abbrev pub part : List ℕ → ℕ → ℕ → List ℕ

@@ -50,6 +50,23 @@ placesFrom next (block ∷ more) = run (block .start) (block .last - next + 1) +
 unfoldable pub places : List ℕ → List ℕ
 places chain = placesFrom 0 (blocks chain)
 
+-- One sector more, k, behind the blocks from file sector `next` on: it extends the last block where it follows that block's last sector; otherwise it begins a block.
+unfoldable pub extended : ℕ → List Block → ℕ → List Block
+extended next [] k = record { start = k; last = next } ∷ []
+extended next (block ∷ []) k =
+    cond (eqb k (block .start + (block .last + 1 - next))) (record { start = block .start; last = block .last + 1 } ∷ [])
+    (block ∷ (record { start = k; last = block .last + 1 } ∷ []))
+extended next (block ∷ (second ∷ more)) k = block ∷ extended (block .last + 1) (second ∷ more) k
+
+-- several, one after another
+unfoldable pub extendedAll : List Block → List ℕ → List Block
+extendedAll bs [] = bs
+extendedAll bs (k ∷ ks) = extendedAll (extended 0 bs k) ks
+
+unfoldable pub blocksBytes : List Block → List ℕ
+blocksBytes [] = []
+blocksBytes (block ∷ more) = blockBytes block ++ blocksBytes more
+
 -- The same as facts.
 unfoldable pub Linked : ℕ → ℕ → ℕ → List Block → Type 0
 Linked n c next [] = next ≡ c

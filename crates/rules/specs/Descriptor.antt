@@ -1,11 +1,13 @@
 -- A descriptor: bytes 0-9 name, 12 status, 14-15 the number of sectors c, 16 end offset, 17 record length, 28-255 the chain. 10-11, 13 and 16-27 are carried and not judged.
 use mathlib.Core.Bool.{Bool, _&&_}
-use mathlib.Core.List.{List}
+use mathlib.Core.List.{List, _∷_, _++_}
 use Prim.Native.Nat.{ℕ}
-use Rattle.rules.specs.Bytes.{byteAt, wordAt, part}
+use lib.ListN.{replicate}
+use Rattle.rules.specs.Bytes.{byteAt, wordAt, wordBytes, part, splice}
 use Rattle.rules.specs.Name.{nameRule, IsName}
-use Rattle.rules.specs.Chain.{chainRule, IsChain}
+use Rattle.rules.specs.Chain.{chainRule, blocksBytes, IsChain}
 use Rattle.rules.specs.Kind.{statusRule, kindOf, kindRule, IsStatus, IsKind}
+use Rattle.rules.specs.declared.Block.{Block}
 use Rattle.rules.specs.declared.Kind.{Kind}
 
 unfoldable pub nameOf : List ℕ → List ℕ
@@ -29,6 +31,15 @@ descriptorRule n descriptor =
     nameRule (nameOf descriptor)
     && (statusRule (statusOf descriptor)
     && (kindRule (fileKind descriptor) (sectorsOf descriptor) && chainRule n (sectorsOf descriptor) (chainOf descriptor)))
+
+-- a new descriptor, of a file without sectors: these fields are given, all other bytes are zero
+unfoldable pub newDescriptor : List ℕ → ℕ → ℕ → ℕ → ℕ → List ℕ
+newDescriptor name status recordsPerSector endOffset recordLength =
+    name ++ (0 ∷ (0 ∷ (status ∷ (recordsPerSector ∷ (0 ∷ (0 ∷ (endOffset ∷ (recordLength ∷ replicate 238 0))))))))
+
+-- a descriptor with its number of sectors and its chain changed
+unfoldable pub withChain : List ℕ → ℕ → List Block → List ℕ
+withChain descriptor c bs = splice (splice descriptor 14 (wordBytes c)) 28 (blocksBytes bs)
 
 -- The same as facts.
 pub record IsDescriptor (n : ℕ) (descriptor : List ℕ) : Type 0 where

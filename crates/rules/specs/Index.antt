@@ -1,11 +1,11 @@
 -- Sector 1: 128 numbers, each a descriptor's sector, from 2 to n-1. The first zero ends the list and all after it are zero. The last number is zero, so there are at most 127 files.
 use mathlib.Core.Path.{_≡_}
 use mathlib.Core.Bool.{Bool, true, cond, _&&_}
-use mathlib.Core.List.{List, [], _∷_}
+use mathlib.Core.List.{List, [], _∷_, _++_}
 use Prim.Native.Nat.{ℕ, _+_, _*_, _≤_, _<_}
 use lib.Dec.{eqb, leb, ltb}
-use lib.ListN.{length, drop, getD}
-use Rattle.rules.specs.Bytes.{byteAt, allAre}
+use lib.ListN.{length, drop, getD, replicate}
+use Rattle.rules.specs.Bytes.{byteAt, wordBytes, allAre, over}
 
 -- the numbers up to the first zero
 unfoldable pub numbers : List ℕ → List ℕ
@@ -21,6 +21,19 @@ unfoldable pub indexRule : ℕ → List ℕ → Bool
 indexRule n sector1 =
     rangeRule n (numbers sector1)
     && (ltb (length (numbers sector1)) 128 && allAre 0 (drop (2 * length (numbers sector1)) sector1))
+
+-- sector 1 with those numbers
+unfoldable pub numbersBytes : List ℕ → List ℕ
+numbersBytes [] = []
+numbersBytes (k ∷ ks) = wordBytes k ++ numbersBytes ks
+
+unfoldable pub indexOf : List ℕ → List ℕ
+indexOf ks = over (replicate 256 0) (numbersBytes ks)
+
+-- the number k taken out: later ones move down by one place
+unfoldable pub without : ℕ → List ℕ → List ℕ
+without k [] = []
+without k (j ∷ js) = cond (eqb j k) js (j ∷ without k js)
 
 -- The same as facts.
 pub record IsIndex (n : ℕ) (sector1 : List ℕ) : Type 0 where

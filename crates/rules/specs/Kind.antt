@@ -16,6 +16,9 @@ isInternal status = eqb (bitOf status 1) 1
 abbrev pub isVariable : ℕ → Bool
 isVariable status = eqb (bitOf status 7) 1
 
+abbrev pub isProtected : ℕ → Bool
+isProtected status = eqb (bitOf status 3) 1
+
 -- the bits of a status that the rule allows
 abbrev pub allowed : ℕ → ℕ
 allowed status = bitOf status 0 + 2 * bitOf status 1 + 8 * bitOf status 3 + 128 * bitOf status 7

@@ -11,5 +11,6 @@ pub mod Index
 pub mod Volume
 pub mod Verdict
 pub mod Sound
+pub mod Choice
 pub mod Outcome
 pub mod Calls

@@ -3,7 +3,8 @@ use mathlib.Core.Bool.{Bool, true, cond, _&&_}
 use mathlib.Core.List.{List, [], _∷_}
 use Prim.Native.Nat.{ℕ, zero, suc, _+_, _*_, _/_, _%_}
 use lib.Dec.{eqb, ltb}
-use Rattle.rules.specs.Bytes.{byteAt, bitOf}
+use lib.ListN.{set}
+use Rattle.rules.specs.Bytes.{byteAt, bitOf, withBit}
 
 unfoldable pub mapBit : List ℕ → ℕ → ℕ
 mapBit sector0 k = bitOf (byteAt sector0 (56 + k / 8)) (k % 8)
@@ -45,3 +46,11 @@ zeroBits sector0 (suc many) k = cond (eqb (mapBit sector0 k) 0) 1 0 + zeroBits s
 
 unfoldable pub freeCount : List ℕ → ℕ
 freeCount sector0 = zeroBits sector0 1600 0
+
+-- sector 0 with the bit of sector k made `bit`
+unfoldable pub marked : ℕ → List ℕ → ℕ → List ℕ
+marked bit sector0 k = set sector0 (56 + k / 8) (withBit (byteAt sector0 (56 + k / 8)) (k % 8) bit)
+
+unfoldable pub markedAll : ℕ → List ℕ → List ℕ → List ℕ
+markedAll bit sector0 [] = sector0
+markedAll bit sector0 (k ∷ ks) = markedAll bit (marked bit sector0 k) ks

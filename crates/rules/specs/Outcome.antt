@@ -1,9 +1,10 @@
--- What a call gives: its number, and with number 0 a value and bytes. The refusals stand in the table's order.
+-- What a call gives: its number, and with number 0 what it reads or writes. The refusals stand in the table's order.
 use mathlib.Core.Bool.{cond}
 use mathlib.Core.List.{List, [], _∷_}
 use Prim.Native.Nat.{ℕ, _+_}
 use lib.Dec.{eqb}
 use Rattle.rules.specs.Bytes.{same}
+use Rattle.rules.specs.Sectors.{Write}
 use Rattle.rules.specs.Name.{nameRule}
 use Rattle.rules.specs.Volume.{files, nameIn}
 use Rattle.rules.specs.Verdict.{verdict}
@@ -25,6 +26,20 @@ gives value bytes = record { number = 0; value = value; bytes = bytes }
 
 abbrev pub refuses : ℕ → Reading
 refuses number = record { number = number; value = 0; bytes = [] }
+
+-- a call that changes the image: its number, and the whole sectors that it writes, in order
+pub record Outcome : Type 0 where
+  pub number : ℕ
+  pub writes : List Write
+
+abbrev pub write : ℕ → List ℕ → Write
+write k bytes = record { sector = k; bytes = bytes }
+
+abbrev pub done : List Write → Outcome
+done writes = record { number = 0; writes = writes }
+
+abbrev pub refusal : ℕ → Outcome
+refusal number = record { number = number; writes = [] }
 
 -- the enum that a call answers with
 unfoldable pub answerOf : ℕ → Answer
@@ -64,3 +79,13 @@ openOf image name =
 unfoldable pub onFile : Opened → (ℕ → Reading) → Reading
 onFile (opened.Refused number) reading = refuses number
 onFile (opened.At p k) reading = reading k
+
+-- a change of that file, by its descriptor's sector
+unfoldable pub changing : Opened → (ℕ → Outcome) → Outcome
+changing (opened.Refused number) change = refusal number
+changing (opened.At p k) change = change k
+
+-- a call that takes a new name: 9 where it is present
+unfoldable pub adding : Opened → Outcome → Outcome
+adding (opened.Refused number) addition = cond (eqb number 8) addition (refusal number)
+adding (opened.At p k) addition = refusal 9

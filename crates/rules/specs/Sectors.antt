@@ -1,8 +1,8 @@
--- An image is its bytes; a sector of it is a reading.
-use mathlib.Core.List.{List}
+-- An image is its bytes; a sector of it is a reading, a write of a whole sector is laid over it.
+use mathlib.Core.List.{List, [], _∷_}
 use Prim.Native.Nat.{ℕ, _*_, _/_}
 use lib.ListN.{length}
-use Rattle.rules.specs.Bytes.{part}
+use Rattle.rules.specs.Bytes.{part, splice}
 
 unfoldable pub sectorOf : List ℕ → ℕ → List ℕ
 sectorOf image k = part image (256 * k) 256
@@ -10,3 +10,13 @@ sectorOf image k = part image (256 * k) 256
 -- n: how many sectors an image has
 abbrev pub sectorCount : List ℕ → ℕ
 sectorCount image = length image / 256
+
+-- a sector and the 256 bytes that it is to hold
+pub record Write : Type 0 where
+  pub sector : ℕ
+  pub bytes : List ℕ
+
+-- the writes laid over an image, one after the other
+unfoldable pub written : List ℕ → List Write → List ℕ
+written image [] = image
+written image (write ∷ writes) = written (splice image (256 * write .sector) (write .bytes)) writes

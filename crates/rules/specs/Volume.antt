@@ -1,8 +1,10 @@
 -- The files of an image, by the sectors of their descriptors and in the order of sector 1, and the holders.
+use mathlib.Core.Bool.{cond}
 use mathlib.Core.List.{List, [], _∷_, _++_, map}
 use Prim.Native.Nat.{ℕ}
 use Rattle.rules.specs.Bytes.{part}
 use Rattle.rules.specs.Sectors.{sectorOf}
+use Rattle.rules.specs.Name.{precedes}
 use Rattle.rules.specs.Chain.{places}
 use Rattle.rules.specs.Descriptor.{nameOf, chainOf}
 use Rattle.rules.specs.Index.{numbers}
@@ -25,6 +27,11 @@ fileHolders image (k ∷ ks) = k ∷ (placesIn image k ++ fileHolders image ks)
 -- the map's holders are these and sectors 0 and 1
 unfoldable pub holders : List ℕ → List ℕ
 holders image = 0 ∷ (1 ∷ fileHolders image (files image))
+
+-- the number k put in among the files ks, so that a file of that name stands in name order
+unfoldable pub placed : List ℕ → List ℕ → ℕ → List ℕ → List ℕ
+placed image name k [] = k ∷ []
+placed image name k (j ∷ js) = cond (precedes name (nameIn image j)) (k ∷ (j ∷ js)) (j ∷ placed image name k js)
 
 -- what the catalogue holds of a file: its 28 header bytes, and the contents of its sectors in order
 pub record File : Type 0 where

@@ -4,8 +4,8 @@ use mathlib.Core.List.{List}
 use Prim.Native.Nat.{ℕ}
 use lib.Dec.{eqb, leb, ltb}
 use lib.ListN.{length, replicate}
-use Rattle.rules.specs.Bytes.{bitOf}
 use Rattle.rules.specs.Sectors.{sectorOf}
+use Rattle.rules.specs.Kind.{isProtected}
 use Rattle.rules.specs.Descriptor.{nameOf, statusOf, sectorsOf, fileKind}
 use Rattle.rules.specs.Volume.{files, headerIn}
 use Rattle.rules.specs.Sound.{fileAt}
@@ -13,9 +13,6 @@ use Rattle.rules.specs.Outcome.{Reading, gives, refuses, judged, answerO
 use Rattle.rules.specs.declared.Kind.the-variants.{Program}
 use Rattle.rules.specs.declared.Row.{Row}
 use Rattle.rules.specs.declared.Entry.{Entry}
-
-abbrev pub isProtected : ℕ → Bool
-isProtected status = eqb (bitOf status 3) 1
 
 unfoldable pub rowOf : List ℕ → Row
 rowOf descriptor =

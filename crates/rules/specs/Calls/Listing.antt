@@ -9,7 +9,7 @@ use Rattle.rules.specs.Sectors.{sectorOf, sectorCount}
 use Rattle.rules.specs.Map.{freeCount}
 use Rattle.rules.specs.Descriptor.{nameOf, statusOf, sectorsOf, fileKind}
 use Rattle.rules.specs.Volume.{files}
-use Rattle.rules.specs.Calls.Catalogue.{isProtected}
+use Rattle.rules.specs.Kind.{isProtected}
 use Rattle.rules.specs.Outcome.{Reading, gives, refuses, judged}
 use Rattle.rules.specs.declared.Kind.{Kind}
 use Rattle.rules.specs.declared.Kind.the-variants.{Program, Fixed, Variable}
