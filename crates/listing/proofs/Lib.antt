@@ -1,5 +1,4 @@
 -- The laws that the proofs share: pieces laid one after another, and a turn of each loop said of the definitions.
 mod LaidLaws
-mod FreeSteps
 mod TextSteps
 mod LineSteps

@@ -5,7 +5,6 @@ ghost use Rattle.rules.specs.Bytes.{splice};
 ghost use Rattle.rules.specs.Outcome.{amountOf};
 ghost use Rattle.rules.specs.Calls.Listing.{listingOf, refusedLine};
 
-pub mod free;
 mod lines;
 mod text;
 

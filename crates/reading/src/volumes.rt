@@ -5,7 +5,7 @@ ghost use Rattle.rules.specs.Bytes.{splice};
 ghost use Rattle.rules.specs.Index.{numbers};
 ghost use Rattle.rules.specs.Outcome.{amountOf};
 ghost use Rattle.rules.specs.Calls.Free.{freeCountOf, summaryOf, summaryName};
-use listing::free::free_count_of;
+use map::free::free_count_of;
 use rules::Amount;
 use rules::Summary;
 use sector::buffer::lay;

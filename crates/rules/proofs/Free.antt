@@ -21,7 +21,7 @@ counted hs zero k = 0
 counted hs (suc many) k = count k hs + counted hs many (k + 1)
 
 -- where each has one holder at most and the map marks it, the zero bits are the sectors that are left
-one-or-none : (marks : ℕ) → marks ≤ 1 → cond (eqb marks 0) 1 0 + marks ≡ 1
+pub one-or-none : (marks : ℕ) → marks ≤ 1 → cond (eqb marks 0) 1 0 + marks ≡ 1
 one-or-none zero h = omega arith
 one-or-none (suc zero) h = omega arith
 one-or-none (suc (suc marks)) h = absurd (omega arith)
@@ -36,13 +36,13 @@ module _ (sector0 hs : List ℕ) (single : (k : ℕ) → count k hs ≤ 1) where
       let more = zeros-below many (k + 1) (λ j low high. marked j (omega arith) (omega arith)) in
       rw here (omega (arith, one, more))
 
-zeros-past : (sector0 : List ℕ) (many k : ℕ) → ((j : ℕ) → k ≤ j → j < k + many → mapBit sector0 j ≡ 1) → zeroBits sector0 many k ≡ 0
+pub zeros-past : (sector0 : List ℕ) (many k : ℕ) → ((j : ℕ) → k ≤ j → j < k + many → mapBit sector0 j ≡ 1) → zeroBits sector0 many k ≡ 0
 unfolding zeroBits
 zeros-past sector0 zero k filled = omega arith
 zeros-past sector0 (suc many) k filled =
     rw (filled k (omega arith) (omega arith)) (omega (arith, zeros-past sector0 many (k + 1) (λ j low high. filled j (omega arith) (omega arith))))
 
-zeros-split : (sector0 : List ℕ) (first second k : ℕ) → zeroBits sector0 (first + second) k ≡ zeroBits sector0 first k + zeroBits sector0 second (k + first)
+pub zeros-split : (sector0 : List ℕ) (first second k : ℕ) → zeroBits sector0 (first + second) k ≡ zeroBits sector0 first k + zeroBits sector0 second (k + first)
 unfolding zeroBits
 zeros-split sector0 zero second k =
     let same : 0 + second ≡ second = omega arith in

@@ -13,6 +13,8 @@ pub mod Index
 pub mod Volume
 pub mod Verdict
 pub mod Free
+pub mod Marking
+pub mod Choice
 pub mod Outcome
 pub mod Formatted
 pub mod Listing

@@ -91,7 +91,7 @@ unfolding mapRule
 at-map n holders sector0 f = at-bits (taken n holders) sector0 1600 0 (λ k low high. f k (omega arith))
 
 -- a byte's bits are those that made it
-by-eight : (P : ℕ → Type 0) → P 0 → P 1 → P 2 → P 3 → P 4 → P 5 → P 6 → P 7 → (j : ℕ) → j < 8 → P j
+pub by-eight : (P : ℕ → Type 0) → P 0 → P 1 → P 2 → P 3 → P 4 → P 5 → P 6 → P 7 → (j : ℕ) → j < 8 → P j
 by-eight P p0 p1 p2 p3 p4 p5 p6 p7 zero h = p0
 by-eight P p0 p1 p2 p3 p4 p5 p6 p7 (suc zero) h = p1
 by-eight P p0 p1 p2 p3 p4 p5 p6 p7 (suc (suc zero)) h = p2

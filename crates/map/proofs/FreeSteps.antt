@@ -9,7 +9,7 @@ use lib.Dec.{eqb}
 use Rattle.rules.specs.Bytes.{byteAt, bitOf}
 use Rattle.rules.specs.Map.{zeroBits}
 use Rattle.rules.proofs.Map.{map-bit}
-use Rattle.listing.specs.Zeros.{zerosIn}
+use Rattle.map.specs.Zeros.{zerosIn}
 
 -- a bit counts where it is zero
 one-bit : (bit : ℕ) → bit < 2 → cond (eqb bit 0) 1 0 + bit ≡ 1

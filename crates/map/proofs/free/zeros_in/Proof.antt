@@ -1,10 +1,10 @@
--- `listing::free::zeros_in` meets its contract. Assumes nothing.
+-- `map::free::zeros_in` meets its contract. Assumes nothing.
 use native.Mathlib.Omega.{arith}
 use native.Mathlib.Nat.{div-one}
-use Rattle.listing.specs.Zeros.{zerosIn}
+use Rattle.map.specs.Zeros.{zerosIn}
 use borrow.Author.Needs.{needs}
-use Rattle.listing.proofs.free.zeros_in.Statement.{statement}
-use Rattle.listing.proofs.free.zeros_in.Tie as tie
+use Rattle.map.proofs.free.zeros_in.Statement.{statement}
+use Rattle.map.proofs.free.zeros_in.Tie as tie
 
 add-low : tie.Need-add-low
 add-low c = search needs

@@ -1,14 +1,14 @@
--- `listing::free::free_count_of` meets its contract. The loop's invariant: the zero bits counted and those from byte i of the map on are the free count.
+-- `map::free::free_count_of` meets its contract. The loop's invariant: the zero bits counted and those from byte i of the map on are the free count.
 -- The measure is what is left of the map. Assumes nothing.
 use mathlib.Core.Path.{_≡_, ap, _∙_}
 use Prim.Native.Nat.{ℕ, _+_, _-_, _*_, _≤_}
 use native.Mathlib.Omega.{arith}
 use Rattle.rules.specs.Map.{zeroBits, freeCount}
-use Rattle.listing.specs.Zeros.{zerosIn}
-use Rattle.listing.proofs.FreeSteps.{zeros-step, zeros-end}
+use Rattle.map.specs.Zeros.{zerosIn}
+use Rattle.map.proofs.FreeSteps.{zeros-step, zeros-end}
 use borrow.Author.Needs.{needs}
-use Rattle.listing.proofs.free.free_count_of.Statement.{statement}
-use Rattle.listing.proofs.free.free_count_of.Tie as tie
+use Rattle.map.proofs.free.free_count_of.Statement.{statement}
+use Rattle.map.proofs.free.free_count_of.Tie as tie
 
 abbrev Inv-loop : tie.InvT-loop
 Inv-loop sector0 free₀ i₀ free i = (i ≤ 200) × (free ≤ 8 * i) × (free + zeroBits sector0 (8 * (200 - i)) (8 * i) ≡ freeCount sector0)

@@ -2,7 +2,7 @@
 ghost use mathlib.Core.Path.{_≡_};
 ghost use Prim.Native.Nat.{_-_, _≤_, _<_};
 ghost use Rattle.rules.specs.Map.{freeCount};
-ghost use Rattle.listing.specs.Zeros.{zerosIn};
+ghost use Rattle.map.specs.Zeros.{zerosIn};
 use sector::bytes::byte;
 
 // The zero bits of a byte.

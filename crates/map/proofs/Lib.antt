@@ -1,0 +1,4 @@
+-- The laws that the proofs share.
+mod FreeSteps
+mod BitLaws
+pub mod SearchLaws

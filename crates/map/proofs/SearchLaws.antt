@@ -1,0 +1,97 @@
+-- The search for data goes on where it came to: what lies behind it is taken, and stays so when more sectors are marked.
+use mathlib.Core.Path.{_≡_, sym, ap, _∙_}
+use mathlib.Core.List.{List}
+use Prim.Native.Nat.{ℕ, zero, suc, _+_, _-_, _≤_, _<_}
+use native.Mathlib.Omega.{arith}
+use native.Mathlib.Decide.{ℕ-discrete}
+use lib.ListN.{length}
+use borrow.Author.Tests.{lt-ltb, le-ltb}
+use Rattle.rules.specs.Map.{mapBit, marked}
+use Rattle.rules.specs.Choice.{lowestFree, dataChoice}
+use Rattle.rules.proofs.Marking.{marked-here, marked-other}
+use Rattle.rules.proofs.Choice.{lowest-step, lowest-from, lowest-to, lowest-first}
+use Rattle.map.specs.Search.{Searched}
+use Rattle.map.specs.declared.choice.Search.{Search}
+
+-- `past` taken sectors from k on are passed over
+pub lowest-past : (sector0 : List ℕ) (past many k : ℕ) → ((i : ℕ) → k ≤ i → i < k + past → mapBit sector0 i ≡ 0 → ⊥)
+    → lowestFree sector0 (past + many) k ≡ lowestFree sector0 many (k + past)
+lowest-past sector0 zero many k full =
+    let e : 0 + many ≡ many = omega arith in
+    let f : k + 0 ≡ k = omega arith in
+    rw (e, f)
+lowest-past sector0 (suc past) many k full =
+    let e : suc past + many ≡ suc (past + many) = omega arith in
+    let f : k + suc past ≡ k + 1 + past = omega arith in
+    rw (e, f) (lowest-step sector0 (past + many) k (full k (omega arith) (omega arith)) ∙ lowest-past sector0 past many (k + 1) (λ i low high. full i (omega arith) (omega arith)))
+
+-- from sector `from` up to `end`, all being taken up to `at`
+pub lowest-on : (sector0 : List ℕ) (from at end : ℕ) → from ≤ at → at ≤ end → ((i : ℕ) → from ≤ i → i < at → mapBit sector0 i ≡ 0 → ⊥)
+    → lowestFree sector0 (end - at) at ≡ lowestFree sector0 (end - from) from
+lowest-on sector0 from at end low high full =
+    let e : end - from ≡ (at - from) + (end - at) = omega arith in
+    let f : from + (at - from) ≡ at = omega arith in
+    rw e (sym (rw f at (lowest-past sector0 (at - from) (end - at) from (λ i l h. full i l (omega (arith, f))))))
+
+-- what the search finds
+pub found-high : (sector0 : List ℕ) → lowestFree sector0 1566 34 < 1600 → dataChoice sector0 ≡ lowestFree sector0 1566 34
+unfolding dataChoice
+found-high sector0 h = rw (lt-ltb (lowestFree sector0 1566 34) 1600 h)
+
+pub found-low : (sector0 : List ℕ) → 1600 ≤ lowestFree sector0 1566 34 → dataChoice sector0 ≡ lowestFree sector0 32 2
+unfolding dataChoice
+found-low sector0 h = rw (le-ltb (lowestFree sector0 1566 34) 1600 h)
+
+pub searched-first : (sector0 : List ℕ) (sector : ℕ) → Searched sector0 (record { sector = sector; high = 34; low = 2 })
+searched-first sector0 sector =
+    record {
+      high = (omega arith, omega arith);
+      low = (omega arith, omega arith);
+      above = λ k l h free. omega arith;
+      below = λ k l h free. omega arith;
+    }
+
+pub searched-marked : (sector0 : List ℕ) (search : Search) (k : ℕ) → length sector0 ≡ 256 → Searched sector0 search → Searched (marked 1 sector0 k) search
+searched-marked sector0 search k long is =
+    let kept : (i : ℕ) → i < 1600 → mapBit (marked 1 sector0 k) i ≡ 0 → mapBit sector0 i ≡ 0 = still in
+    record {
+      high = is .high;
+      low = is .low;
+      above = λ i l h free. is .above i l h (kept i (omega (arith, is .high)) free);
+      below = λ i l h free. is .below i l h (kept i (omega (arith, is .low)) free);
+    }
+  where
+    still : (i : ℕ) → i < 1600 → mapBit (marked 1 sector0 k) i ≡ 0 → mapBit sector0 i ≡ 0
+    still i small free =
+        elim (ℕ-discrete i k) [
+          | yes same ↦ absurd (omega (arith, marked-here 1 (omega arith) sector0 k (omega (arith, same)) long, ap (mapBit (marked 1 sector0 k)) same, free))
+          | no other ↦ sym (marked-other 1 (omega arith) sector0 k i other) ∙ free
+        ]
+
+-- a step of the search, from 34 up and from 2 up
+module _ (sector0 : List ℕ) (search : Search) (is : Searched sector0 search) where
+  pub high-is : lowestFree sector0 (1600 - search .high) (search .high) ≡ lowestFree sector0 1566 34
+  high-is = lowest-on sector0 34 (search .high) 1600 (is .high .0) (is .high .1) (is .above)
+
+  pub low-is : lowestFree sector0 (34 - search .low) (search .low) ≡ lowestFree sector0 32 2
+  low-is = lowest-on sector0 2 (search .low) 34 (is .low .0) (is .low .1) (is .below)
+
+  pub searched-high : (high sector : ℕ) → high ≡ lowestFree sector0 (1600 - search .high) (search .high) → Searched sector0 (record { sector = sector; high = high; low = search .low })
+  searched-high high sector e =
+      let found : high ≡ lowestFree sector0 1566 34 = e ∙ high-is in
+      record {
+        high = (omega (arith, lowest-from sector0 1566 34, found), omega (arith, lowest-to sector0 1566 34, found));
+        low = is .low;
+        above = λ k l h. lowest-first sector0 1566 34 k l (omega (arith, found));
+        below = is .below;
+      }
+
+  pub searched-low : (low sector : ℕ) → low ≡ lowestFree sector0 (34 - search .low) (search .low) → Searched sector0 (record { sector = sector; high = search .high; low = low })
+  searched-low low sector e =
+      let found : low ≡ lowestFree sector0 32 2 = e ∙ low-is in
+      record {
+        high = is .high;
+        low = (omega (arith, lowest-from sector0 32 2, found), omega (arith, lowest-to sector0 32 2, found));
+        above = is .above;
+        below = λ k l h. lowest-first sector0 32 2 k l (omega (arith, found));
+      }
