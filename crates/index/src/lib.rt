@@ -1,0 +1,88 @@
+// Sector 1 anew: with a number taken out, and with one put in its place by name. Each answers for any bytes with what the
+// rules' definitions say; numbers that do not fit into the sector are left out.
+ghost use mathlib.Core.Path.{_≡_};
+ghost use Prim.Native.Nat.{_+_, _≤_, _<_};
+ghost use lib.ListN.{length, drop};
+ghost use Rattle.rules.specs.Bytes.{wordBytes, splice};
+ghost use Rattle.rules.specs.Index.{numbers, numbersBytes, indexOf, without};
+ghost use Rattle.rules.specs.Volume.{placed};
+use descriptor::name::precedes;
+use sector::buffer::lay;
+use sector::bytes::part;
+use sector::bytes::sector_of;
+use sector::bytes::word;
+
+// The number k in the two bytes from `at` on.
+fn lay_number(index: &mut [u8], at: usize, k: usize)
+    requires { ⌜ k < 65536 ⌝ }
+    ensures { λ _. ⌜ now (index .exit) ≡ splice (now (index .entry)) at (wordBytes k) ⌝ }
+{
+    let high = (k / 256) as u8;
+    let low = (k % 256) as u8;
+    let bytes = [high, low];
+    lay(index, at, &bytes);
+}
+
+// The numbers of sector 1 from byte `from` on, laid into the index from byte `at` on.
+fn copy_numbers(index: &mut [u8], at: usize, sector1: &[u8], from: usize)
+    requires { ⌜ (at ≤ from + 2) × (from ≤ length (now sector1)) ⌝ }
+    ensures { λ _. ⌜ now (index .exit) ≡ splice (now (index .entry)) at (numbersBytes (numbers (drop from (now (sector1 .entry))))) ⌝ }
+{
+    let mut to = at;
+    let mut i = from;
+    while i + 2 <= sector1.len() {
+        let k = word(sector1, i);
+        if k == 0 {
+            return;
+        }
+        lay_number(index, to, k);
+        to += 2;
+        i += 2;
+    }
+}
+
+// Sector 1 without the number k: the numbers behind it move down by one place.
+pub fn index_without(sector1: &[u8], k: usize) -> [u8; 256]
+    ensures { λ r. ⌜ r ≡ indexOf (without k (numbers (now (sector1 .entry)))) ⌝ }
+{
+    let mut index = [0u8; 256];
+    let mut at = 0;
+    while at + 2 <= sector1.len() {
+        let j = word(sector1, at);
+        if j == 0 {
+            return index;
+        }
+        if j == k {
+            let next = at + 2;
+            copy_numbers(&mut index, at, sector1, next);
+            return index;
+        }
+        lay_number(&mut index, at, j);
+        at += 2;
+    }
+    index
+}
+
+// Sector 1 with the number k before the first file whose name comes after, the names being those of the image.
+pub fn index_with(image: &[u8], sector1: &[u8], name: &[u8], k: usize) -> [u8; 256]
+    requires { ⌜ k < 65536 ⌝ }
+    ensures { λ r. ⌜ r ≡ indexOf (placed (now (image .entry)) (now (name .entry)) k (numbers (now (sector1 .entry)))) ⌝ }
+{
+    let mut index = [0u8; 256];
+    let mut at = 0;
+    while at + 2 <= sector1.len() {
+        let j = word(sector1, at);
+        if j == 0 {
+            break;
+        }
+        if precedes(name, part(sector_of(image, j), 0, 10)) {
+            break;
+        }
+        lay_number(&mut index, at, j);
+        at += 2;
+    }
+    lay_number(&mut index, at, k);
+    let next = at + 2;
+    copy_numbers(&mut index, next, sector1, at);
+    index
+}

@@ -1,0 +1,178 @@
+-- One sector more at the end of a chain: what the blocks are afterwards, their bytes, which read back as the blocks that were laid down, and the descriptor that takes them.
+use mathlib.Core.Path.{_≡_, refl, sym, ap, _∙_}
+use mathlib.Core.Bool.{Bool, true, false, cond}
+use mathlib.Core.List.{List, [], _∷_, _++_, append-assoc, append-nil}
+use Prim.Native.Nat.{ℕ, zero, suc, _+_, _-_, _*_, _/_, _%_, _≤_, _<_}
+use native.Mathlib.Omega.{arith}
+use native.Mathlib.Decide.{decLt, ℕ-discrete}
+use lib.Dec.{eqb}
+use lib.ListN.{length, drop, replicate, length-replicate, getD-replicate, List·getD-eq-default}
+use lib.Seq.{getD-drop}
+use borrow.Author.Tests.{eq-eqb, ne-eqb, eqb-true}
+use Rattle.rules.specs.Bytes.{byteAt, over, splice}
+use Rattle.rules.specs.declared.Block.{Block}
+use Rattle.rules.specs.Chain.{blockBytes, endsChain, blocks, run, placesFrom, extended, extendedAll, blocksBytes, Linked}
+use Rattle.rules.specs.Map.{count}
+use Rattle.rules.proofs.Map.{count-here, count-more}
+use Rattle.rules.proofs.Splice.{splice-parts}
+use Rattle.rules.proofs.Chain.{block-bytes, run-step}
+
+-- three bytes a block
+pub blocks-bytes-length : (bs : List Block) → length (blocksBytes bs) ≡ 3 * length bs
+unfolding blocksBytes blockBytes
+blocks-bytes-length [] = refl
+blocks-bytes-length (block ∷ more) = omega (arith, blocks-bytes-length more)
+
+pub blocks-bytes-append : (as′ bs : List Block) → blocksBytes (as′ ++ bs) ≡ blocksBytes as′ ++ blocksBytes bs
+unfolding blocksBytes
+blocks-bytes-append [] bs = refl
+blocks-bytes-append (block ∷ more) bs =
+    ap (λ (l : List ℕ). blockBytes block ++ l) (blocks-bytes-append more bs) ∙ sym (append-assoc (blockBytes block) (blocksBytes more) (blocksBytes bs))
+
+-- Blocks that three bytes each can hold, and no three that end the chain.
+unfoldable pub Writable : List Block → Type 0
+Writable [] = Unit {0}
+Writable (block ∷ more) = (1 ≤ block .start) × (block .start < 4096) × (block .last < 4096) × Writable more
+
+goes-on : (block : Block) → 1 ≤ block .start → endsChain (block .start % 256) (block .start / 256 + 16 * (block .last % 16)) (block .last / 16) ≡ false
+unfolding endsChain
+goes-on block h =
+    elim (ℕ-discrete (block .start % 256) 0) [
+      | no low ↦ rw (ne-eqb (block .start % 256) 0 low)
+      | yes low ↦
+          rw (eq-eqb (block .start % 256) 0 low, ne-eqb (block .start / 256 + 16 * (block .last % 16)) 0 (λ e. omega arith))
+    ]
+
+-- the blocks laid down are read back
+pub blocks-back : (bs : List Block) (rest : List ℕ) → Writable bs → blocks (blocksBytes bs ++ rest) ≡ bs ++ blocks rest
+unfolding Writable blocks blocksBytes blockBytes
+blocks-back [] rest w = refl
+blocks-back (block ∷ more) rest w =
+    rw (goes-on block (w .0), block-bytes (block .start) (block .last) (w .1), blocks-back more rest (w .3))
+
+-- zeros hold no block
+pub blocks-zeros : (bytes : List ℕ) → ((i : ℕ) → byteAt bytes i ≡ 0) → blocks bytes ≡ []
+unfolding blocks endsChain
+blocks-zeros [] z = refl
+blocks-zeros (a ∷ []) z = refl
+blocks-zeros (a ∷ (b ∷ [])) z = refl
+blocks-zeros (a ∷ (b ∷ (c ∷ bytes))) z = rw (eq-eqb a 0 (z 0), eq-eqb b 0 (z 1), eq-eqb c 0 (z 2))
+
+-- so blocks laid over the front of a buffer are its blocks where it is zero behind them
+pub blocks-laid : (buffer : List ℕ) (bs : List Block) → Writable bs → 3 * length bs ≤ length buffer → ((i : ℕ) → 3 * length bs ≤ i → byteAt buffer i ≡ 0)
+    → blocks (splice buffer 0 (blocksBytes bs)) ≡ bs
+blocks-laid buffer bs w fits z =
+    let long = blocks-bytes-length bs in
+    let behind = drop (0 + length (blocksBytes bs)) buffer in
+    let none = blocks-zeros behind (λ i. getD-drop (0 + length (blocksBytes bs)) buffer i 0 ∙ z (0 + length (blocksBytes bs) + i) (omega arith)) in
+    ap blocks (sym (splice-parts buffer 0 (blocksBytes bs) (omega arith))) ∙ blocks-back bs behind w ∙ rw (none, append-nil bs)
+
+pub blocks-over : (many : ℕ) (bs : List Block) → Writable bs → 3 * length bs ≤ many → blocks (over (replicate many 0) (blocksBytes bs)) ≡ bs
+unfolding splice
+blocks-over many bs w fits =
+    let long = length-replicate {A = ℕ} many 0 in
+    blocks-laid (replicate many 0) bs w (omega arith)
+    (λ i h.
+    elim (decLt i many) [
+      | yes inside ↦ getD-replicate many i 0 0 inside
+      | no past ↦ List·getD-eq-default (replicate many 0) 0 {n = i} (omega arith)
+    ])
+
+-- a run with one place more
+run-more : (s many : ℕ) → run s (many + 1) ≡ run s many ++ ((s + many) ∷ [])
+unfolding run
+run-more s zero = let e : s + 0 ≡ s = omega arith in rw (e, run-step s 0)
+run-more s (suc many) =
+    let e : s + 1 + many ≡ s + suc many = omega arith in
+    let f : suc many + 1 ≡ suc (many + 1) = omega arith in
+    rw f (ap (λ (l : List ℕ). s ∷ l) (run-more (s + 1) many ∙ rw e))
+
+-- A chain with one sector more covers the old places and the new one.
+module _ (n : ℕ) (k : ℕ) where
+  pub extended-places : (c next : ℕ) (bs : List Block) → Linked n c next bs → placesFrom next (extended next bs k) ≡ placesFrom next bs ++ (k ∷ [])
+  unfolding Linked extended placesFrom run
+  extended-places c next [] is = let e : next - next + 1 ≡ suc zero = omega arith in rw e
+  extended-places c next (block ∷ []) is = go (eqb k (block .start + (block .last + 1 - next))) refl
+    where
+      go : (t : Bool) → eqb k (block .start + (block .last + 1 - next)) ≡ t
+          → placesFrom next (cond t (record { start = block .start; last = block .last + 1 } ∷ []) (block ∷ (record { start = k; last = block .last + 1 } ∷ [])))
+          ≡ placesFrom next (block ∷ []) ++ (k ∷ [])
+      go true e =
+          let follows = eqb-true k (block .start + (block .last + 1 - next)) e in
+          let one : block .last + 1 - next ≡ block .last - next + 1 = omega (arith, is .1) in
+          rw (append-nil (run (block .start) (block .last + 1 - next + 1)), append-nil (run (block .start) (block .last - next + 1)), one, run-more (block .start) (block .last - next + 1), follows, one)
+      go false e =
+          let one : block .last + 1 - (block .last + 1) + 1 ≡ suc zero = omega arith in
+          rw (one, append-nil (run (block .start) (block .last - next + 1)))
+  extended-places c next (block ∷ (second ∷ more)) is =
+      ap (λ (l : List ℕ). run (block .start) (block .last - next + 1) ++ l) (extended-places c (block .last + 1) (second ∷ more) (is .3))
+      ∙ sym (append-assoc (run (block .start) (block .last - next + 1)) (placesFrom (block .last + 1) (second ∷ more)) (k ∷ []))
+
+  -- and is linked where k is a place of the volume
+  pub extended-linked : 2 ≤ k → k < n → (c next : ℕ) (bs : List Block) → Linked n c next bs → Linked n (c + 1) next (extended next bs k)
+  unfolding Linked extended
+  extended-linked low high c next [] is = (low, omega arith, omega arith, omega arith)
+  extended-linked low high c next (block ∷ []) is = go (eqb k (block .start + (block .last + 1 - next))) refl
+    where
+      go : (t : Bool) → eqb k (block .start + (block .last + 1 - next)) ≡ t
+          → Linked n (c + 1) next (cond t (record { start = block .start; last = block .last + 1 } ∷ []) (block ∷ (record { start = k; last = block .last + 1 } ∷ [])))
+      go true e =
+          let follows = eqb-true k (block .start + (block .last + 1 - next)) e in
+          (is .0, omega (arith, is .1), omega arith, omega (arith, is .3))
+      go false e = (is .0, is .1, is .2, (low, omega arith, omega arith, omega (arith, is .3)))
+  extended-linked low high c next (block ∷ (second ∷ more)) is =
+      (is .0, is .1, is .2, extended-linked low high c (block .last + 1) (second ∷ more) (is .3))
+
+-- it has as many blocks or one more, and at least one
+pub extended-length : (next : ℕ) (bs : List Block) (k : ℕ)
+    → (length bs ≤ length (extended next bs k)) × (length (extended next bs k) ≤ length bs + 1) × (1 ≤ length (extended next bs k))
+unfolding extended
+extended-length next [] k = (omega arith, omega arith, omega arith)
+extended-length next (block ∷ []) k = go (eqb k (block .start + (block .last + 1 - next)))
+  where
+    go : (t : Bool)
+        → let bs = cond t (record { start = block .start; last = block .last + 1 } ∷ []) (block ∷ (record { start = k; last = block .last + 1 } ∷ [])) in
+        (length (block ∷ []) ≤ length bs) × (length bs ≤ length (block ∷ []) + 1) × (1 ≤ length bs)
+    go true = (omega arith, omega arith, omega arith)
+    go false = (omega arith, omega arith, omega arith)
+extended-length next (block ∷ (second ∷ more)) k =
+    let rest = extended-length (block .last + 1) (second ∷ more) k in
+    (omega (arith, rest .0), omega (arith, rest .1), omega arith)
+
+-- The same for several sectors, one after another.
+module _ (n : ℕ) where
+  pub extended-all-linked : (ks : List ℕ) → ((k : ℕ) → 1 ≤ count k ks → (2 ≤ k) × (k < n)) → (c : ℕ) (bs : List Block) → Linked n c 0 bs
+      → Linked n (c + length ks) 0 (extendedAll bs ks)
+  unfolding extendedAll
+  extended-all-linked [] inside c bs is = let e : c + 0 ≡ c = omega arith in rw e is
+  extended-all-linked (k ∷ ks) inside c bs is =
+      let e : c + 1 + length ks ≡ c + suc (length ks) = omega arith in
+      let here = inside k (omega (arith, count-here k ks)) in
+      rw (← e) (extended-all-linked ks (λ j h. inside j (omega (arith, count-more j k ks))) (c + 1) (extended 0 bs k) (extended-linked n k (here .0) (here .1) c 0 bs is))
+
+  pub extended-all-places : (ks : List ℕ) → ((k : ℕ) → 1 ≤ count k ks → (2 ≤ k) × (k < n)) → (c : ℕ) (bs : List Block) → Linked n c 0 bs
+      → placesFrom 0 (extendedAll bs ks) ≡ placesFrom 0 bs ++ ks
+  unfolding extendedAll
+  extended-all-places [] inside c bs is = sym (append-nil (placesFrom 0 bs))
+  extended-all-places (k ∷ ks) inside c bs is =
+      let here = inside k (omega (arith, count-here k ks)) in
+      extended-all-places ks (λ j h. inside j (omega (arith, count-more j k ks))) (c + 1) (extended 0 bs k) (extended-linked n k (here .0) (here .1) c 0 bs is)
+      ∙ ap (λ (l : List ℕ). l ++ ks) (extended-places n k c 0 bs is)
+      ∙ append-assoc (placesFrom 0 bs) (k ∷ []) ks
+
+pub extended-all-length : (ks : List ℕ) (bs : List Block) → length bs ≤ length (extendedAll bs ks)
+unfolding extendedAll
+extended-all-length [] bs = omega arith
+extended-all-length (k ∷ ks) bs = omega (arith, extended-all-length ks (extended 0 bs k), extended-length 0 bs k .0)
+
+-- no block of a linked chain ends past c
+linked-most : (n c next : ℕ) (bs : List Block) → Linked n c next bs → next ≤ c
+unfolding Linked
+linked-most n c next [] is = omega arith
+linked-most n c next (block ∷ more) is = omega (arith, is .1, linked-most n c (block .last + 1) more (is .3))
+
+pub linked-writable : (n c next : ℕ) (bs : List Block) → n ≤ 4096 → c ≤ 4096 → Linked n c next bs → Writable bs
+unfolding Linked Writable
+linked-writable n c next [] small few is = tt
+linked-writable n c next (block ∷ more) small few is =
+    (omega (arith, is .0), omega (arith, is .2), omega (arith, linked-most n c (block .last + 1) more (is .3)), linked-writable n c (block .last + 1) more small few (is .3))
