@@ -4,11 +4,11 @@
 //
 // A case is a function that makes its volume in an array of its own, so no case leans on another. Its
 // answer is whether its lines could be written.
+use formatting::format::Geometry;
+use formatting::format::format;
 use judge::judge;
 use libc::STDOUT_FILENO;
 use rules::Answer;
-use writing::format::Geometry;
-use writing::format::format;
 
 fn write_line(words: &[u8], number: u32) -> bool {
     io::write_all(STDOUT_FILENO, words)

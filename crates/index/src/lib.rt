@@ -5,9 +5,12 @@ ghost use Prim.Native.Nat.{_+_, _≤_, _<_};
 ghost use lib.ListN.{length, drop};
 ghost use Rattle.rules.specs.Bytes.{wordBytes, splice};
 ghost use Rattle.rules.specs.Index.{numbers, numbersBytes, indexOf, without};
+ghost use Rattle.rules.specs.Sectors.{written};
 ghost use Rattle.rules.specs.Volume.{placed};
+ghost use Rattle.rules.specs.Calls.Create.{entered};
 use descriptor::name::precedes;
 use sector::buffer::lay;
+use sector::buffer::write_sector;
 use sector::bytes::part;
 use sector::bytes::sector_of;
 use sector::bytes::word;
@@ -85,4 +88,15 @@ pub fn index_with(image: &[u8], sector1: &[u8], name: &[u8], k: usize) -> [u8; 2
     let next = at + 2;
     copy_numbers(&mut index, next, sector1, at);
     index
+}
+
+// A new file's last three writes: its descriptor in sector k, sector 0, and sector 1 with k in its place.
+pub fn enter(image: &mut [u8], name: &[u8], k: usize, descriptor: &[u8], sector0: &[u8])
+    requires { ⌜ k < 65536 ⌝ }
+    ensures { λ _. ⌜ now (image .exit) ≡ written (now (image .entry)) (entered (now (image .entry)) (now (name .entry)) k (now (descriptor .entry)) (now (sector0 .entry))) ⌝ }
+{
+    let index = index_with(image, sector_of(image, 1), name, k);
+    write_sector(image, k, descriptor);
+    write_sector(image, 0, sector0);
+    write_sector(image, 1, &index);
 }

@@ -26,9 +26,9 @@ use crossing::answer_number;
 use crossing::flag_of;
 use crossing::kind_number;
 use descriptor::kind::kind_length;
+use formatting::format::Geometry;
 use rules::Answer;
 use rules::Summary;
-use writing::format::Geometry;
 
 // The number 0 to 6 of an image.
 #[no_mangle]
@@ -57,7 +57,7 @@ pub extern "C" fn pno_format(
         sides,
         density,
     };
-    answer_number(writing::format::format(image, n, name, geometry))
+    answer_number(formatting::format::format(image, n, name, geometry))
 }
 
 // The number of free sectors.

@@ -9,6 +9,7 @@ mod volumes;
 
 pub use entries::entry;
 pub use opener::find;
+pub use opener::find_in;
 pub use programs::load;
 pub use sectors::read;
 pub use volumes::free_count;

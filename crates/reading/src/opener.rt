@@ -10,7 +10,7 @@ use sector::bytes::sector_of;
 use sector::bytes::word;
 
 // The first file of that name, by its place in the catalogue and its descriptor's sector.
-fn find_in(image: &[u8], name: &[u8]) -> Opened
+pub fn find_in(image: &[u8], name: &[u8]) -> Opened
     ensures { λ r. ⌜ r ≡ findIn (now (image .entry)) (now (name .entry)) 0 (files (now (image .entry))) ⌝ }
 {
     let sector1 = sector_of(image, 1);

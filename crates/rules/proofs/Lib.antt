@@ -18,5 +18,6 @@ pub mod Free
 pub mod Marking
 pub mod Choice
 pub mod Outcome
+pub mod Changes
 pub mod Formatted
 pub mod Listing

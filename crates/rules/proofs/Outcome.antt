@@ -103,7 +103,7 @@ opened-is image name p k e = go (eqb (verdict image) 0) (nameRule name) refl ref
     go false u v r e = absurd (let z : _≡_ {A = ℕ} 0 1 = cc in omega arith)
 
 -- a refusal has a number
-find-refused : (image name : List ℕ) (p : ℕ) (ks : List ℕ) (number : ℕ) → findIn image name p ks ≡ Refused number → number ≡ 8
+pub find-refused : (image name : List ℕ) (p : ℕ) (ks : List ℕ) (number : ℕ) → findIn image name p ks ≡ Refused number → number ≡ 8
 unfolding findIn
 find-refused image name p [] number e = cc
 find-refused image name p (k ∷ ks) number e = go (same name (nameIn image k)) e (find-refused image name (p + 1) ks number)

@@ -28,3 +28,10 @@ pub record Sound (image : List ℕ) : Type 0 where
   -- the map marks the holders and nothing else below the end, and all from there on
   pub marked : (k : ℕ) → k < sectorCount image → mapBit (sectorOf image 0) k ≡ count k (holders image)
   pub filled : (k : ℕ) → sectorCount image ≤ k → k < 1600 → mapBit (sectorOf image 0) k ≡ 1
+
+-- k is the sector of a file's descriptor, on a sound volume
+pub record IsFile (image : List ℕ) (k : ℕ) : Type 0 where
+  pub sound : Sound image
+  pub place : ℕ
+  pub inside : place < length (files image)
+  pub is : fileAt image place ≡ k

@@ -1,4 +1,4 @@
--- `writing::format::new_label` meets its contract: the name and the ten bytes behind it are laid over zeros, one behind the other. Assumes nothing.
+-- `formatting::format::new_label` meets its contract: the name and the ten bytes behind it are laid over zeros, one behind the other. Assumes nothing.
 use mathlib.Core.Path.{_≡_, refl, _∙_}
 use mathlib.Core.List.{List, _++_, append-assoc}
 use Prim.Native.Nat.{ℕ}
@@ -8,8 +8,8 @@ use Rattle.rules.specs.Bytes.{splice}
 use Rattle.rules.specs.Calls.Format.{newLabel}
 use Rattle.rules.proofs.Formatted.{laid-front, laid-next}
 use borrow.Author.Needs.{needs}
-use Rattle.writing.proofs.format.new_label.Statement.{statement}
-use Rattle.writing.proofs.format.new_label.Tie as tie
+use Rattle.formatting.proofs.format.new_label.Statement.{statement}
+use Rattle.formatting.proofs.format.new_label.Tie as tie
 
 cast-high : tie.Need-cast-high
 cast-high c = search needs

@@ -1,4 +1,4 @@
--- `writing::format::new_map` meets its contract. The loop's invariant: the first i bytes are the map's. The measure is what is left of the 200. Assumes nothing.
+-- `formatting::format::new_map` meets its contract. The loop's invariant: the first i bytes are the map's. The measure is what is left of the 200. Assumes nothing.
 use mathlib.Core.Path.{_≡_, refl, sym, ap, _∙_}
 use mathlib.Core.List.{[], _∷_}
 use Prim.Native.Nat.{_≤_, _-_}
@@ -9,8 +9,8 @@ use Rattle.rules.proofs.Map.{bytes-at}
 use Rattle.rules.proofs.Formatted.{map-length}
 use Rattle.sector.proofs.Front.{front-more, front-whole}
 use borrow.Author.Needs.{needs}
-use Rattle.writing.proofs.format.new_map.Statement.{statement}
-use Rattle.writing.proofs.format.new_map.Tie as tie
+use Rattle.formatting.proofs.format.new_map.Statement.{statement}
+use Rattle.formatting.proofs.format.new_map.Tie as tie
 
 abbrev Inv-loop : tie.InvT-loop
 Inv-loop n map₀ i₀ map i = (length map ≡ 200) × (i ≤ 200) × (take i map ≡ take i (mapOf n (0 ∷ (1 ∷ []))))

@@ -1,4 +1,4 @@
--- `writing::format::write_volume` meets its contract: sector 0, the zeros and the rest are laid one behind the other and make the whole image. Assumes nothing.
+-- `formatting::format::write_volume` meets its contract: sector 0, the zeros and the rest are laid one behind the other and make the whole image. Assumes nothing.
 use mathlib.Core.Path.{_≡_, sym, ap, _∙_}
 use mathlib.Core.List.{List, _++_, append-assoc}
 use Prim.Native.Nat.{ℕ, _-_, _*_, _≤_}
@@ -9,10 +9,10 @@ use Rattle.rules.specs.Bytes.{part, splice}
 use Rattle.rules.proofs.Bytes.{part-length}
 use Rattle.rules.proofs.Splice.{splice-length, splice-whole, put-back}
 use Rattle.rules.proofs.Formatted.{laid-next, sector0-length, formatted-parts}
-use Rattle.writing.specs.Geometry.{geometryOf}
+use Rattle.formatting.specs.Geometry.{geometryOf}
 use borrow.Author.Needs.{needs}
-use Rattle.writing.proofs.format.write_volume.Statement.{statement}
-use Rattle.writing.proofs.format.write_volume.Tie as tie
+use Rattle.formatting.proofs.format.write_volume.Statement.{statement}
+use Rattle.formatting.proofs.format.write_volume.Tie as tie
 
 new-sector0-requires : tie.Need-new-sector0-requires
 new-sector0-requires c κs = search needs

@@ -1,4 +1,4 @@
--- `writing::format::format` meets its contract: each refusal gives the number of the first test that failed, the tests before it having passed, and leaves
+-- `formatting::format::format` meets its contract: each refusal gives the number of the first test that failed, the tests before it having passed, and leaves
 -- the image as it was. Assumes nothing.
 use mathlib.Core.Path.{_≡_, sym, _∙_}
 use mathlib.Core.Bool.{true, false}
@@ -14,8 +14,8 @@ use Rattle.rules.specs.Calls.Format.{Geometry, formatted, formatNumber, afterFo
 use Rattle.rules.specs.declared.Answer.the-variants.{Done, Refused}
 use Rattle.rules.proofs.Name.{name-is}
 use borrow.Author.Needs.{needs}
-use Rattle.writing.proofs.format.format.Statement.{statement}
-use Rattle.writing.proofs.format.format.Tie as tie
+use Rattle.formatting.proofs.format.format.Statement.{statement}
+use Rattle.formatting.proofs.format.format.Tie as tie
 
 -- what a number says of the answer and of the image
 module _ (image : List ℕ) (n : ℕ) (name : List ℕ) (g : Geometry) where

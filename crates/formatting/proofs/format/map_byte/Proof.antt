@@ -1,13 +1,13 @@
--- `writing::format::map_byte` meets its contract: in byte 0 the bits of sectors 0 and 1 come to those past the end, and nowhere else. Assumes nothing.
+-- `formatting::format::map_byte` meets its contract: in byte 0 the bits of sectors 0 and 1 come to those past the end, and nowhere else. Assumes nothing.
 use mathlib.Core.Path.{_≡_, _∙_}
 use mathlib.Core.List.{[]}
 use Prim.Native.Nat.{_*_}
 use native.Mathlib.Omega.{arith}
 use Rattle.rules.specs.Map.{taken, byteOf}
-use Rattle.writing.proofs.EmptyMap.{system-byte, later-byte, system-room}
+use Rattle.formatting.proofs.EmptyMap.{system-byte, later-byte, system-room}
 use borrow.Author.Needs.{needs}
-use Rattle.writing.proofs.format.map_byte.Statement.{statement}
-use Rattle.writing.proofs.format.map_byte.Tie as tie
+use Rattle.formatting.proofs.format.map_byte.Statement.{statement}
+use Rattle.formatting.proofs.format.map_byte.Tie as tie
 
 mul-past-end : tie.Need-mul-past-end
 mul-past-end c = search needs

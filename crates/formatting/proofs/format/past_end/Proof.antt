@@ -1,10 +1,10 @@
--- `writing::format::past_end` meets its contract: 255 shifted up by the number of the eight sectors that are below the end. Assumes nothing.
+-- `formatting::format::past_end` meets its contract: 255 shifted up by the number of the eight sectors that are below the end. Assumes nothing.
 use Prim.Native.Nat.{_-_}
 use native.Mathlib.Omega.{arith}
-use Rattle.writing.proofs.EmptyMap.{past-byte}
+use Rattle.formatting.proofs.EmptyMap.{past-byte}
 use borrow.Author.Needs.{needs}
-use Rattle.writing.proofs.format.past_end.Statement.{statement}
-use Rattle.writing.proofs.format.past_end.Tie as tie
+use Rattle.formatting.proofs.format.past_end.Statement.{statement}
+use Rattle.formatting.proofs.format.past_end.Tie as tie
 
 returns : tie.Need-returns
 returns c = past-byte _ _ 0 (omega arith) (λ j h. absurd (omega arith)) (λ j h l. omega arith)

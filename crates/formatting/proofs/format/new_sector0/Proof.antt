@@ -1,4 +1,4 @@
--- `writing::format::new_sector0` meets its contract: the label and the map are laid over a sector of zeros, one behind the other, and fill it. Assumes nothing.
+-- `formatting::format::new_sector0` meets its contract: the label and the map are laid over a sector of zeros, one behind the other, and fill it. Assumes nothing.
 use mathlib.Core.Path.{_≡_, _∙_}
 use mathlib.Core.List.{List, [], _∷_, _++_}
 use Prim.Native.Nat.{ℕ}
@@ -7,10 +7,10 @@ use lib.ListN.{length, replicate, length-append}
 use Rattle.rules.specs.Bytes.{splice}
 use Rattle.rules.proofs.Splice.{splice-whole}
 use Rattle.rules.proofs.Formatted.{laid-next, map-length, label-length}
-use Rattle.writing.specs.Geometry.{geometryOf}
+use Rattle.formatting.specs.Geometry.{geometryOf}
 use borrow.Author.Needs.{needs}
-use Rattle.writing.proofs.format.new_sector0.Statement.{statement}
-use Rattle.writing.proofs.format.new_sector0.Tie as tie
+use Rattle.formatting.proofs.format.new_sector0.Statement.{statement}
+use Rattle.formatting.proofs.format.new_sector0.Tie as tie
 
 new-label-requires : tie.Need-new-label-requires
 new-label-requires c κs = search needs

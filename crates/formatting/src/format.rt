@@ -6,7 +6,7 @@ ghost use lib.ListN.{length};
 ghost use Rattle.rules.specs.Map.{taken, byteOf, mapOf};
 ghost use Rattle.rules.specs.Outcome.{answerOf};
 ghost use Rattle.rules.specs.Calls.Format.{newLabel, formatted, formatNumber, afterFormat};
-ghost use Rattle.writing.specs.Geometry.{geometryOf};
+ghost use Rattle.formatting.specs.Geometry.{geometryOf};
 use descriptor::name::name_rule;
 use rules::Answer;
 use sector::buffer::fill;
