@@ -5,29 +5,22 @@ use mathlib.Core.List.{List, [], _∷_, _++_, append-nil}
 use Prim.Native.Nat.{ℕ, zero, suc, _+_, _-_, _*_, _≤_, _<_}
 use native.Mathlib.Omega.{arith}
 use native.Mathlib.Decide.{decLt}
-use lib.ListN.{length, take, replicate, length-take, length-replicate, getD-replicate, List·getD-eq-default}
+use lib.ListN.{length, take, replicate, length-take, length-replicate}
 use lib.Seq.{take-length, ext-getD}
 use Rattle.rules.specs.Bytes.{byteAt, over, splice}
 use Rattle.rules.specs.Chain.{blockBytes, blocksBytes, blockOf, endsChain, blocks, extended, Linked, IsChain}
 use Rattle.rules.specs.declared.Block.{Block}
 use Rattle.rules.proofs.Splice.{splice-length, splice-none, splice-inside, splice-above, splice-append}
 use Rattle.rules.proofs.Chain.{bytes-block}
-use Rattle.rules.proofs.Extended.{blocks-bytes-length, blocks-bytes-append, blocks-laid, blocks-zeros, extended-length, extended-linked, linked-writable}
+use Rattle.rules.proofs.Extended.{replicate-zero, blocks-bytes-length, blocks-bytes-append, blocks-laid, blocks-zeros, extended-length, extended-linked, linked-writable}
 use Rattle.extension.specs.declared.Tip.{Tip}
 use Rattle.extension.specs.Tip.{noTip, tipFrom, tipOf, tipWith, IsTip}
 use Rattle.extension.specs.Built.{Built, Extendable, Extends}
-use Rattle.extension.proofs.Tips.{tip-used, tip-next, tip-with, length-with, next-with, start-with, last-with}
+use Rattle.extension.proofs.Tips.{tip-next, tip-with, length-with, next-with, start-with, last-with}
 
 -- A chain of 228 zeros is built of nothing.
-zeros : (many i : ℕ) → byteAt (replicate many 0) i ≡ 0
-zeros many i =
-    elim (decLt i many) [
-      | yes inside ↦ getD-replicate many i 0 0 inside
-      | no past ↦ List·getD-eq-default (replicate many 0) 0 {n = i} (omega (arith, length-replicate {A = ℕ} many 0))
-    ]
-
 pub no-blocks : (many : ℕ) → blocks (replicate many 0) ≡ []
-no-blocks many = blocks-zeros (replicate many 0) (zeros many)
+no-blocks many = blocks-zeros (replicate many 0) (replicate-zero many)
 
 pub built-none : (many : ℕ) → many ≡ 228 → Built (replicate many 0) noTip
 unfolding tipOf tipFrom Linked
@@ -36,7 +29,7 @@ built-none many e =
     record {
       size = omega arith;
       tip-is = record { is = rw (no-blocks many); used = omega arith; start = omega arith; next = omega arith };
-      chain-is = record { linked = rw (no-blocks many); rest = λ i h. zeros many i };
+      chain-is = record { linked = rw (no-blocks many); rest = λ i h. replicate-zero many i };
     }
 
 -- A chain that keeps its rules is built: that of a sound file has n and c up to 1,600.
@@ -52,9 +45,9 @@ built-chain n c chain tip wide size is at =
       next,
     )
 
--- How many blocks a sector more leaves: where they are more than 76, there is no room for it.
-pub used-is : (chain : List ℕ) (tip : Tip) (k : ℕ) → IsTip chain tip → tipWith tip k .used ≡ length (extended 0 (blocks chain) k)
-used-is chain tip k at = ap (λ (t : Tip). tipWith t k .used) (at .is) ∙ sym (length-with (blocks chain) k)
+-- How many blocks a sector more leaves, by the tip that `tip_with` gives: where they are more than 76, there is no room for it.
+pub longer-used : (chain : List ℕ) (tip : Tip) (k : ℕ) → IsTip chain tip → (longer : Tip) → longer ≡ tipWith tip k → longer .used ≡ length (extended 0 (blocks chain) k)
+longer-used chain tip k at longer is = ap (λ (t : Tip). t .used) is ∙ ap (λ (t : Tip). tipWith t k .used) (at .is) ∙ sym (length-with (blocks chain) k)
 
 -- the first blocks of a chain, laid over it, change nothing
 front-laid : (chain : List ℕ) (many : ℕ) → ((i : ℕ) → byteAt chain i < 256) → splice chain 0 (blocksBytes (take many (blocks chain))) ≡ chain
@@ -107,7 +100,7 @@ module _ (chain : List ℕ) (tip : Tip) (k : ℕ) (can : Extendable chain tip k)
       × (longer .start < 4096)
       × (longer .next ≡ tip .next + 1)
   longer-numbers =
-      let used : longer .used ≡ length (extended 0 (blocks chain) k) = ap (λ (t : Tip). t .used) longer-is ∙ tip-used (extended 0 (blocks chain) k) in (
+      let used = longer-used chain tip k (can .built .tip-is) longer is in (
         used,
         omega (arith, used, extended-length 0 (blocks chain) k .2),
         rw is (can .room),
@@ -181,5 +174,5 @@ built-laid many chain tip e is small =
           let new = splice-inside (replicate many 0) 0 bytes i inside (omega (arith, is .size)) in
           sym (ap (λ (l : List ℕ). byteAt l i) whole) ∙ rw z at old ∙ sym (rw z at new)
       | no past ↦
-          is .chain-is .rest i (omega arith) ∙ sym (splice-above (replicate many 0) 0 bytes i (omega arith) ∙ zeros many i)
+          is .chain-is .rest i (omega arith) ∙ sym (splice-above (replicate many 0) 0 bytes i (omega arith) ∙ replicate-zero many i)
     ])

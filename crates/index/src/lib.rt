@@ -1,13 +1,14 @@
 // Sector 1 anew: with a number taken out, and with one put in its place by name. Each answers for any bytes with what the
 // rules' definitions say; numbers that do not fit into the sector are left out.
 ghost use mathlib.Core.Path.{_≡_};
+ghost use mathlib.Core.List.{[], _∷_};
 ghost use Prim.Native.Nat.{_+_, _≤_, _<_};
 ghost use lib.ListN.{length, drop};
 ghost use Rattle.rules.specs.Bytes.{wordBytes, splice};
 ghost use Rattle.rules.specs.Index.{numbers, numbersBytes, indexOf, without};
 ghost use Rattle.rules.specs.Sectors.{written};
 ghost use Rattle.rules.specs.Volume.{placed};
-ghost use Rattle.rules.specs.Calls.Create.{entered};
+ghost use Rattle.rules.specs.Outcome.{write};
 use descriptor::name::precedes;
 use sector::buffer::lay;
 use sector::buffer::write_sector;
@@ -90,13 +91,12 @@ pub fn index_with(image: &[u8], sector1: &[u8], name: &[u8], k: usize) -> [u8; 2
     index
 }
 
-// A new file's last three writes: its descriptor in sector k, sector 0, and sector 1 with k in its place.
-pub fn enter(image: &mut [u8], name: &[u8], k: usize, descriptor: &[u8], sector0: &[u8])
+// A new file's last three writes: its descriptor in sector k, sector 0, and sector 1.
+pub fn enter(image: &mut [u8], k: usize, descriptor: &[u8], sector0: &[u8], index: &[u8])
     requires { ⌜ k < 65536 ⌝ }
-    ensures { λ _. ⌜ now (image .exit) ≡ written (now (image .entry)) (entered (now (image .entry)) (now (name .entry)) k (now (descriptor .entry)) (now (sector0 .entry))) ⌝ }
+    ensures { λ _. ⌜ now (image .exit) ≡ written (now (image .entry)) (write k (now (descriptor .entry)) ∷ (write 0 (now (sector0 .entry)) ∷ (write 1 (now (index .entry)) ∷ []))) ⌝ }
 {
-    let index = index_with(image, sector_of(image, 1), name, k);
     write_sector(image, k, descriptor);
     write_sector(image, 0, sector0);
-    write_sector(image, 1, &index);
+    write_sector(image, 1, index);
 }

@@ -1,24 +1,28 @@
--- Calls that change an image: what a number says of the answer and of the image, a change of a file that was found, and an addition under a name that was not.
+-- Calls that change an image: what a number says of the answer and of the image, the tests of a status, a change of a file that was found, and an addition under a name that was not.
 use mathlib.Core.Path.{_≡_, refl, sym, ap, _∙_}
 use mathlib.Core.Bool.{Bool, true, false, cond}
 use mathlib.Core.List.{List}
-use Prim.Native.Nat.{ℕ, _+_, _*_, _≤_, _<_}
+use Prim.Native.Nat.{ℕ, _+_, _*_, _/_, _%_, _≤_, _<_}
 use native.Mathlib.Omega.{arith}
+use native.Mathlib.Nat.{div-one}
 use lib.Dec.{eqb}
-use lib.ListN.{length}
+use lib.ListN.{length, getD}
 use borrow.Author.Tests.{eq-eqb, ne-eqb, eqb-true, eqb-false}
 use Rattle.rules.specs.Sectors.{Write, written, sectorOf, sectorCount}
 use Rattle.rules.specs.Name.{nameRule}
 use Rattle.rules.specs.Label.{labelRule}
 use Rattle.rules.specs.Map.{mapRule}
-use Rattle.rules.specs.Descriptor.{IsDescriptor}
+use Rattle.rules.specs.Kind.{isProgram, isProtected}
+use Rattle.rules.specs.Descriptor.{statusOf, sectorsOf, IsDescriptor}
 use Rattle.rules.specs.Index.{indexRule}
-use Rattle.rules.specs.Volume.{files, holders}
+use Rattle.rules.specs.Volume.{files, placesIn, holders}
 use Rattle.rules.specs.Verdict.{sizeRule, descriptorsRule, heldTwice, verdict}
 use Rattle.rules.specs.Sound.{Sound, IsFile}
 use Rattle.rules.specs.Outcome.{Outcome, refusal, done, answerOf, findIn, openOf, changing, adding}
+use Rattle.rules.specs.declared.Answer.{Answer}
 use Rattle.rules.specs.declared.Answer.the-variants as answer
 use Rattle.rules.specs.declared.Opened.the-variants.{At, Refused}
+use Rattle.rules.proofs.Volume.{place-inside}
 use Rattle.rules.proofs.Verdict.{sound}
 use Rattle.rules.proofs.Outcome.{IsOpened, opened-is, find-refused, file-low, file-long}
 
@@ -32,6 +36,26 @@ module _ (image : List ℕ) (outcome : Outcome) where
   pub done-meets : (writes : List Write) → outcome ≡ done writes → (answer.Done ≡ answerOf (outcome .number)) × (written image writes ≡ written image (outcome .writes))
   unfolding answerOf
   done-meets writes e = (rw e, rw e)
+
+-- a call that hands on what another one did
+pub handed-on : (image after : List ℕ) (given : Answer) (outcome inner : Outcome) → outcome ≡ inner
+    → (given ≡ answerOf (inner .number)) × (after ≡ written image (inner .writes))
+    → (given ≡ answerOf (outcome .number)) × (after ≡ written image (outcome .writes))
+handed-on image after given outcome inner e meets = rw e meets
+
+-- the tests of a status, by the bits that the code takes out of it
+module _ (descriptor : List ℕ) (status : ℕ) (is : status ≡ statusOf descriptor) where
+  pub protected : status / 8 % 2 ≡ 1 → isProtected (statusOf descriptor) ≡ true
+  protected set = rw (← is) (eq-eqb (status / 8 % 2) 1 set)
+
+  pub unprotected : (status / 8 % 2 ≡ 1 → ⊥) → isProtected (statusOf descriptor) ≡ false
+  unprotected clear = rw (← is) (ne-eqb (status / 8 % 2) 1 clear)
+
+  pub program : status % 2 ≡ 1 → isProgram (statusOf descriptor) ≡ true
+  program set = rw (← is, div-one status) (eq-eqb (status % 2) 1 set)
+
+  pub no-program : (status % 2 ≡ 1 → ⊥) → isProgram (statusOf descriptor) ≡ false
+  no-program clear = rw (← is, div-one status) (ne-eqb (status % 2) 1 clear)
 
 -- a change of the file of that name
 module _ (image name : List ℕ) (change : ℕ → Outcome) where
@@ -61,6 +85,9 @@ module _ (image : List ℕ) (k : ℕ) (file : IsFile image k) where
 
   pub is-sector : length (sectorOf image k) ≡ 256
   is-sector = file-long image k (file .sound) in-volume
+
+  pub place-in-image : (offset : ℕ) → offset < sectorsOf (sectorOf image k) → 256 * getD (placesIn image k) offset 0 + 256 ≤ length image
+  place-in-image offset h = omega (arith, place-inside (sectorCount image) image k offset has-rules h .1, file .sound .whole)
 
 -- an addition under that name
 module _ (image name : List ℕ) (addition : Outcome) where

@@ -1,4 +1,4 @@
--- One sector more at the end of a chain: what the blocks are afterwards, their bytes, which read back as the blocks that were laid down, and the descriptor that takes them.
+-- One sector more at the end of a chain: the blocks and their places afterwards, their bytes, which read back as the blocks that were laid down, and the descriptor that takes them. Last, how many sectors a sound file can have.
 use mathlib.Core.Path.{_≡_, refl, sym, ap, _∙_}
 use mathlib.Core.Bool.{Bool, true, false, cond}
 use mathlib.Core.List.{List, [], _∷_, _++_, append-assoc, append-nil}
@@ -6,16 +6,22 @@ use Prim.Native.Nat.{ℕ, zero, suc, _+_, _-_, _*_, _/_, _%_, _≤_, _<_}
 use native.Mathlib.Omega.{arith}
 use native.Mathlib.Decide.{decLt, ℕ-discrete}
 use lib.Dec.{eqb}
-use lib.ListN.{length, drop, replicate, length-replicate, getD-replicate, List·getD-eq-default}
-use lib.Seq.{getD-drop}
+use lib.ListN.{length, drop, getD, replicate, length-append, length-replicate, getD-replicate, List·getD-eq-default}
+use lib.Seq.{getD-drop, ext-getD}
 use borrow.Author.Tests.{eq-eqb, ne-eqb, eqb-true}
-use Rattle.rules.specs.Bytes.{byteAt, over, splice}
+use Rattle.rules.specs.Bytes.{byteAt, wordBytes, part, over, splice}
+use Rattle.rules.specs.Sectors.{sectorOf, sectorCount}
 use Rattle.rules.specs.declared.Block.{Block}
-use Rattle.rules.specs.Chain.{blockBytes, endsChain, blocks, run, placesFrom, extended, extendedAll, blocksBytes, Linked}
+use Rattle.rules.specs.Chain.{blockBytes, endsChain, blocks, run, placesFrom, places, extended, extendedAll, blocksBytes, Linked, IsChain}
 use Rattle.rules.specs.Map.{count}
+use Rattle.rules.specs.Descriptor.{sectorsOf, chainOf, withChain, IsDescriptor}
+use Rattle.rules.specs.Volume.{files, placesIn, fileHolders, holders}
+use Rattle.rules.specs.Sound.{fileAt, Sound}
+use Rattle.rules.proofs.Bytes.{part-length, part-short, part-at}
 use Rattle.rules.proofs.Map.{count-here, count-more}
-use Rattle.rules.proofs.Splice.{splice-parts}
-use Rattle.rules.proofs.Chain.{block-bytes, run-step}
+use Rattle.rules.proofs.Splice.{splice-length, splice-inside, splice-below, splice-above, splice-parts}
+use Rattle.rules.proofs.Chain.{block-bytes, run-step, places-length}
+use Rattle.rules.proofs.Free.{free-holders}
 
 -- three bytes a block
 pub blocks-bytes-length : (bs : List Block) → length (blocksBytes bs) ≡ 3 * length bs
@@ -67,16 +73,17 @@ blocks-laid buffer bs w fits z =
     let none = blocks-zeros behind (λ i. getD-drop (0 + length (blocksBytes bs)) buffer i 0 ∙ z (0 + length (blocksBytes bs) + i) (omega arith)) in
     ap blocks (sym (splice-parts buffer 0 (blocksBytes bs) (omega arith))) ∙ blocks-back bs behind w ∙ rw (none, append-nil bs)
 
+pub replicate-zero : (many i : ℕ) → byteAt (replicate many 0) i ≡ 0
+replicate-zero many i =
+    elim (decLt i many) [
+      | yes inside ↦ getD-replicate many i 0 0 inside
+      | no past ↦ List·getD-eq-default (replicate many 0) 0 {n = i} (omega (arith, length-replicate {A = ℕ} many 0))
+    ]
+
 pub blocks-over : (many : ℕ) (bs : List Block) → Writable bs → 3 * length bs ≤ many → blocks (over (replicate many 0) (blocksBytes bs)) ≡ bs
 unfolding splice
 blocks-over many bs w fits =
-    let long = length-replicate {A = ℕ} many 0 in
-    blocks-laid (replicate many 0) bs w (omega arith)
-    (λ i h.
-    elim (decLt i many) [
-      | yes inside ↦ getD-replicate many i 0 0 inside
-      | no past ↦ List·getD-eq-default (replicate many 0) 0 {n = i} (omega arith)
-    ])
+    blocks-laid (replicate many 0) bs w (omega (arith, length-replicate {A = ℕ} many 0)) (λ i h. replicate-zero many i)
 
 -- a run with one place more
 run-more : (s many : ℕ) → run s (many + 1) ≡ run s many ++ ((s + many) ∷ [])
@@ -176,3 +183,117 @@ unfolding Linked Writable
 linked-writable n c next [] small few is = tt
 linked-writable n c next (block ∷ more) small few is =
     (omega (arith, is .0), omega (arith, is .2), omega (arith, linked-most n c (block .last + 1) more (is .3)), linked-writable n c (block .last + 1) more small few (is .3))
+
+-- A descriptor with its number of sectors and its chain changed. No other byte is: 14 and 15 hold the number, the blocks begin at 28.
+module _ (d : List ℕ) (c : ℕ) (bs : List Block) where
+  pub with-chain-length : length (withChain d c bs) ≡ length d
+  unfolding withChain
+  with-chain-length = splice-length (splice d 14 (wordBytes c)) 28 (blocksBytes bs) ∙ splice-length d 14 (wordBytes c)
+
+  pub with-chain-sectors : 16 ≤ length d → sectorsOf (withChain d c bs) ≡ c
+  unfolding withChain
+  with-chain-sectors long =
+      let above = splice-below (splice d 14 (wordBytes c)) 28 (blocksBytes bs) in
+      let high = above 14 (omega arith) ∙ splice-inside d 14 (wordBytes c) 0 (omega arith) (omega arith) in
+      let low = above 15 (omega arith) ∙ splice-inside d 14 (wordBytes c) 1 (omega arith) (omega arith) in
+      omega (arith, high, low)
+
+  pub with-chain-before : (i : ℕ) → i < 14 → byteAt (withChain d c bs) i ≡ byteAt d i
+  unfolding withChain
+  with-chain-before i h = splice-below (splice d 14 (wordBytes c)) 28 (blocksBytes bs) i (omega arith) ∙ splice-below d 14 (wordBytes c) i h
+
+  pub with-chain-between : (i : ℕ) → 16 ≤ i → i < 28 → byteAt (withChain d c bs) i ≡ byteAt d i
+  unfolding withChain
+  with-chain-between i low high = splice-below (splice d 14 (wordBytes c)) 28 (blocksBytes bs) i high ∙ splice-above d 14 (wordBytes c) i (omega arith)
+
+  -- its chain is the old one with the blocks laid over it
+  module _ (size : length d ≡ 256) where
+    pub with-chain-chain : chainOf (withChain d c bs) ≡ splice (chainOf d) 0 (blocksBytes bs)
+    unfolding withChain chainOf
+    with-chain-chain =
+        let numbered = splice d 14 (wordBytes c) in
+        let after = splice numbered 28 (blocksBytes bs) in
+        let old = part-length d 28 228 (omega arith) in
+        let numbered-long = splice-length d 14 (wordBytes c) in
+        let new = part-length after 28 228 (omega (arith, splice-length numbered 28 (blocksBytes bs))) in
+        ext-getD 0 (part after 28 228) (splice (part d 28 228) 0 (blocksBytes bs)) (new ∙ sym (splice-length (part d 28 228) 0 (blocksBytes bs) ∙ old))
+        (λ i h.
+        let z : 0 + i ≡ i = omega arith in
+        part-at after 28 228 i (omega arith)
+        ∙ elim (decLt i (length (blocksBytes bs))) [
+          | yes inside ↦
+              splice-inside numbered 28 (blocksBytes bs) i inside (omega arith)
+              ∙ sym (rw z at (splice-inside (part d 28 228) 0 (blocksBytes bs) i inside (omega arith)))
+          | no past ↦
+              splice-above numbered 28 (blocksBytes bs) (28 + i) (omega arith)
+              ∙ splice-above d 14 (wordBytes c) (28 + i) (omega arith)
+              ∙ sym (splice-above (part d 28 228) 0 (blocksBytes bs) i (omega arith) ∙ part-at d 28 228 i (omega arith))
+        ])
+
+    -- so it is had by laying those bytes
+    pub with-chain-laid : (chain : List ℕ) → chain ≡ splice (chainOf d) 0 (blocksBytes bs) → splice (splice d 14 (wordBytes c)) 28 chain ≡ withChain d c bs
+    unfolding withChain chainOf
+    with-chain-laid chain e =
+        let numbered = splice d 14 (wordBytes c) in
+        let after = splice numbered 28 (blocksBytes bs) in
+        let numbered-long = splice-length d 14 (wordBytes c) in
+        let after-long = splice-length numbered 28 (blocksBytes bs) in
+        let whole = part-length after 28 228 (omega arith) in
+        ap (splice numbered 28) (e ∙ sym with-chain-chain)
+        ∙ ext-getD 0 (splice numbered 28 (part after 28 228)) after (splice-length numbered 28 (part after 28 228) ∙ sym after-long)
+        (λ i h.
+        let long = splice-length numbered 28 (part after 28 228) in
+        elim (decLt i 28) [
+          | yes below ↦ splice-below numbered 28 (part after 28 228) i below ∙ sym (splice-below numbered 28 (blocksBytes bs) i below)
+          | no inside ↦
+              let z : 28 + (i - 28) ≡ i = omega arith in
+              let laid = splice-inside numbered 28 (part after 28 228) (i - 28) (omega arith) (omega arith) ∙ part-at after 28 228 (i - 28) (omega arith) in
+              rw z at laid
+        ])
+
+    -- and holds the blocks alone where the descriptor is zero behind them
+    module _ (w : Writable bs) (few : length bs ≤ 76) (zero-from : (i : ℕ) → 28 + 3 * length bs ≤ i → byteAt d i ≡ 0) where
+      chain-zero : (i : ℕ) → 3 * length bs ≤ i → byteAt (chainOf d) i ≡ 0
+      unfolding chainOf
+      chain-zero i h =
+          elim (decLt i 228) [
+            | yes inside ↦ part-at d 28 228 i inside ∙ zero-from (28 + i) (omega arith)
+            | no past ↦ List·getD-eq-default (part d 28 228) 0 {n = i} (omega (arith, part-short d 28 228))
+          ]
+
+      chain-long : length (chainOf d) ≡ 228
+      unfolding chainOf
+      chain-long = part-length d 28 228 (omega arith)
+
+      pub with-chain-blocks : blocks (chainOf (withChain d c bs)) ≡ bs
+      with-chain-blocks = ap blocks with-chain-chain ∙ blocks-laid (chainOf d) bs w (omega (arith, chain-long)) chain-zero
+
+      pub with-chain-is : (n : ℕ) → Linked n c 0 bs → IsChain n c (chainOf (withChain d c bs))
+      with-chain-is n is =
+          record {
+            linked = rw with-chain-blocks is;
+            rest = λ i h.
+                let many = ap length with-chain-blocks in
+                ap (λ (l : List ℕ). byteAt l i) with-chain-chain
+                ∙ splice-above (chainOf d) 0 (blocksBytes bs) i (omega (arith, many, blocks-bytes-length bs))
+                ∙ chain-zero i (omega (arith, many));
+          }
+
+-- On a sound volume a file's sectors are few: its places are among the holders, and those are at most n.
+places-among : (image ks : List ℕ) (p : ℕ) → p < length ks → length (placesIn image (getD ks p 0)) ≤ length (fileHolders image ks)
+unfolding fileHolders
+places-among image [] p h = absurd (omega arith)
+places-among image (k ∷ ks) zero h = omega (arith, length-append (placesIn image k) (fileHolders image ks))
+places-among image (k ∷ ks) (suc p) h =
+    omega (arith, places-among image ks p (omega arith), length-append (placesIn image k) (fileHolders image ks))
+
+places-many : (image : List ℕ) (n k : ℕ) → IsDescriptor n (sectorOf image k) → length (placesIn image k) ≡ sectorsOf (sectorOf image k)
+unfolding placesIn places
+places-many image n k is =
+    let e = places-length n (sectorsOf (sectorOf image k)) 0 (blocks (chainOf (sectorOf image k))) (is .chain .linked) in
+    omega (arith, e)
+
+pub sectors-few : (image : List ℕ) (p : ℕ) → Sound image → p < length (files image) → sectorsOf (sectorOf image (fileAt image p)) ≤ 1600
+unfolding holders
+sectors-few image p is h =
+    omega (arith, free-holders image is, is .size, places-among image (files image) p h, places-many image (sectorCount image) (fileAt image p) (is .descriptors p h))

@@ -14,11 +14,12 @@ use Rattle.rules.specs.Bytes.{byteAt, wordAt, wordBytes, over, splice}
 use Rattle.rules.specs.Name.{precedes, Before}
 use Rattle.rules.specs.Map.{count}
 use Rattle.rules.specs.Index.{numbers, numbersBytes, indexOf, without, IsIndex}
-use Rattle.rules.specs.Volume.{nameIn, placed}
+use Rattle.rules.specs.Volume.{files, nameIn, placed}
+use Rattle.rules.specs.Sound.{Sound}
 use Rattle.rules.proofs.Tests.{absurd-test}
 use Rattle.rules.proofs.Splice.{splice-length, splice-none, splice-above, splice-append}
 use Rattle.rules.proofs.Name.{precedes-is, is-precedes, before-trans, before-total}
-use Rattle.rules.proofs.Map.{count-none, count-here, count-other, count-more}
+use Rattle.rules.proofs.Map.{count-none, count-here, count-other, count-more, count-at}
 use Rattle.rules.proofs.Index.{numbers-step, numbers-end}
 
 -- numbers laid into a buffer: where none are left it stands as it is to be, and one is followed by the rest
@@ -168,11 +169,6 @@ without-ascending image k (j ∷ js) up = go (eqb j k) (without-ascending image 
     go false rest =
         ascending-first image j (without k js) (without-all (λ (i : ℕ). Before (nameIn image j) (nameIn image i)) k js (λ q l. up 0 (suc q) (omega arith) (omega arith))) rest
 
-count-at : (ks : List ℕ) (p : ℕ) → p < length ks → 1 ≤ count (getD ks p 0) ks
-count-at [] p h = absurd (omega arith)
-count-at (k ∷ ks) zero h = omega (arith, count-here k ks)
-count-at (k ∷ ks) (suc p) h = omega (arith, count-at ks p (omega arith), count-more (getD ks p 0) k ks)
-
 -- The names are those of an image afterwards, in which k has the new name and the others have kept theirs.
 module _ (image image′ name : List ℕ) (k : ℕ) (named : nameIn image′ k ≡ name) where
   pub placed-ascending : (ks : List ℕ) → Ascending image ks → ((p : ℕ) → p < length ks → length (nameIn image (getD ks p 0)) ≡ length name)
@@ -250,3 +246,18 @@ pub index-is-index : (n : ℕ) (ks : List ℕ) → ((p : ℕ) → p < length ks 
 index-is-index n ks range few =
     let e = numbers-index ks (λ p h. omega (arith, range p h .0)) (omega arith) in
     record { range = rw e range; few = rw e few; rest = rw e (index-past ks) }
+
+-- sector 1 without a number, read back
+without-short : (k : ℕ) (ks : List ℕ) → length (without k ks) ≤ length ks
+without-short k ks =
+    elim (decLt 0 (count k ks)) [
+      | yes there ↦ omega (arith, without-length k ks there)
+      | no there ↦ rw (without-absent k ks (omega arith)) (omega arith)
+    ]
+
+pub left-numbers : (image : List ℕ) (k : ℕ) → Sound image → numbers (indexOf (without k (files image))) ≡ without k (files image)
+unfolding files
+left-numbers image k whole =
+    numbers-index (without k (files image))
+    (without-all (λ (j : ℕ). 1 ≤ j) k (files image) (λ p h. omega (arith, whole .index .range p h .0)))
+    (omega (arith, without-short k (files image), whole .index .few))

@@ -9,12 +9,12 @@ pub mod Map
 pub mod Chain
 pub mod Status
 pub mod Descriptor
-pub mod Extended
 pub mod Index
 pub mod Volume
 pub mod Indexed
 pub mod Verdict
 pub mod Free
+pub mod Extended
 pub mod Marking
 pub mod Choice
 pub mod Outcome

@@ -7,7 +7,7 @@ use native.Mathlib.Omega.{arith}
 use native.Mathlib.Nat.{mod-lt}
 use native.Mathlib.Decide.{decLt, ℕ-discrete}
 use lib.Dec.{eqb}
-use lib.ListN.{length}
+use lib.ListN.{length, getD}
 use lib.Seq.{ext-getD}
 use borrow.Author.Tests.{eq-eqb, ne-eqb, lt-ltb, le-ltb, eqb-true}
 use Rattle.rules.specs.Bytes.{byteAt, bitOf, part}
@@ -31,6 +31,12 @@ count-other k h holders ne = rw (ne-eqb h k ne) (omega arith)
 pub count-more : (k h : ℕ) (holders : List ℕ) → count k holders ≤ count k (h ∷ holders)
 unfolding count
 count-more k h holders = omega arith
+
+-- what stands in a list counts
+pub count-at : (ks : List ℕ) (p : ℕ) → p < length ks → 1 ≤ count (getD ks p 0) ks
+count-at [] p h = absurd (omega arith)
+count-at (k ∷ ks) zero h = omega (arith, count-here k ks)
+count-at (k ∷ ks) (suc p) h = omega (arith, count-at ks p (omega arith), count-more (getD ks p 0) k ks)
 
 pub count-append : (k : ℕ) (as′ bs : List ℕ) → count k (as′ ++ bs) ≡ count k as′ + count k bs
 unfolding count

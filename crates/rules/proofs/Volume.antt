@@ -1,4 +1,5 @@
 -- The holders of an image: how they count, and that those of kept rules are sectors of the volume.
+use mathlib.Core.Path.{_≡_}
 use mathlib.Core.List.{List, [], _∷_, _++_}
 use Prim.Native.Nat.{ℕ, suc, _≤_, _<_}
 use native.Mathlib.Omega.{arith}
@@ -10,13 +11,22 @@ use Rattle.rules.specs.Map.{count}
 use Rattle.rules.specs.Descriptor.{sectorsOf, chainOf, IsDescriptor}
 use Rattle.rules.specs.Index.{IsIndex}
 use Rattle.rules.specs.Volume.{files, placesIn, fileHolders, holders}
-use Rattle.rules.proofs.Map.{count-none, count-other, count-append}
-use Rattle.rules.proofs.Chain.{places-hold}
+use Rattle.rules.proofs.Map.{count-none, count-other, count-at, count-append}
+use Rattle.rules.proofs.Chain.{places-length, places-hold}
 
 -- the places of a file whose descriptor keeps its rules are from 2 to n - 1
 pub places-inside : (n : ℕ) (image : List ℕ) (k p : ℕ) → IsDescriptor n (sectorOf image k) → 1 ≤ count p (placesIn image k) → (2 ≤ p) × (p < n)
 unfolding placesIn places
 places-inside n image k p is h = places-hold n (sectorsOf (sectorOf image k)) 0 (blocks (chainOf (sectorOf image k))) p (is .chain .linked) h
+
+-- there are c of them
+pub places-count : (n : ℕ) (image : List ℕ) (k : ℕ) → IsDescriptor n (sectorOf image k) → length (placesIn image k) ≡ sectorsOf (sectorOf image k)
+unfolding placesIn places
+places-count n image k is = omega (arith, places-length n (sectorsOf (sectorOf image k)) 0 (blocks (chainOf (sectorOf image k))) (is .chain .linked))
+
+pub place-inside : (n : ℕ) (image : List ℕ) (k offset : ℕ) → IsDescriptor n (sectorOf image k) → offset < sectorsOf (sectorOf image k)
+    → (2 ≤ getD (placesIn image k) offset 0) × (getD (placesIn image k) offset 0 < n)
+place-inside n image k offset is h = places-inside n image k (getD (placesIn image k) offset 0) is (count-at (placesIn image k) offset (omega (arith, places-count n image k is)))
 
 -- and so are all holders but the two system sectors
 pub file-holders-inside : (n : ℕ) (image ks : List ℕ) (p : ℕ) → ((q : ℕ) → q < length ks → (2 ≤ getD ks q 0) × (getD ks q 0 < n))

@@ -1,0 +1,44 @@
+// Protecting and unprotecting: the 08 bit of a file's status.
+ghost use mathlib.Core.Path.{_≡_};
+ghost use Rattle.rules.specs.Sectors.{written};
+ghost use Rattle.rules.specs.Outcome.{answerOf};
+ghost use Rattle.rules.specs.Calls.Protect.{protectOf, unprotectOf};
+use map::bits::with_one;
+use map::bits::with_zero;
+use reading::find;
+use rules::Answer;
+use rules::Opened;
+use sector::buffer::sector_copy;
+use sector::buffer::write_sector;
+
+pub fn protect(image: &mut [u8], name: &[u8]) -> Answer
+    ensures { λ r. ⌜ r ≡ answerOf (protectOf (now (image .entry)) (now (name .entry)) .number) ⌝ }
+    ensures { λ _. ⌜ now (image .exit) ≡ written (now (image .entry)) (protectOf (now (image .entry)) (now (name .entry)) .writes) ⌝ }
+{
+    let opened = find(image, name);
+    match opened {
+        Opened::Refused(number) => Answer::Refused(number),
+        Opened::At(_, k) => {
+            let mut descriptor = sector_copy(image, k);
+            descriptor[12] = with_one(descriptor[12], 3);
+            write_sector(image, k, &descriptor);
+            Answer::Done
+        }
+    }
+}
+
+pub fn unprotect(image: &mut [u8], name: &[u8]) -> Answer
+    ensures { λ r. ⌜ r ≡ answerOf (unprotectOf (now (image .entry)) (now (name .entry)) .number) ⌝ }
+    ensures { λ _. ⌜ now (image .exit) ≡ written (now (image .entry)) (unprotectOf (now (image .entry)) (now (name .entry)) .writes) ⌝ }
+{
+    let opened = find(image, name);
+    match opened {
+        Opened::Refused(number) => Answer::Refused(number),
+        Opened::At(_, k) => {
+            let mut descriptor = sector_copy(image, k);
+            descriptor[12] = with_zero(descriptor[12], 3);
+            write_sector(image, k, &descriptor);
+            Answer::Done
+        }
+    }
+}

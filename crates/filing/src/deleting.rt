@@ -1,0 +1,56 @@
+// Deleting: the file's number leaves sector 1, and its sectors are free. They keep their bytes.
+ghost use mathlib.Core.Path.{_≡_};
+ghost use mathlib.Core.List.{_∷_};
+ghost use Rattle.rules.specs.Sectors.{sectorOf, written};
+ghost use Rattle.rules.specs.Map.{markedAll};
+ghost use Rattle.rules.specs.Volume.{placesIn};
+ghost use Rattle.rules.specs.Sound.{IsFile};
+ghost use Rattle.rules.specs.Outcome.{answerOf};
+ghost use Rattle.rules.specs.Calls.Delete.{deleting, deleteOf};
+use index::index_without;
+use map::bits::clear_file;
+use reading::find;
+use rules::Answer;
+use rules::Opened;
+use sector::buffer::sector_copy;
+use sector::buffer::write_sector;
+use sector::bytes::byte;
+use sector::bytes::part;
+use sector::bytes::sector_of;
+
+// Sector 0 without the sectors of the file whose descriptor is in sector k.
+fn map_without(image: &[u8], k: usize) -> [u8; 256]
+    requires { ⌜ IsFile (now image) k ⌝ }
+    ensures { λ r. ⌜ r ≡ markedAll 0 (sectorOf (now (image .entry)) 0) (k ∷ placesIn (now (image .entry)) k) ⌝ }
+{
+    let mut sector0 = sector_copy(image, 0);
+    clear_file(&mut sector0, k, part(sector_of(image, k), 28, 228));
+    sector0
+}
+
+// Of that file.
+fn delete_at(image: &mut [u8], k: usize) -> Answer
+    requires { ⌜ IsFile (now image) k ⌝ }
+    ensures { λ r. ⌜ r ≡ answerOf (deleting (now (image .entry)) k .number) ⌝ }
+    ensures { λ _. ⌜ now (image .exit) ≡ written (now (image .entry)) (deleting (now (image .entry)) k .writes) ⌝ }
+{
+    if byte(sector_of(image, k), 12) / 8 % 2 == 1 {
+        return Answer::Refused(10);
+    }
+    let index = index_without(sector_of(image, 1), k);
+    let sector0 = map_without(image, k);
+    write_sector(image, 1, &index);
+    write_sector(image, 0, &sector0);
+    Answer::Done
+}
+
+pub fn delete(image: &mut [u8], name: &[u8]) -> Answer
+    ensures { λ r. ⌜ r ≡ answerOf (deleteOf (now (image .entry)) (now (name .entry)) .number) ⌝ }
+    ensures { λ _. ⌜ now (image .exit) ≡ written (now (image .entry)) (deleteOf (now (image .entry)) (now (name .entry)) .writes) ⌝ }
+{
+    let opened = find(image, name);
+    match opened {
+        Opened::Refused(number) => Answer::Refused(number),
+        Opened::At(_, k) => delete_at(image, k),
+    }
+}
