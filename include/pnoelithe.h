@@ -36,8 +36,14 @@ enum pno_number {
     PNO_MAP = 6,          /* the map is not that of the holders */
     PNO_NAME = 7,         /* a name breaks its rule */
     PNO_NOT_FOUND = 8,    /* no file of that name, or no file at that place of the catalogue */
-    PNO_NOT_PROGRAM = 14, /* the file is not a program */
-    PNO_SIZE = 15         /* a buffer is too short, or the file has no sector at that offset */
+    PNO_PRESENT = 9,      /* there is a file of the new name already */
+    PNO_PROTECTED = 10,   /* the file is protected */
+    PNO_NOT_PROGRAM = 14, /* the file is not a program; append and overwrite: it is one */
+    PNO_SIZE = 15,        /* a buffer is too short, or data too long or not 256 bytes; the file has no sector
+                             at that offset; no file can be created with that status */
+    PNO_INDEX_FULL = 11,  /* there are 127 files already */
+    PNO_DISK_FULL = 12,   /* fewer sectors are free than the call takes */
+    PNO_CHAIN_FULL = 13   /* the file's chain would need a 77th block */
 };
 
 /*
@@ -129,6 +135,83 @@ uint32_t pno_load(const uint8_t *image, size_t image_len, const uint8_t *name, s
  * Numbers: 1 to 6; 15 where out_len is below the length of the text. 4,593 bytes are always enough.
  */
 uint32_t pno_listing(const uint8_t *image, size_t image_len, uint8_t *out, size_t out_len, size_t *length);
+
+/*
+ * Calls that write
+ *   Each judges the image first and gives back 1 to 6 where it is no sound volume. Then it tests what is named
+ *   under it, in the order in which it is named, and gives back the first number that is due. With any number
+ *   but 0 no byte of the image is changed; with 0 the bytes that are named are, no other, and the image is a
+ *   sound volume again. Names and data are read and never changed.
+ *
+ * Where things go
+ *   A new descriptor goes to the lowest free sector. Data goes to the lowest free sector from 34 on and, when
+ *   none is left there, to the lowest free one; several are taken one after another by this rule.
+ */
+
+/*
+ * Creates a data file without sectors: its descriptor, which is zero but for the name, the status, the records
+ * per sector (byte 13) and the record length (byte 17); its bit in the map; its place in sector 1. The status
+ * is 00 (display, fixed), 02 (internal, fixed), 80 (display, variable) or 82 hex (internal, variable); the
+ * other two are any byte.
+ *
+ * Numbers: 1 to 6; 7; 9; 15 for another status; 11; 12.
+ */
+uint32_t pno_create(uint8_t *image, size_t image_len, const uint8_t *name, size_t name_len, uint8_t status,
+                    uint8_t record_length, uint8_t records_per_sector);
+
+/*
+ * Appends a sector to a data file: the sector's 256 bytes, its bit in the map, and in the descriptor the number
+ * of sectors and the chain. The rest of the descriptor stays, the end offset and the record count among it.
+ *
+ * Numbers: 1 to 6; 7; 8; 10; 14 for a program; 15 where data_len is not 256; 12; 13, which is not due where
+ * the sector that is taken follows the file's last one.
+ */
+uint32_t pno_append(uint8_t *image, size_t image_len, const uint8_t *name, size_t name_len,
+                    const uint8_t *data, size_t data_len);
+
+/*
+ * Overwrites a sector of a data file: its 256 bytes and nothing else. Offsets count from 0.
+ *
+ * Numbers: 1 to 6; 7; 8; 10; 14 for a program; 15 for an offset past the last sector, or where data_len is
+ * not 256.
+ */
+uint32_t pno_overwrite(uint8_t *image, size_t image_len, const uint8_t *name, size_t name_len, size_t offset,
+                       const uint8_t *data, size_t data_len);
+
+/*
+ * Stores a program of 0 to 32,768 bytes as a new file: bytes_len / 256 + 1 sectors, the rest of the last one
+ * zero; its descriptor, which is zero but for the name, status 01, the number of sectors, the end offset and
+ * the chain; the bits of all these in the map; its place in sector 1.
+ *
+ * Numbers: 1 to 6; 7; 9; 15 where bytes_len is above 32,768; 11; 12, the descriptor's sector being counted;
+ * 13.
+ */
+uint32_t pno_store(uint8_t *image, size_t image_len, const uint8_t *name, size_t name_len,
+                   const uint8_t *bytes, size_t bytes_len);
+
+/*
+ * Deletes a file: its place in sector 1, later ones moving down by one, and its bits in the map. The sectors
+ * themselves keep their bytes.
+ *
+ * Numbers: 1 to 6; 7; 8; 10.
+ */
+uint32_t pno_delete(uint8_t *image, size_t image_len, const uint8_t *name, size_t name_len);
+
+/*
+ * Renames a file: the ten bytes of its name, and its place in sector 1.
+ *
+ * Numbers: 1 to 6; 7 for either name; 8 for the old one; 9 for the new one, also where it is the old one; 10.
+ */
+uint32_t pno_rename(uint8_t *image, size_t image_len, const uint8_t *old, size_t old_len,
+                    const uint8_t *new_name, size_t new_len);
+
+/*
+ * Protects a file, and unprotects it: one bit of its status. Either may be done again.
+ *
+ * Numbers: 1 to 6; 7; 8.
+ */
+uint32_t pno_protect(uint8_t *image, size_t image_len, const uint8_t *name, size_t name_len);
+uint32_t pno_unprotect(uint8_t *image, size_t image_len, const uint8_t *name, size_t name_len);
 
 #ifdef __cplusplus
 }

@@ -1,13 +1,14 @@
 //! Calls of the library with their arguments as values, and what each must give: by the reference,
 //! which reads the image, and by the plan of the disk, which knows what was laid where.
 
-mod arguments;
+pub(crate) mod arguments;
 mod comparison;
-mod lent;
+pub(crate) mod lent;
 mod paper;
-mod planned;
-mod tally;
+pub(crate) mod planned;
+pub(crate) mod tally;
 
+pub(crate) use comparison::compared;
 pub use comparison::Comparison;
 pub use planned::lines;
 
@@ -17,33 +18,34 @@ use crate::reference::{self, Form, Geometry, Kind, Refusal};
 #[derive(Clone, Debug)]
 pub enum Call {
     Judge,
-    Format { n: usize, name: GivenName, geometry: Geometry },
+    Format { n: usize, name: Given, geometry: Geometry },
     FreeCount,
     Summary,
     Entry { place: usize, room: usize },
-    Read { name: GivenName, offset: usize, room: usize },
-    Load { name: GivenName, room: usize },
+    Read { name: Given, offset: usize, room: usize },
+    Load { name: Given, room: usize },
     Listing { room: usize },
 }
 
-/// A name as it is lent: so many of the bytes, with more behind them that do not count.
+/// A name, or data to write, as it is lent: so many of the bytes, with more behind them that do not
+/// count.
 #[derive(Clone)]
-pub struct GivenName {
+pub struct Given {
     bytes: Vec<u8>,
     length: usize,
 }
 
-impl GivenName {
-    fn whole(name: &[u8]) -> Self {
-        GivenName { bytes: name.to_vec(), length: name.len() }
+impl Given {
+    pub fn whole(bytes: &[u8]) -> Self {
+        Given { bytes: bytes.to_vec(), length: bytes.len() }
     }
 
-    fn lent(&self) -> &[u8] {
+    pub fn lent(&self) -> &[u8] {
         &self.bytes[..self.length]
     }
 }
 
-impl std::fmt::Debug for GivenName {
+impl std::fmt::Debug for Given {
     fn fmt(&self, out: &mut std::fmt::Formatter) -> std::fmt::Result {
         let first = &self.lent()[..self.length.min(12)];
         write!(out, "{} bytes \"{}\"", self.length, first.escape_ascii())
@@ -54,7 +56,7 @@ impl std::fmt::Debug for GivenName {
 /// behind its pointers in the order of the C interface.
 #[derive(Debug, Default, PartialEq, Eq)]
 pub struct Written {
-    bytes: Vec<u8>,
+    pub bytes: Vec<u8>,
     numbers: Vec<usize>,
 }
 
@@ -72,7 +74,7 @@ impl Written {
 /// That, or the number of a refusal.
 pub type Answer = Result<Written, u32>;
 
-fn number_of(answer: &Answer) -> u32 {
+pub(crate) fn number_of(answer: &Answer) -> u32 {
     answer.as_ref().err().copied().unwrap_or(0)
 }
 
@@ -90,7 +92,7 @@ impl Call {
         }
     }
 
-    fn name(&self) -> Option<&GivenName> {
+    fn name(&self) -> Option<&Given> {
         match self {
             Call::Format { name, .. } | Call::Read { name, .. } | Call::Load { name, .. } => {
                 Some(name)

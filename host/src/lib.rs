@@ -6,6 +6,7 @@ pub mod damage;
 pub mod library;
 pub mod random;
 pub mod reference;
+pub mod sequences;
 pub mod suites;
 pub mod tuned;
 pub mod volumes;

@@ -63,6 +63,66 @@ mod imported {
             out_len: usize,
             length: *mut usize,
         ) -> u32;
+        pub fn pno_create(
+            image: *mut u8,
+            image_len: usize,
+            name: *const u8,
+            name_len: usize,
+            status: u8,
+            record_length: u8,
+            records_per_sector: u8,
+        ) -> u32;
+        pub fn pno_append(
+            image: *mut u8,
+            image_len: usize,
+            name: *const u8,
+            name_len: usize,
+            data: *const u8,
+            data_len: usize,
+        ) -> u32;
+        pub fn pno_overwrite(
+            image: *mut u8,
+            image_len: usize,
+            name: *const u8,
+            name_len: usize,
+            offset: usize,
+            data: *const u8,
+            data_len: usize,
+        ) -> u32;
+        pub fn pno_store(
+            image: *mut u8,
+            image_len: usize,
+            name: *const u8,
+            name_len: usize,
+            bytes: *const u8,
+            bytes_len: usize,
+        ) -> u32;
+        pub fn pno_delete(
+            image: *mut u8,
+            image_len: usize,
+            name: *const u8,
+            name_len: usize,
+        ) -> u32;
+        pub fn pno_protect(
+            image: *mut u8,
+            image_len: usize,
+            name: *const u8,
+            name_len: usize,
+        ) -> u32;
+        pub fn pno_unprotect(
+            image: *mut u8,
+            image_len: usize,
+            name: *const u8,
+            name_len: usize,
+        ) -> u32;
+        pub fn pno_rename(
+            image: *mut u8,
+            image_len: usize,
+            old: *const u8,
+            old_len: usize,
+            new_name: *const u8,
+            new_len: usize,
+        ) -> u32;
     }
 }
 
@@ -163,5 +223,92 @@ pub fn load(image: &mut [u8], name: &mut [u8], out: &mut [u8], length: &mut usiz
 pub fn listing(image: &mut [u8], out: &mut [u8], length: &mut usize) -> u32 {
     unsafe {
         imported::pno_listing(image.as_mut_ptr(), image.len(), out.as_mut_ptr(), out.len(), length)
+    }
+}
+
+pub fn create(
+    image: &mut [u8],
+    name: &mut [u8],
+    status: u8,
+    record_length: u8,
+    records_per_sector: u8,
+) -> u32 {
+    unsafe {
+        imported::pno_create(
+            image.as_mut_ptr(),
+            image.len(),
+            name.as_mut_ptr(),
+            name.len(),
+            status,
+            record_length,
+            records_per_sector,
+        )
+    }
+}
+
+pub fn append(image: &mut [u8], name: &mut [u8], data: &mut [u8]) -> u32 {
+    unsafe {
+        imported::pno_append(
+            image.as_mut_ptr(),
+            image.len(),
+            name.as_mut_ptr(),
+            name.len(),
+            data.as_mut_ptr(),
+            data.len(),
+        )
+    }
+}
+
+pub fn overwrite(image: &mut [u8], name: &mut [u8], offset: usize, data: &mut [u8]) -> u32 {
+    unsafe {
+        imported::pno_overwrite(
+            image.as_mut_ptr(),
+            image.len(),
+            name.as_mut_ptr(),
+            name.len(),
+            offset,
+            data.as_mut_ptr(),
+            data.len(),
+        )
+    }
+}
+
+pub fn store(image: &mut [u8], name: &mut [u8], bytes: &mut [u8]) -> u32 {
+    unsafe {
+        imported::pno_store(
+            image.as_mut_ptr(),
+            image.len(),
+            name.as_mut_ptr(),
+            name.len(),
+            bytes.as_mut_ptr(),
+            bytes.len(),
+        )
+    }
+}
+
+pub fn delete(image: &mut [u8], name: &mut [u8]) -> u32 {
+    unsafe { imported::pno_delete(image.as_mut_ptr(), image.len(), name.as_mut_ptr(), name.len()) }
+}
+
+pub fn protect(image: &mut [u8], name: &mut [u8]) -> u32 {
+    unsafe { imported::pno_protect(image.as_mut_ptr(), image.len(), name.as_mut_ptr(), name.len()) }
+}
+
+pub fn unprotect(image: &mut [u8], name: &mut [u8]) -> u32 {
+    unsafe {
+        imported::pno_unprotect(image.as_mut_ptr(), image.len(), name.as_mut_ptr(), name.len())
+    }
+}
+
+pub fn rename(image: &mut [u8], old: &mut [u8], new: &mut [u8]) -> u32 {
+    unsafe {
+        imported::pno_rename(
+            image.as_mut_ptr(),
+            image.len(),
+            old.as_mut_ptr(),
+            old.len(),
+            new.as_mut_ptr(),
+            new.len(),
+        )
     }
 }

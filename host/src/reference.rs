@@ -1,14 +1,18 @@
 //! Document 01 in safe Rust, written from the paper alone and for the reader: what the library is
 //! compared with and measured against. `volume` reads bytes by the layout and refuses nothing;
 //! `judge` holds what was read to the rules, in the order of the paper's numbers. The calls stand
-//! on both: an answer is a value, and what it has to fit into comes as a length.
+//! on both: an answer is a value, and what it has to fit into comes as a length. The calls that
+//! write take sectors by the rules of `choice` and lay bytes down through a `draft`.
 
+mod choice;
+mod draft;
 mod format;
 mod judge;
 mod listing;
 mod reading;
 mod refusal;
 mod volume;
+mod writing;
 
 pub use format::{format, Geometry};
 pub use judge::{judge, number};
@@ -16,3 +20,4 @@ pub use listing::{catalogue, listing};
 pub use reading::{entry, free_count, load, read, summary, Entry, Row, Summary};
 pub use refusal::Refusal;
 pub use volume::{Block, Chain, Descriptor, Form, Index, Kind, Label, Name, Sector, Volume};
+pub use writing::{append, create, delete, overwrite, protect, rename, store, unprotect};

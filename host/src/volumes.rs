@@ -131,24 +131,29 @@ impl Disk {
         let mut disk = Disk { sectors, files, image };
         disk.leave_remains(random);
         disk.write_label(random);
-        disk.image[SECTOR_BYTES..2 * SECTOR_BYTES].fill(0);
-        for (place, file) in disk.files.iter().enumerate() {
-            disk.image[SECTOR_BYTES + 2 * place..][..2].copy_from_slice(&word(file.descriptor));
-            let descriptor = &mut disk.image[SECTOR_BYTES * file.descriptor..][..SECTOR_BYTES];
-            descriptor.copy_from_slice(&file.described());
-        }
+        disk.lay_down();
         disk
     }
 
-    fn write_label(&mut self, random: &mut Random) {
+    /// Writes what the files determine: the map, sector 1 and the descriptors.
+    pub fn lay_down(&mut self) {
         let map = self.map();
+        self.image[56..SECTOR_BYTES].copy_from_slice(&map);
+        self.image[SECTOR_BYTES..2 * SECTOR_BYTES].fill(0);
+        for (place, file) in self.files.iter().enumerate() {
+            self.image[SECTOR_BYTES + 2 * place..][..2].copy_from_slice(&word(file.descriptor));
+            let descriptor = &mut self.image[SECTOR_BYTES * file.descriptor..][..SECTOR_BYTES];
+            descriptor.copy_from_slice(&file.described());
+        }
+    }
+
+    fn write_label(&mut self, random: &mut Random) {
         let name = names(1, random)[0];
         let label = &mut self.image[..SECTOR_BYTES];
         random.fill(&mut label[..56]);
         label[..10].copy_from_slice(&name);
         label[10..12].copy_from_slice(&word(self.sectors));
         label[13..16].copy_from_slice(b"DSK");
-        label[56..].copy_from_slice(&map);
     }
 
     /// Deleted files keep their bytes: some free sectors hold descriptors of no file.

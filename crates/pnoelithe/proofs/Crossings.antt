@@ -13,15 +13,20 @@ use Rattle.rules.specs.Volume.{files}
 use Rattle.rules.specs.Verdict.{verdict}
 use Rattle.rules.specs.Calls.Free.{summaryOf}
 use Rattle.rules.specs.Sound.{fileAt}
-use Rattle.rules.specs.Outcome.{Reading, amountOf, answerOf, amountNumber, behind}
+use Rattle.rules.specs.Outcome.{Reading, amountOf, answerOf, answerNumber, amountNumber, behind}
 use Rattle.rules.specs.Calls.Catalogue.{rowOf, noRow, entryOf, entryAnswer}
 use Rattle.rules.specs.declared.Amount.{Amount}
 use Rattle.rules.specs.declared.Amount.the-variants.{Given, Refused}
+use Rattle.rules.specs.declared.Answer.{Answer}
 use Rattle.rules.specs.declared.Answer.the-variants as answer
 use Rattle.rules.specs.declared.Summary.the-variants as summary
 use Rattle.rules.specs.declared.Entry.{Entry}
-use Rattle.rules.proofs.Outcome.{amount-value, amount-refusal, behind-given, behind-kept}
+use Rattle.rules.proofs.Outcome.{answer-number, amount-value, amount-refusal, behind-given, behind-kept}
 use Rattle.pnoelithe.specs.Crossing.{amountBehind}
+
+-- an answer: its number, and beside it what is said of the image
+pub answer-crossing : (given : Answer) (number r : ℕ) {Image : Type 0} → r ≡ answerNumber given → (given ≡ answerOf number) × Image → (r ≡ number) × Image
+answer-crossing given number r n is = (n ∙ ap answerNumber (is .0) ∙ answer-number number, is .1)
 
 -- an amount: its number, and its value behind the pointer
 pub amount-crossing : (outcome : Reading) (amount : Amount) (r before after : ℕ) → amount ≡ amountOf outcome → r ≡ amountNumber amount → after ≡ amountBehind amount before

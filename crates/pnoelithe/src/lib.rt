@@ -3,7 +3,7 @@
 ghost use mathlib.Core.Path.{_≡_};
 ghost use lib.ListN.{length};
 ghost use Rattle.rules.specs.Bytes.{splice};
-ghost use Rattle.rules.specs.Sectors.{sectorOf, sectorCount};
+ghost use Rattle.rules.specs.Sectors.{sectorOf, sectorCount, written};
 ghost use Rattle.rules.specs.Descriptor.{statusOf, sectorsOf, fileKind};
 ghost use Rattle.rules.specs.Map.{freeCount};
 ghost use Rattle.rules.specs.Volume.{files};
@@ -17,6 +17,13 @@ ghost use Rattle.rules.specs.Calls.Catalogue.{entryOf};
 ghost use Rattle.rules.specs.Calls.Read.{readOf};
 ghost use Rattle.rules.specs.Calls.Load.{loadOf};
 ghost use Rattle.rules.specs.Calls.Listing.{kindLength, listingOf};
+ghost use Rattle.rules.specs.Calls.Create.{createOf};
+ghost use Rattle.rules.specs.Calls.Append.{appendOf};
+ghost use Rattle.rules.specs.Calls.Overwrite.{overwriteOf};
+ghost use Rattle.rules.specs.Calls.Protect.{protectOf, unprotectOf};
+ghost use Rattle.rules.specs.Calls.Store.{storeOf};
+ghost use Rattle.rules.specs.Calls.Delete.{deleteOf};
+ghost use Rattle.rules.specs.Calls.Rename.{renameOf};
 ghost use Rattle.pnoelithe.specs.Crossing.{kindNumber, flag};
 
 mod crossing;
@@ -155,4 +162,74 @@ pub extern "C" fn pno_listing(image: &[u8], out: &mut [u8], size: &mut usize) ->
     ensures { λ r. ⌜ (r ≡ listingOf (now (image .entry)) (length (now (out .entry))) .number) × (now (out .exit) ≡ splice (now (out .entry)) 0 (listingOf (now (image .entry)) (length (now (out .entry))) .bytes)) × (now (size .exit) ≡ behind r (listingOf (now (image .entry)) (length (now (out .entry))) .value) (now (size .entry))) ⌝ }
 {
     amount_number(listing::listing(image, out), size)
+}
+
+// A file without sectors.
+#[no_mangle]
+pub extern "C" fn pno_create(
+    image: &mut [u8],
+    name: &[u8],
+    status: u8,
+    record_length: u8,
+    records_per_sector: u8,
+) -> u32
+    ensures { λ r. ⌜ (r ≡ createOf (now (image .entry)) (now (name .entry)) status «record_length» «records_per_sector» .number) × (now (image .exit) ≡ written (now (image .entry)) (createOf (now (image .entry)) (now (name .entry)) status «record_length» «records_per_sector» .writes)) ⌝ }
+{
+    answer_number(filing::create(image, name, status, record_length, records_per_sector))
+}
+
+// One sector more of a file.
+#[no_mangle]
+pub extern "C" fn pno_append(image: &mut [u8], name: &[u8], bytes: &[u8]) -> u32
+    ensures { λ r. ⌜ (r ≡ appendOf (now (image .entry)) (now (name .entry)) (now (bytes .entry)) .number) × (now (image .exit) ≡ written (now (image .entry)) (appendOf (now (image .entry)) (now (name .entry)) (now (bytes .entry)) .writes)) ⌝ }
+{
+    answer_number(changing::append(image, name, bytes))
+}
+
+// Another 256 bytes in a sector of a file.
+#[no_mangle]
+pub extern "C" fn pno_overwrite(image: &mut [u8], name: &[u8], offset: usize, bytes: &[u8]) -> u32
+    ensures { λ r. ⌜ (r ≡ overwriteOf (now (image .entry)) (now (name .entry)) offset (now (bytes .entry)) .number) × (now (image .exit) ≡ written (now (image .entry)) (overwriteOf (now (image .entry)) (now (name .entry)) offset (now (bytes .entry)) .writes)) ⌝ }
+{
+    answer_number(changing::overwrite(image, name, offset, bytes))
+}
+
+// The protection of a file.
+#[no_mangle]
+pub extern "C" fn pno_protect(image: &mut [u8], name: &[u8]) -> u32
+    ensures { λ r. ⌜ (r ≡ protectOf (now (image .entry)) (now (name .entry)) .number) × (now (image .exit) ≡ written (now (image .entry)) (protectOf (now (image .entry)) (now (name .entry)) .writes)) ⌝ }
+{
+    answer_number(changing::protect(image, name))
+}
+
+// And its end.
+#[no_mangle]
+pub extern "C" fn pno_unprotect(image: &mut [u8], name: &[u8]) -> u32
+    ensures { λ r. ⌜ (r ≡ unprotectOf (now (image .entry)) (now (name .entry)) .number) × (now (image .exit) ≡ written (now (image .entry)) (unprotectOf (now (image .entry)) (now (name .entry)) .writes)) ⌝ }
+{
+    answer_number(changing::unprotect(image, name))
+}
+
+// A program, of these bytes.
+#[no_mangle]
+pub extern "C" fn pno_store(image: &mut [u8], name: &[u8], bytes: &[u8]) -> u32
+    ensures { λ r. ⌜ (r ≡ storeOf (now (image .entry)) (now (name .entry)) (now (bytes .entry)) .number) × (now (image .exit) ≡ written (now (image .entry)) (storeOf (now (image .entry)) (now (name .entry)) (now (bytes .entry)) .writes)) ⌝ }
+{
+    answer_number(storing::store(image, name, bytes))
+}
+
+// A file less.
+#[no_mangle]
+pub extern "C" fn pno_delete(image: &mut [u8], name: &[u8]) -> u32
+    ensures { λ r. ⌜ (r ≡ deleteOf (now (image .entry)) (now (name .entry)) .number) × (now (image .exit) ≡ written (now (image .entry)) (deleteOf (now (image .entry)) (now (name .entry)) .writes)) ⌝ }
+{
+    answer_number(filing::delete(image, name))
+}
+
+// A file under another name.
+#[no_mangle]
+pub extern "C" fn pno_rename(image: &mut [u8], old: &[u8], new: &[u8]) -> u32
+    ensures { λ r. ⌜ (r ≡ renameOf (now (image .entry)) (now (old .entry)) (now (new .entry)) .number) × (now (image .exit) ≡ written (now (image .entry)) (renameOf (now (image .entry)) (now (old .entry)) (now (new .entry)) .writes)) ⌝ }
+{
+    answer_number(filing::rename(image, old, new))
 }

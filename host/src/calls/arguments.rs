@@ -2,7 +2,7 @@
 //! the paper knows.
 
 use super::planned::{is_program, length_of, lines};
-use super::{Call, GivenName};
+use super::{Call, Given};
 use crate::damage::changed_names;
 use crate::random::Random;
 use crate::reference::Geometry;
@@ -10,7 +10,7 @@ use crate::volumes::{names, Disk, File, Name, HEADER_BYTES, MOST_SECTORS, SECTOR
 
 impl Call {
     /// Any call, its arguments meant for a disk whose image may have been changed since.
-    pub(super) fn any(disk: &Disk, image: &[u8], random: &mut Random) -> Call {
+    pub(crate) fn any(disk: &Disk, image: &[u8], random: &mut Random) -> Call {
         match random.below(18) {
             0 => Call::Judge,
             1 => Call::FreeCount,
@@ -32,7 +32,7 @@ impl Call {
             calls.push(Call::Entry { place, room: HEADER_BYTES + 2 });
         }
         for (name, sectors) in files {
-            let name = GivenName::whole(name);
+            let name = Given::whole(name);
             for offset in 0..=*sectors {
                 calls.push(Call::Read { name: name.clone(), offset, room: SECTOR_BYTES + 2 });
             }
@@ -104,7 +104,7 @@ fn room_for(length: usize, random: &mut Random) -> usize {
 }
 
 /// A number below a bound, more often than not, or one at or past it.
-fn around(bound: usize, random: &mut Random) -> usize {
+pub(crate) fn around(bound: usize, random: &mut Random) -> usize {
     match random.below(12) {
         0 | 1 => bound,
         2 => bound + 1 + random.below(300),
@@ -122,7 +122,7 @@ fn beyond(number: usize, random: &mut Random) -> usize {
 }
 
 /// A file that keeps a rule, or any where none does.
-fn some_file<'disk>(
+pub(crate) fn some_file<'disk>(
     disk: &'disk Disk,
     rule: impl Fn(&File) -> bool,
     random: &mut Random,
@@ -135,33 +135,33 @@ fn some_file<'disk>(
 }
 
 /// The name of a file, or any at all, mostly as it is.
-fn name_for(file: Option<&File>, random: &mut Random) -> GivenName {
+fn name_for(file: Option<&File>, random: &mut Random) -> Given {
     let name = file.map_or_else(|| names(1, random)[0], File::name);
     given_name(name, random)
 }
 
 /// Mostly the name itself; else one of the wrong length, a malformed one or another one.
-fn given_name(name: Name, random: &mut Random) -> GivenName {
+pub(crate) fn given_name(name: Name, random: &mut Random) -> Given {
     match random.below(14) {
         0 => of_other_length(name, random),
         1 | 2 => {
             let changed = changed_names(name, random);
-            GivenName::whole(&changed[random.below(changed.len())])
+            Given::whole(&changed[random.below(changed.len())])
         }
         3 => {
             // The high bit and the case of a letter among them.
             let mut other = name;
             other[random.below(10)] ^= 1 << random.below(8);
-            GivenName::whole(&other)
+            Given::whole(&other)
         }
-        4 => GivenName::whole(&names(1, random)[0]),
-        _ => GivenName::whole(&name),
+        4 => Given::whole(&names(1, random)[0]),
+        _ => Given::whole(&name),
     }
 }
 
 /// The bytes of a name, too few or too many of them lent; those behind it are spaces, so that it
 /// would do but for its length.
-fn of_other_length(name: Name, random: &mut Random) -> GivenName {
+fn of_other_length(name: Name, random: &mut Random) -> Given {
     let used = name.iter().take_while(|byte| **byte != b' ').count();
     let length = match random.below(8) {
         0 => 0,
@@ -175,5 +175,5 @@ fn of_other_length(name: Name, random: &mut Random) -> GivenName {
     };
     let mut bytes = name.to_vec();
     bytes.resize(length.max(10), b' ');
-    GivenName { bytes, length }
+    Given { bytes, length }
 }

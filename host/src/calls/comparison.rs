@@ -56,30 +56,10 @@ impl Comparison {
     }
 
     fn call(&mut self, call: &Call, image: &Image) -> Result<(), String> {
-        let answer = call.by_reference(image.bytes);
-        let planned = planned::answer(call, image);
-        let mut expected = Lent::to(call, image.bytes, &mut self.random);
-        let mut lent = expected.clone();
-        let number = lent.call(call);
-        if let Ok(written) = &answer {
-            expected.write(call, written);
-        }
-        let agreed = planned.as_ref().map_or(true, |planned| *planned == answer);
-        if !agreed || number != number_of(&answer) || lent != expected {
-            let planned = planned.map_or("not known".to_string(), |answer| describe(&answer));
-            let memory = lent.difference(&expected);
-            let memory = memory.unwrap_or_else(|| "memory as the reference has it".to_string());
-            let lines = [
-                format!("difference in {:?} on \"{}\"", call, image.what),
-                format!("library {}", number),
-                format!("reference {}", describe(&answer)),
-                format!("plan {}", planned),
-                memory,
-                format!("seed {}, call {} of it", self.seed, self.tally.total() + 1),
-                format!("image kept as {}", image.keep()),
-            ];
-            return Err(lines.join("\n  "));
-        }
+        let nth = self.tally.total() + 1;
+        let answer = compared(call, image, &mut self.random).map_err(|difference| {
+            format!("{}\n  seed {}, call {} of it", difference, self.seed, nth)
+        })?;
         self.tally.count(&Case { call, image, answer: &answer });
         Ok(())
     }
@@ -89,6 +69,34 @@ impl Comparison {
         println!("compared {} calls: no difference", self.tally.total());
         Ok(())
     }
+}
+
+/// What a call gives, if library, reference and plan agree on it, and else how they do not.
+pub(crate) fn compared(call: &Call, image: &Image, random: &mut Random) -> Result<Answer, String> {
+    let answer = call.by_reference(image.bytes);
+    let planned = planned::answer(call, image);
+    let mut expected = Lent::to(call, image.bytes, random);
+    let mut lent = expected.clone();
+    let number = lent.call(call);
+    if let Ok(written) = &answer {
+        expected.write(call, written);
+    }
+    let agreed = planned.as_ref().map_or(true, |planned| *planned == answer);
+    if agreed && number == number_of(&answer) && lent == expected {
+        return Ok(answer);
+    }
+    let planned = planned.map_or("not known".to_string(), |answer| describe(&answer));
+    let memory = lent.difference(&expected);
+    let memory = memory.unwrap_or_else(|| "memory as the reference has it".to_string());
+    let lines = [
+        format!("difference in {:?} on \"{}\"", call, image.what),
+        format!("library {}", number),
+        format!("reference {}", describe(&answer)),
+        format!("plan {}", planned),
+        memory,
+        format!("image kept as {}", image.keep()),
+    ];
+    Err(lines.join("\n  "))
 }
 
 fn some_batches(random: &mut Random) -> Vec<Batch> {

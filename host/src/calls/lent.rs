@@ -1,6 +1,6 @@
 //! The memory that is lent to one call of the library, so that all of it can be looked at after.
 
-use super::{Call, Written};
+use super::{Call, Given, Written};
 use crate::library;
 use crate::random::Random;
 
@@ -10,24 +10,39 @@ const MARGIN: usize = 21;
 
 /// Bytes in memory, of which some are lent.
 #[derive(Clone, PartialEq, Eq)]
-struct Part {
+pub(crate) struct Part {
     bytes: Vec<u8>,
     length: usize,
 }
 
 impl Part {
-    /// The first `length` of the bytes are lent.
-    fn of(bytes: &[u8], length: usize, random: &mut Random) -> Self {
+    /// All of the bytes are lent.
+    pub(crate) fn of(bytes: &[u8], random: &mut Random) -> Self {
+        let length = bytes.len();
         let bytes = [&random.bytes(MARGIN), bytes, &random.bytes(MARGIN)].concat();
         Part { bytes, length }
     }
 
-    fn lent(&mut self) -> &mut [u8] {
+    /// What a call is given, which may be less than all of the bytes, or nothing.
+    pub(crate) fn given(given: Option<&Given>, random: &mut Random) -> Self {
+        let part = Part::of(given.map_or(&[], |given| &given.bytes), random);
+        Part { length: given.map_or(0, |given| given.length), ..part }
+    }
+
+    pub(crate) fn lent(&mut self) -> &mut [u8] {
         &mut self.bytes[MARGIN..][..self.length]
     }
 
+    pub(crate) fn seen(&self) -> &[u8] {
+        &self.bytes[MARGIN..][..self.length]
+    }
+
     /// Where this and another part first differ.
-    fn difference(&self, what: &str, expected: &Part) -> Option<String> {
+    pub(crate) fn difference(&self, what: &str, expected: &Part) -> Option<String> {
+        if self == expected {
+            // Looking for the place takes far longer.
+            return None;
+        }
         let mut pairs = self.bytes.iter().zip(&expected.bytes);
         let place = pairs.position(|(found, expected)| found != expected)?;
         let (found, expected) = (self.bytes[place], expected.bytes[place]);
@@ -50,15 +65,10 @@ impl Lent {
     /// Everything that the call is to write into is random before.
     pub(super) fn to(call: &Call, image: &[u8], random: &mut Random) -> Self {
         let buffer = random.bytes(call.room());
-        let name = call.name();
         Lent {
-            image: Part::of(image, image.len(), random),
-            name: Part::of(
-                name.map_or(&[], |name| &name.bytes),
-                name.map_or(0, |name| name.length),
-                random,
-            ),
-            buffer: Part::of(&buffer, buffer.len(), random),
+            image: Part::of(image, random),
+            name: Part::given(call.name(), random),
+            buffer: Part::of(&buffer, random),
             numbers: [(); 4].map(|()| random.number() as usize),
         }
     }

@@ -1,7 +1,7 @@
 //! What a call must give by the plan of a disk: a second answer, which knows where everything lies
 //! and takes from the image only the disk name and the sectors of files.
 
-use super::{Answer, Call, GivenName, Written};
+use super::{Answer, Call, Given, Written};
 use crate::reference::Geometry;
 use crate::suites::Image;
 use crate::volumes::{is_name, word, Disk, File, HEADER_BYTES, MOST_SECTORS, SECTOR_BYTES};
@@ -62,14 +62,14 @@ fn refuse_below(least: usize, room: usize) -> Result<(), u32> {
     (room >= least).then_some(()).ok_or(15)
 }
 
-fn find<'disk>(disk: &'disk Disk, name: &GivenName) -> Result<&'disk File, u32> {
+fn find<'disk>(disk: &'disk Disk, name: &Given) -> Result<&'disk File, u32> {
     if !is_good(name) {
         return Err(7);
     }
     disk.files.iter().find(|file| file.name()[..] == *name.lent()).ok_or(8)
 }
 
-pub(super) fn is_good(name: &GivenName) -> bool {
+pub(crate) fn is_good(name: &Given) -> bool {
     name.length == 10 && is_name(name.lent().try_into().expect("ten bytes"))
 }
 
@@ -90,7 +90,7 @@ fn kind(file: &File) -> (usize, &'static str) {
     }
 }
 
-pub(super) fn is_program(file: &File) -> bool {
+pub(crate) fn is_program(file: &File) -> bool {
     file.status() & 0x01 != 0
 }
 
@@ -105,7 +105,7 @@ pub(super) fn length_of(file: &File) -> usize {
     }
 }
 
-pub(super) fn is_protected(file: &File) -> bool {
+pub(crate) fn is_protected(file: &File) -> bool {
     file.status() & 0x08 != 0
 }
 
@@ -131,7 +131,7 @@ fn unpadded(name: &[u8]) -> String {
     name.iter().filter(|byte| **byte != b' ').map(|byte| char::from(*byte)).collect()
 }
 
-fn formatted(length: usize, n: usize, name: &GivenName, geometry: Geometry) -> Answer {
+fn formatted(length: usize, n: usize, name: &Given, geometry: Geometry) -> Answer {
     // No n above the greatest gets as far as the product.
     if !(3..=MOST_SECTORS).contains(&n) || length != SECTOR_BYTES * n {
         return Err(1);

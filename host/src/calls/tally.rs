@@ -8,7 +8,7 @@ use crate::volumes::{File, HEADER_BYTES, SECTOR_BYTES};
 use std::collections::BTreeMap;
 
 /// How often everything that can be reached must at least have come up.
-const LEAST: u64 = 100;
+pub(crate) const LEAST: u64 = 100;
 
 const NUMBERS: [u32; 11] = [0, 1, 2, 3, 4, 5, 6, 7, 8, 14, 15];
 const NUMBERS_OF_IMAGES: [u32; 7] = [0, 1, 2, 3, 4, 5, 6];
@@ -220,7 +220,7 @@ impl Tally {
     }
 }
 
-fn write_row(title: &str, numbers: &[u32], cell: impl Fn(u32) -> String) {
+pub(crate) fn write_row(title: &str, numbers: &[u32], cell: impl Fn(u32) -> String) {
     let cells: String = numbers.iter().map(|number| format!("{:>7}", cell(*number))).collect();
     println!("{:<19}{}", title, cells);
 }

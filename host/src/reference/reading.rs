@@ -79,7 +79,8 @@ pub fn read<'image>(
     room: usize,
 ) -> Result<&'image Sector, Refusal> {
     let volume = judge(image)?;
-    let mut places = find(volume, name)?.chain().places();
+    let (_, descriptor) = find(volume, name)?;
+    let mut places = descriptor.chain().places();
     let place = places.nth(offset).ok_or(Refusal::Argument)?;
     holds(room >= SECTOR_BYTES, Refusal::Argument)?;
     Ok(volume.sector(place))
@@ -88,7 +89,7 @@ pub fn read<'image>(
 /// The bytes of a program.
 pub fn load(image: &[u8], name: &[u8], room: usize) -> Result<Vec<u8>, Refusal> {
     let volume = judge(image)?;
-    let descriptor = find(volume, name)?;
+    let (_, descriptor) = find(volume, name)?;
     let length = match descriptor.kind() {
         Some(Kind::Program { length }) => length,
         _ => return Err(Refusal::Kind),
@@ -98,10 +99,19 @@ pub fn load(image: &[u8], name: &[u8], room: usize) -> Result<Vec<u8>, Refusal> 
     Ok(bytes.copied().take(length).collect())
 }
 
-fn find<'image>(volume: Volume<'image>, name: &[u8]) -> Result<Descriptor<'image>, Refusal> {
-    let name = given_name(name)?;
-    let mut descriptors = volume.files().map(|(_, descriptor)| descriptor);
-    descriptors.find(|descriptor| descriptor.name() == name).ok_or(Refusal::Absent)
+/// The descriptor of a file, and the sector it lies in.
+pub(super) fn find<'image>(
+    volume: Volume<'image>,
+    name: &[u8],
+) -> Result<(usize, Descriptor<'image>), Refusal> {
+    named(volume, given_name(name)?).ok_or(Refusal::Absent)
+}
+
+pub(super) fn named<'image>(
+    volume: Volume<'image>,
+    name: &Name,
+) -> Option<(usize, Descriptor<'image>)> {
+    volume.files().find(|(_, descriptor)| descriptor.name() == name)
 }
 
 /// A name as it was lent, if it is one.

@@ -1,4 +1,4 @@
-//! Why a call is refused.
+//! Why a call is refused, in the order of the tests.
 
 /// Each case stands for the paper's number.
 #[derive(Clone, Copy, Debug, PartialEq, Eq)]
@@ -14,10 +14,20 @@ pub enum Refusal {
     Name = 7,
     /// No such file, or no such place in the catalogue.
     Absent = 8,
-    /// A program is asked for and the file is not one.
+    /// The new name is that of a file, be it the one that is to be renamed.
+    Present = 9,
+    Protected = 10,
+    /// A program is asked for and the file is not one, or data is and it is a program.
     Kind = 14,
-    /// An offset not below c, or a buffer too short for what it is to be filled with.
+    /// An offset not below c, a status that cannot be created, bytes to write that are too many or
+    /// not a sector's, or a buffer too short for what it is to be filled with.
     Argument = 15,
+    /// 127 files are present.
+    IndexFull = 11,
+    /// The call takes more sectors than are free.
+    DiskFull = 12,
+    /// A 77th block would be needed.
+    ChainFull = 13,
 }
 
 impl Refusal {

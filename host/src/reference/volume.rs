@@ -6,6 +6,8 @@ use std::ops::Range;
 pub const SECTOR_BYTES: usize = 256;
 pub const MOST_SECTORS: usize = 1600;
 pub const HEADER_BYTES: usize = 28;
+pub const MOST_FILES: usize = 127;
+pub const MOST_BLOCKS: usize = 76;
 
 pub type Sector = [u8; SECTOR_BYTES];
 
@@ -42,7 +44,7 @@ impl<'image> Volume<'image> {
     /// Each file's descriptor with the sector it lies in, in the order of the index.
     pub fn files(self) -> impl Iterator<Item = (usize, Descriptor<'image>)> {
         let listed = self.index().numbers().take_while(|number| *number != 0);
-        listed.map(move |number| (number, Descriptor(self.sector(number))))
+        listed.map(move |number| (number, Descriptor::new(self.sector(number))))
     }
 }
 
@@ -99,6 +101,10 @@ impl<'image> Descriptor<'image> {
     pub const INTERNAL: u8 = 0x02;
     pub const PROTECTED: u8 = 0x08;
     pub const VARIABLE: u8 = 0x80;
+
+    pub fn new(sector: &'image Sector) -> Self {
+        Descriptor(sector)
+    }
 
     /// Bytes 0 to 27.
     pub fn header(self) -> &'image [u8; HEADER_BYTES] {
@@ -206,6 +212,12 @@ impl Block {
     fn fields(bytes: &[u8]) -> (usize, usize) {
         let [low, middle, high] = [bytes[0], bytes[1], bytes[2]].map(usize::from);
         (low + 256 * (middle % 16), middle / 16 + 16 * high)
+    }
+
+    /// The three bytes that hold the start and the last offset.
+    pub fn bytes(self) -> [u8; 3] {
+        let middle = self.start / 256 + 16 * (self.last % 16);
+        [self.start % 256, middle, self.last / 16].map(|byte| byte as u8)
     }
 
     /// Meant for a block whose offsets ascend.

@@ -1,0 +1,4 @@
+-- The laws that the proofs share.
+mod Spreading
+mod Laying
+mod StoreLaws

@@ -1,0 +1,149 @@
+// Storing: a program's bytes become a file. All its sectors are chosen before the first is written. The call takes any image and any
+// arguments, answers with its number, and leaves the image with the writes of the rules' definition laid over it; a refusal has none.
+ghost use mathlib.Core.Path.{_≡_};
+ghost use mathlib.Core.Bool.{true};
+ghost use Prim.Native.Nat.{_%_, _≤_, _<_};
+ghost use lib.ListN.{length, drop, replicate};
+ghost use Rattle.rules.specs.Bytes.{over};
+ghost use Rattle.rules.specs.Sectors.{written};
+ghost use Rattle.rules.specs.Name.{nameRule};
+ghost use Rattle.rules.specs.Chain.{blocks, places};
+ghost use Rattle.rules.specs.Descriptor.{newDescriptor, withChain};
+ghost use Rattle.rules.specs.Sound.{Sound};
+ghost use Rattle.rules.specs.Outcome.{answerOf};
+ghost use Rattle.rules.specs.Calls.Store.{dataWrites, storing, storeOf};
+ghost use Rattle.storing.specs.Spread.{Spread, IsSpread};
+use descriptor::chain::Cursor;
+use descriptor::chain::Step;
+use descriptor::header::new_descriptor;
+use extension::Tip;
+use extension::extend;
+use extension::tip_with;
+use index::enter;
+use index::index_with;
+use map::bits::mark;
+use map::choice::Search;
+use map::choice::descriptor_choice;
+use map::free::free_count_of;
+use reading::find;
+use rules::Answer;
+use rules::Opened;
+use sector::buffer::lay;
+use sector::buffer::sector_copy;
+use sector::buffer::write_sector;
+use sector::bytes::part;
+use sector::bytes::sector_of;
+use sector::bytes::word;
+
+// Takes `many` sectors for data in the map and puts them into the chain, one after another; false where a 77th block would be needed.
+fn spread(sector0: &mut [u8], chain: &mut [u8], many: usize) -> bool
+    requires { ⌜ (length (now sector0) ≡ 256) × (now chain ≡ replicate 228 0) × (many ≤ 129) ⌝ }
+    ensures { λ r. ⌜ Spread many (now (sector0 .entry)) r (now (sector0 .exit)) (now (chain .exit)) ⌝ }
+{
+    let mut search = Search::first();
+    let mut tip = Tip {
+        used: 0,
+        start: 0,
+        first: 0,
+        next: 0,
+    };
+    let mut left = many;
+    while left > 0 {
+        let found = search.next(sector0);
+        let k = found.sector;
+        let longer = tip_with(tip, k);
+        if longer.used > 76 {
+            return false;
+        }
+        tip = extend(chain, tip, k);
+        mark(sector0, k);
+        search = found;
+        left -= 1;
+    }
+    true
+}
+
+// The 256 bytes from `at` on, and zeros where there are no more.
+fn piece_of(bytes: &[u8], at: usize) -> [u8; 256]
+    ensures { λ r. ⌜ r ≡ over (replicate 256 0) (drop at (now (bytes .entry))) ⌝ }
+{
+    let mut piece = [0u8; 256];
+    lay(&mut piece, 0, part(bytes, at, 256));
+    piece
+}
+
+// The bytes go to the sectors of the chain, in file order.
+fn write_data(image: &mut [u8], chain: &[u8], bytes: &[u8])
+    requires { ⌜ length (places (now chain)) ≤ 129 ⌝ }
+    ensures { λ _. ⌜ now (image .exit) ≡ written (now (image .entry)) (dataWrites (now (bytes .entry)) (places (now (chain .entry)))) ⌝ }
+{
+    let mut cursor = Cursor::first();
+    let mut at = 0;
+    while let Step::Place(place, next) = cursor.step(chain) {
+        let piece = piece_of(bytes, at);
+        write_sector(image, place, &piece);
+        at += 256;
+        cursor = next;
+    }
+}
+
+// The descriptor of a program of `size` bytes, in `many` sectors.
+fn program_descriptor(name: &[u8], size: usize, many: usize, chain: &[u8]) -> [u8; 256]
+    requires { ⌜ (length (now name) ≡ 10) × (many < 65536) × IsSpread (now chain) ⌝ }
+    ensures { λ r. ⌜ r ≡ withChain (newDescriptor (now (name .entry)) 0x01 0 (size % 256) 0) many (blocks (now (chain .entry))) ⌝ }
+{
+    let end_offset = (size % 256) as u8;
+    let high = (many / 256) as u8;
+    let low = (many % 256) as u8;
+    let mut descriptor = new_descriptor(name, 0x01, 0, end_offset, 0);
+    descriptor[14] = high;
+    descriptor[15] = low;
+    lay(&mut descriptor, 28, chain);
+    descriptor
+}
+
+// On a sound volume, under a name that keeps the rule and is not there.
+fn store_new(image: &mut [u8], name: &[u8], bytes: &[u8]) -> Answer
+    requires { ⌜ Sound (now image) × (nameRule (now name) ≡ true) ⌝ }
+    ensures { λ r. ⌜ r ≡ answerOf (storing (now (image .entry)) (now (name .entry)) (now (bytes .entry)) .number) ⌝ }
+    ensures { λ _. ⌜ now (image .exit) ≡ written (now (image .entry)) (storing (now (image .entry)) (now (name .entry)) (now (bytes .entry)) .writes) ⌝ }
+{
+    if bytes.len() > 32768 {
+        return Answer::Refused(15);
+    }
+    if word(sector_of(image, 1), 252) != 0 {
+        return Answer::Refused(11);
+    }
+    let many = bytes.len() / 256 + 1;
+    if free_count_of(sector_of(image, 0)) < 1 + many {
+        return Answer::Refused(12);
+    }
+    let k = descriptor_choice(sector_of(image, 0));
+    let mut sector0 = sector_copy(image, 0);
+    mark(&mut sector0, k);
+    let mut chain = [0u8; 228];
+    if !spread(&mut sector0, &mut chain, many) {
+        return Answer::Refused(13);
+    }
+    let descriptor = program_descriptor(name, bytes.len(), many, &chain);
+    let index = index_with(image, sector_of(image, 1), name, k);
+    write_data(image, &chain, bytes);
+    enter(image, k, &descriptor, &sector0, &index);
+    Answer::Done
+}
+
+pub fn store(image: &mut [u8], name: &[u8], bytes: &[u8]) -> Answer
+    ensures { λ r. ⌜ r ≡ answerOf (storeOf (now (image .entry)) (now (name .entry)) (now (bytes .entry)) .number) ⌝ }
+    ensures { λ _. ⌜ now (image .exit) ≡ written (now (image .entry)) (storeOf (now (image .entry)) (now (name .entry)) (now (bytes .entry)) .writes) ⌝ }
+{
+    let opened = find(image, name);
+    match opened {
+        Opened::At(_, _) => Answer::Refused(9),
+        Opened::Refused(number) => {
+            if number != 8 {
+                return Answer::Refused(number);
+            }
+            store_new(image, name, bytes)
+        }
+    }
+}

@@ -1,0 +1,48 @@
+# What the scripts of this folder share. $host is this folder.
+top=$(dirname "$host")
+out=$top/target/host
+mkdir -p "$out"
+
+install() {
+    apt-get update >&2
+    apt-get install -y "$@" >&2
+}
+
+# PROGRAM PACKAGE...: installs the packages where the program is missing.
+need() {
+    command -v "$1" >/dev/null || install "${@:2}"
+}
+
+# The archive is for x86-64. Elsewhere the programs are built for it too, and emulated.
+prepare() {
+    if [ "$(uname -m)" = x86_64 ]; then
+        need rustc rustc
+        rustc=rustc
+        flags=()
+        emulator=()
+        return
+    fi
+    if ! dpkg -s libstd-rust-dev:amd64 >/dev/null 2>&1; then
+        dpkg --add-architecture amd64
+        install rustc libstd-rust-dev:amd64
+    fi
+    need x86_64-linux-gnu-gcc gcc-x86-64-linux-gnu libc6-dev-amd64-cross
+    need qemu-x86_64 qemu-user
+    # Debian's compiler, whichever one comes first in the path: it has the library for x86-64.
+    rustc=$(dpkg -L rustc | grep 'bin/rustc$')
+    flags=(--target x86_64-unknown-linux-gnu -C relocation-model=static
+        -C linker=x86_64-linux-gnu-gcc)
+    emulator=(qemu-x86_64)
+}
+
+# Sets $archive, made anew where a source is younger: that takes a proof.
+find_archive() {
+    if [ -n "${PNO_ARCHIVE:-}" ]; then
+        archive=$(realpath "$PNO_ARCHIVE")
+        return
+    fi
+    archive=$top/target/staticlib/libpnoelithe.a
+    if [ ! -f "$archive" ] || [ -n "$(find "$top/crates" -name '*.rt' -newer "$archive")" ]; then
+        (cd "$top" && rt staticlib pnoelithe >&2)
+    fi
+}

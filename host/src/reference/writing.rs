@@ -1,0 +1,170 @@
+//! The calls that change an image. Each finds out first whether it is refused, in the order of the
+//! paper's table, and only then touches a byte.
+
+use super::choice::{grow, Free};
+use super::draft::{set_chain, Draft};
+use super::judge::judge;
+use super::reading::{find, given_name, named};
+use super::refusal::{holds, Refusal};
+use super::volume::{Block, Descriptor, Name, Sector, Volume};
+use super::volume::{MOST_BLOCKS, MOST_FILES, SECTOR_BYTES};
+
+const MOST_PROGRAM_BYTES: usize = 32_768;
+
+/// An empty data file.
+pub fn create(
+    image: &mut [u8],
+    name: &[u8],
+    status: u8,
+    record_length: u8,
+    records_per_sector: u8,
+) -> Result<(), Refusal> {
+    let volume = judge(image)?;
+    let name = new_name(volume, name)?;
+    holds([0x00, 0x02, 0x80, 0x82].contains(&status), Refusal::Argument)?;
+    has_a_place(volume)?;
+    let number = Free::of(volume).take_for_descriptor().ok_or(Refusal::DiskFull)?;
+
+    let mut descriptor = described(name, status);
+    descriptor[13] = records_per_sector;
+    descriptor[17] = record_length;
+    add(Draft::new(image), number, &descriptor);
+    Ok(())
+}
+
+/// A program of the given bytes, the rest of its last sector zero.
+pub fn store(image: &mut [u8], name: &[u8], bytes: &[u8]) -> Result<(), Refusal> {
+    let volume = judge(image)?;
+    let name = new_name(volume, name)?;
+    holds(bytes.len() <= MOST_PROGRAM_BYTES, Refusal::Argument)?;
+    has_a_place(volume)?;
+    let sectors = bytes.len() / SECTOR_BYTES + 1;
+    let mut free = Free::of(volume);
+    holds(free.count() > sectors, Refusal::DiskFull)?;
+    let number = free.take_for_descriptor().ok_or(Refusal::DiskFull)?;
+    let mut blocks = Vec::new();
+    for _ in 0..sectors {
+        grow(&mut blocks, free.take_for_data().ok_or(Refusal::DiskFull)?);
+    }
+    holds(blocks.len() <= MOST_BLOCKS, Refusal::ChainFull)?;
+
+    let mut descriptor = described(name, Descriptor::PROGRAM);
+    descriptor[16] = (bytes.len() % SECTOR_BYTES) as u8;
+    set_chain(&mut descriptor, &blocks);
+    let mut draft = Draft::new(image);
+    let mut content = bytes.iter().copied().chain(std::iter::repeat(0));
+    for place in blocks.into_iter().flat_map(Block::places) {
+        draft.sector(place).fill_with(|| content.next().unwrap_or(0));
+        draft.take(place);
+    }
+    add(draft, number, &descriptor);
+    Ok(())
+}
+
+/// One sector more for a data file.
+pub fn append(image: &mut [u8], name: &[u8], data: &[u8]) -> Result<(), Refusal> {
+    let volume = judge(image)?;
+    let (number, descriptor) = find(volume, name)?;
+    is_writable_data(descriptor)?;
+    let data = one_sector(data)?;
+    let place = Free::of(volume).take_for_data().ok_or(Refusal::DiskFull)?;
+    let mut blocks = descriptor.chain().blocks().collect();
+    grow(&mut blocks, place);
+    holds(blocks.len() <= MOST_BLOCKS, Refusal::ChainFull)?;
+
+    let mut draft = Draft::new(image);
+    set_chain(draft.sector(number), &blocks);
+    *draft.sector(place) = *data;
+    draft.take(place);
+    Ok(())
+}
+
+/// Other bytes for one sector of a data file.
+pub fn overwrite(image: &mut [u8], name: &[u8], offset: usize, data: &[u8]) -> Result<(), Refusal> {
+    let volume = judge(image)?;
+    let (_, descriptor) = find(volume, name)?;
+    is_writable_data(descriptor)?;
+    let place = descriptor.chain().places().nth(offset).ok_or(Refusal::Argument)?;
+    let data = one_sector(data)?;
+
+    *Draft::new(image).sector(place) = *data;
+    Ok(())
+}
+
+/// The sectors of a deleted file keep their bytes.
+pub fn delete(image: &mut [u8], name: &[u8]) -> Result<(), Refusal> {
+    let volume = judge(image)?;
+    let (number, descriptor) = find(volume, name)?;
+    is_unprotected(descriptor)?;
+    let places: Vec<usize> = descriptor.chain().places().collect();
+
+    let mut draft = Draft::new(image);
+    draft.unlist(number);
+    draft.give_back(number);
+    places.into_iter().for_each(|place| draft.give_back(place));
+    Ok(())
+}
+
+pub fn rename(image: &mut [u8], old: &[u8], new: &[u8]) -> Result<(), Refusal> {
+    let volume = judge(image)?;
+    let (old, new) = (given_name(old)?, given_name(new)?);
+    let (number, descriptor) = named(volume, old).ok_or(Refusal::Absent)?;
+    holds(named(volume, new).is_none(), Refusal::Present)?;
+    is_unprotected(descriptor)?;
+
+    let mut draft = Draft::new(image);
+    draft.unlist(number);
+    draft.sector(number)[..10].copy_from_slice(new);
+    draft.list(number);
+    Ok(())
+}
+
+pub fn protect(image: &mut [u8], name: &[u8]) -> Result<(), Refusal> {
+    let (number, _) = find(judge(image)?, name)?;
+    Draft::new(image).sector(number)[12] |= Descriptor::PROTECTED;
+    Ok(())
+}
+
+pub fn unprotect(image: &mut [u8], name: &[u8]) -> Result<(), Refusal> {
+    let (number, _) = find(judge(image)?, name)?;
+    Draft::new(image).sector(number)[12] &= !Descriptor::PROTECTED;
+    Ok(())
+}
+
+/// A name for a file that is to be made.
+fn new_name<'name>(volume: Volume, name: &'name [u8]) -> Result<&'name Name, Refusal> {
+    let name = given_name(name)?;
+    holds(named(volume, name).is_none(), Refusal::Present)?;
+    Ok(name)
+}
+
+fn has_a_place(volume: Volume) -> Result<(), Refusal> {
+    holds(volume.files().count() < MOST_FILES, Refusal::IndexFull)
+}
+
+fn is_unprotected(descriptor: Descriptor) -> Result<(), Refusal> {
+    holds(!descriptor.has(Descriptor::PROTECTED), Refusal::Protected)
+}
+
+fn is_writable_data(descriptor: Descriptor) -> Result<(), Refusal> {
+    is_unprotected(descriptor)?;
+    holds(!descriptor.has(Descriptor::PROGRAM), Refusal::Kind)
+}
+
+fn one_sector(data: &[u8]) -> Result<&Sector, Refusal> {
+    data.try_into().map_err(|_| Refusal::Argument)
+}
+
+/// The descriptor of a file without sectors.
+fn described(name: &Name, status: u8) -> Sector {
+    let mut descriptor = [0; SECTOR_BYTES];
+    descriptor[..10].copy_from_slice(name);
+    descriptor[12] = status;
+    descriptor
+}
+
+fn add(mut draft: Draft, number: usize, descriptor: &Sector) {
+    *draft.sector(number) = *descriptor;
+    draft.take(number);
+    draft.list(number);
+}

@@ -1,0 +1,109 @@
+//! What a caller knows of a volume: the files by name, each with its header and its bytes, and how
+//! many sectors are free. No sector has a number here, so a call that writes over another file, or
+//! loses a sector, is found whatever library, reference and plan agree on.
+
+use super::Write;
+use crate::reference;
+use crate::volumes::{word, Name, HEADER_BYTES, SECTOR_BYTES};
+use std::collections::BTreeMap;
+
+struct Shelved {
+    header: [u8; HEADER_BYTES],
+    /// Whole sectors.
+    bytes: Vec<u8>,
+}
+
+pub(super) struct Shelf {
+    files: BTreeMap<Name, Shelved>,
+    free: usize,
+}
+
+impl Shelf {
+    /// Of a sound volume, as the reference reads it; of any other, nothing.
+    pub(super) fn of(image: &[u8]) -> Self {
+        let mut shelf = Shelf { files: BTreeMap::new(), free: 0 };
+        if let Ok(volume) = reference::judge(image) {
+            shelf.free = volume.label().free_sectors();
+            for (_, file) in volume.files() {
+                let sectors = file.chain().places().map(|place| &volume.sector(place)[..]);
+                let bytes = sectors.collect::<Vec<_>>().concat();
+                shelf.files.insert(*file.name(), Shelved { header: *file.header(), bytes });
+            }
+        }
+        shelf
+    }
+
+    /// Does a call that is done.
+    pub(super) fn change(&mut self, write: &Write) {
+        let name: Name = write.name().lent().try_into().expect("ten bytes");
+        let mut file = self.files.remove(&name).unwrap_or_else(|| Shelved::new(&name));
+        let was = file.sectors();
+        match write {
+            Write::Create { status, record_length, records_per_sector, .. } => {
+                file.header[12] = *status;
+                file.header[13] = *records_per_sector;
+                file.header[17] = *record_length;
+                self.free -= 1;
+            }
+            Write::Store { bytes, .. } => {
+                file.header[12] = 0x01;
+                file.bytes = bytes.lent().to_vec();
+                file.header[16] = file.bytes.len() as u8;
+                file.bytes.push(0);
+                file.bytes.resize((file.bytes.len() + 255) / SECTOR_BYTES * SECTOR_BYTES, 0);
+                self.free -= 1;
+            }
+            Write::Append { data, .. } => file.bytes.extend(data.lent()),
+            Write::Overwrite { offset, data, .. } => {
+                file.bytes[SECTOR_BYTES * offset..][..SECTOR_BYTES].copy_from_slice(data.lent());
+            }
+            Write::Rename { new, .. } => file.header[..10].copy_from_slice(new.lent()),
+            Write::Protect { .. } => file.header[12] |= 0x08,
+            Write::Unprotect { .. } => file.header[12] &= 0xF7,
+            Write::Delete { .. } => {
+                self.free += 1 + was;
+                return;
+            }
+        }
+        let sectors = file.sectors();
+        self.free -= sectors - was;
+        file.header[14..16].copy_from_slice(&word(sectors));
+        let name = file.header[..10].try_into().expect("ten bytes");
+        self.files.insert(name, file);
+    }
+
+    /// Whether the reference finds just this on an image.
+    pub(super) fn is_on(&self, image: &[u8]) -> bool {
+        let volume = match reference::judge(image) {
+            Ok(volume) => volume,
+            Err(_) => return false,
+        };
+        let mut found = volume.files();
+        let all = self.files.iter().all(|(name, file)| match found.next() {
+            Some((_, other)) => {
+                let mut places = other.chain().places();
+                let mut sectors = file.bytes.chunks(SECTOR_BYTES);
+                other.name() == name
+                    && *other.header() == file.header
+                    && sectors.all(|own| {
+                        places.next().map(|place| &volume.sector(place)[..]) == Some(own)
+                    })
+                    && places.next().is_none()
+            }
+            None => false,
+        });
+        all && found.next().is_none() && volume.label().free_sectors() == self.free
+    }
+}
+
+impl Shelved {
+    fn new(name: &Name) -> Self {
+        let mut header = [0; HEADER_BYTES];
+        header[..10].copy_from_slice(name);
+        Shelved { header, bytes: Vec::new() }
+    }
+
+    fn sectors(&self) -> usize {
+        self.bytes.len() / SECTOR_BYTES
+    }
+}
