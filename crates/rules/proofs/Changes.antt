@@ -5,6 +5,7 @@ use mathlib.Core.List.{List}
 use Prim.Native.Nat.{ℕ, _+_, _*_, _/_, _%_, _≤_, _<_}
 use native.Mathlib.Omega.{arith}
 use native.Mathlib.Nat.{div-one}
+use native.Mathlib.Decide.{ℕ-discrete}
 use lib.Dec.{eqb}
 use lib.ListN.{length, getD}
 use borrow.Author.Tests.{eq-eqb, ne-eqb, eqb-true, eqb-false}
@@ -21,10 +22,11 @@ use Rattle.rules.specs.Sound.{Sound, IsFile}
 use Rattle.rules.specs.Outcome.{Outcome, refusal, done, answerOf, findIn, openOf, changing, adding}
 use Rattle.rules.specs.declared.Answer.{Answer}
 use Rattle.rules.specs.declared.Answer.the-variants as answer
+use Rattle.rules.specs.declared.Opened.{Opened}
 use Rattle.rules.specs.declared.Opened.the-variants.{At, Refused}
 use Rattle.rules.proofs.Volume.{place-inside}
 use Rattle.rules.proofs.Verdict.{sound}
-use Rattle.rules.proofs.Outcome.{IsOpened, opened-is, find-refused, file-low, file-long}
+use Rattle.rules.proofs.Outcome.{opened-is, open-refused, file-low, file-long}
 
 -- the answer, and the image afterwards
 module _ (image : List ℕ) (outcome : Outcome) where
@@ -131,3 +133,43 @@ absent-is image name number e is = go (eqb (verdict image) 0) (nameRule name) re
     go true true v r e = record { whole = sound image (eqb-true (verdict image) 0 v); rule = r; absent = e ∙ ap Refused is }
     go true false v r e = let w : 7 ≡ number = cc in absurd (omega arith)
     go false u v r e = let w : verdict image ≡ number = cc in absurd (omega (arith, verdict-small image))
+
+-- a change that was done: the file was found, and the change of it was done
+pub record Changed (image name : List ℕ) (change : ℕ → Outcome) : Type 0 where
+  pub place : ℕ
+  pub sector : ℕ
+  pub opened : openOf image name ≡ At place sector
+  pub is : changing (openOf image name) change ≡ change sector
+  pub number : change sector .number ≡ 0
+
+pub changed-done : (image name : List ℕ) (change : ℕ → Outcome) → changing (openOf image name) change .number ≡ 0 → Changed image name change
+changed-done image name change e = go (openOf image name) refl
+  where
+    go : (o : Opened) → openOf image name ≡ o → Changed image name change
+    go (At p k) is =
+        let same = change-found image name change p k is in
+        record { place = p; sector = k; opened = is; is = same; number = sym (ap (λ (o : Outcome). o .number) same) ∙ e }
+    go (Refused number) is =
+        let same = change-refused image name change number is in
+        absurd (open-refused image name number is (sym (ap (λ (o : Outcome). o .number) same) ∙ e))
+
+-- an addition that was done: the name was not there
+pub record Added (image name : List ℕ) (addition : Outcome) : Type 0 where
+  pub absent : IsAbsent image name
+  pub is : adding (openOf image name) addition ≡ addition
+  pub number : addition .number ≡ 0
+
+pub added-done : (image name : List ℕ) (addition : Outcome) → adding (openOf image name) addition .number ≡ 0 → Added image name addition
+added-done image name addition e = go (openOf image name) refl
+  where
+    go : (o : Opened) → openOf image name ≡ o → Added image name addition
+    go (At p k) is =
+        let nine = ap (λ (o : Outcome). o .number) (add-present image name addition p k is) in
+        absurd (omega (arith, nine, e))
+    go (Refused number) is =
+        elim (ℕ-discrete number 8) [
+          | yes eight ↦
+              let same = add-absent image name addition number is eight in
+              record { absent = absent-is image name number is eight; is = same; number = sym (ap (λ (o : Outcome). o .number) same) ∙ e }
+          | no other ↦ absurd (open-refused image name number is (sym (ap (λ (o : Outcome). o .number) (add-refused image name addition number is other)) ∙ e))
+        ]

@@ -12,6 +12,8 @@ pub mod Descriptor
 pub mod Index
 pub mod Volume
 pub mod Indexed
+pub mod Written
+pub mod Kept
 pub mod Verdict
 pub mod Free
 pub mod Extended

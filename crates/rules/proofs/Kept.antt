@@ -1,0 +1,82 @@
+-- What stays where sectors stay: the holders, the files and the catalogue of an image whose descriptors and data stand as they stood; and how the holders
+-- count where a file is taken out or put in.
+use mathlib.Core.Path.{_≡_, refl, sym, ap, _∙_}
+use mathlib.Core.Bool.{Bool, true, false, cond}
+use mathlib.Core.List.{List, [], _∷_, _++_, map}
+use Prim.Native.Nat.{ℕ, zero, suc, _+_, _*_, _≤_, _<_}
+use native.Mathlib.Omega.{arith}
+use native.Mathlib.Decide.{ℕ-discrete}
+use lib.Dec.{eqb}
+use lib.ListN.{length, getD}
+use borrow.Author.Tests.{eqb-true, eqb-false}
+use Rattle.rules.specs.Bytes.{part}
+use Rattle.rules.specs.Sectors.{sectorOf, sectorCount}
+use Rattle.rules.specs.Name.{precedes}
+use Rattle.rules.specs.Map.{mapBit, count}
+use Rattle.rules.specs.Chain.{places}
+use Rattle.rules.specs.Descriptor.{chainOf}
+use Rattle.rules.specs.Index.{without}
+use Rattle.rules.specs.Volume.{File, files, nameIn, placesIn, fileHolders, holders, headerIn, contentsIn, fileIn, placed}
+use Rattle.rules.specs.Sound.{Sound, fileAt}
+use Rattle.rules.proofs.Map.{count-none, count-here, count-other, count-more, count-at, count-append}
+
+-- the places of a descriptor that stands as it stood
+pub places-kept : (image after : List ℕ) (k : ℕ) → sectorOf after k ≡ sectorOf image k → placesIn after k ≡ placesIn image k
+unfolding placesIn
+places-kept image after k e = ap (λ (s : List ℕ). places (chainOf s)) e
+
+-- and the holders of files whose descriptors all do
+pub holders-kept : (image after ks : List ℕ) → ((k : ℕ) → 1 ≤ count k ks → sectorOf after k ≡ sectorOf image k) → fileHolders after ks ≡ fileHolders image ks
+unfolding fileHolders
+holders-kept image after [] kept = refl
+holders-kept image after (k ∷ ks) kept =
+    rw (places-kept image after k (kept k (omega (arith, count-here k ks))), holders-kept image after ks (λ j h. kept j (omega (arith, count-more j k ks))))
+
+-- a list read through two functions that agree on it
+map-agree : {B : Type 0} (f g : ℕ → B) (ks : List ℕ) → ((k : ℕ) → 1 ≤ count k ks → f k ≡ g k) → map f ks ≡ map g ks
+map-agree f g [] same = refl
+map-agree f g (k ∷ ks) same = rw (same k (omega (arith, count-here k ks)), map-agree f g ks (λ j h. same j (omega (arith, count-more j k ks))))
+
+-- a file whose descriptor and places stand as they stood
+pub file-kept : (image after : List ℕ) (k : ℕ) → sectorOf after k ≡ sectorOf image k → ((p : ℕ) → 1 ≤ count p (placesIn image k) → sectorOf after p ≡ sectorOf image p) → fileIn after k ≡ fileIn image k
+unfolding fileIn headerIn contentsIn
+file-kept image after k e data-kept = rw (e, places-kept image after k e, map-agree (sectorOf after) (sectorOf image) (placesIn image k) data-kept)
+
+pub files-kept : (image after ks : List ℕ) → ((k : ℕ) → 1 ≤ count k ks → fileIn after k ≡ fileIn image k) → map (fileIn after) ks ≡ map (fileIn image) ks
+files-kept image after ks kept = map-agree (fileIn after) (fileIn image) ks kept
+
+-- the holders where a file is put in, and where one is taken out
+pub holders-placed : (image names name : List ℕ) (k j : ℕ) (ks : List ℕ) → count j (fileHolders image (placed names name k ks)) ≡ count j (k ∷ placesIn image k) + count j (fileHolders image ks)
+unfolding fileHolders placed
+holders-placed image names name k j [] = count-append j (k ∷ placesIn image k) []
+holders-placed image names name k j (i ∷ is) = go (precedes name (nameIn names i)) (holders-placed image names name k j is)
+  where
+    go : (t : Bool) → count j (fileHolders image (placed names name k is)) ≡ count j (k ∷ placesIn image k) + count j (fileHolders image is)
+        → count j (fileHolders image (cond t (k ∷ (i ∷ is)) (i ∷ placed names name k is))) ≡ count j (k ∷ placesIn image k) + count j (i ∷ (placesIn image i ++ fileHolders image is))
+    go true more = count-append j (k ∷ placesIn image k) (i ∷ (placesIn image i ++ fileHolders image is))
+    go false more =
+        let first = count-append j (i ∷ placesIn image i) (fileHolders image (placed names name k is)) in
+        let second = count-append j (i ∷ placesIn image i) (fileHolders image is) in
+        omega (arith, first, second, more)
+
+pub holders-without : (image : List ℕ) (k j : ℕ) (ks : List ℕ) → 1 ≤ count k ks → count j (fileHolders image ks) ≡ count j (k ∷ placesIn image k) + count j (fileHolders image (without k ks))
+unfolding fileHolders without
+holders-without image k j [] there = absurd (omega (arith, count-none k))
+holders-without image k j (i ∷ is) there = go (eqb i k) refl (holders-without image k j is)
+  where
+    go : (t : Bool) → eqb i k ≡ t → (1 ≤ count k is → count j (fileHolders image is) ≡ count j (k ∷ placesIn image k) + count j (fileHolders image (without k is)))
+        → count j (i ∷ (placesIn image i ++ fileHolders image is)) ≡ count j (k ∷ placesIn image k) + count j (fileHolders image (cond t is (i ∷ without k is)))
+    go true e more = rw (eqb-true i k e) (count-append j (k ∷ placesIn image k) (fileHolders image is))
+    go false e more =
+        let rest = more (omega (arith, there, count-other k i is (eqb-false i k e))) in
+        let first = count-append j (i ∷ placesIn image i) (fileHolders image is) in
+        let second = count-append j (i ∷ placesIn image i) (fileHolders image (without k is)) in
+        omega (arith, first, second, rest)
+
+-- a file's descriptor and places are among the holders
+pub file-holds : (image : List ℕ) (k j : ℕ) (ks : List ℕ) → 1 ≤ count k ks → count j (k ∷ placesIn image k) ≤ count j (fileHolders image ks)
+file-holds image k j ks there = omega (arith, holders-without image k j ks there)
+
+-- a sector that the map has free is nobody's
+pub free-unheld : (image : List ℕ) (k : ℕ) → Sound image → k < sectorCount image → mapBit (sectorOf image 0) k ≡ 0 → count k (holders image) ≡ 0
+free-unheld image k is inside free = sym (is .marked k inside) ∙ free

@@ -1,0 +1,117 @@
+-- What a written sector does to each sector of an image; and a sound volume written anew: what has to be seen of its sectors afterwards for it to be sound.
+use mathlib.Core.Path.{_≡_, refl, sym, ap, _∙_}
+use mathlib.Core.List.{List, [], _∷_, _++_}
+use Prim.Native.Nat.{ℕ, _+_, _-_, _*_, _/_, _≤_, _<_}
+use native.Mathlib.Omega.{arith}
+use native.Mathlib.Decide.{decLt}
+use lib.ListN.{length, take, getD}
+use lib.Seq.{ext-getD}
+use Rattle.rules.specs.Bytes.{byteAt, wordAt, part, splice}
+use Rattle.rules.specs.Sectors.{sectorOf, sectorCount, Write, written}
+use Rattle.rules.specs.Label.{IsLabel}
+use Rattle.rules.specs.Map.{mapBit, count, taken}
+use Rattle.rules.specs.Descriptor.{IsDescriptor}
+use Rattle.rules.specs.Index.{IsIndex}
+use Rattle.rules.specs.Volume.{files, nameIn, fileHolders, holders}
+use Rattle.rules.specs.Sound.{Sound, fileAt}
+use Rattle.rules.proofs.Bytes.{part-length, part-short, part-at}
+use Rattle.rules.proofs.Splice.{splice-length, splice-inside, splice-below, splice-above}
+use Rattle.rules.proofs.Sectors.{sector-length}
+use Rattle.rules.proofs.Map.{taken-below, taken-past}
+use Rattle.rules.proofs.Indexed.{Ascending}
+
+-- one sector written
+module _ (image : List ℕ) (k : ℕ) (sector : List ℕ) (long : length sector ≡ 256) (fits : 256 * k + 256 ≤ length image) where
+  pub sector-same : sectorOf (splice image (256 * k) sector) k ≡ sector
+  unfolding sectorOf
+  sector-same =
+      let size : length (part (splice image (256 * k) sector) (256 * k) 256) ≡ 256 = part-length (splice image (256 * k) sector) (256 * k) 256 (omega (arith, splice-length image (256 * k) sector)) in
+      ext-getD 0 (part (splice image (256 * k) sector) (256 * k) 256) sector (size ∙ sym long)
+      (λ i h. part-at (splice image (256 * k) sector) (256 * k) 256 i (omega (arith, size)) ∙ splice-inside image (256 * k) sector i (omega (arith, size)) (omega (arith, size)))
+
+  pub sector-other : (j : ℕ) → (j ≡ k → ⊥) → 256 * j + 256 ≤ length image → sectorOf (splice image (256 * k) sector) j ≡ sectorOf image j
+  unfolding sectorOf
+  sector-other j other inside =
+      let size : length (part (splice image (256 * k) sector) (256 * j) 256) ≡ 256 = part-length (splice image (256 * k) sector) (256 * j) 256 (omega (arith, splice-length image (256 * k) sector)) in
+      ext-getD 0 (part (splice image (256 * k) sector) (256 * j) 256) (part image (256 * j) 256) (size ∙ sym (part-length image (256 * j) 256 inside))
+      (λ i h.
+      part-at (splice image (256 * k) sector) (256 * j) 256 i (omega (arith, size)) ∙ apart i (omega (arith, size))
+      ∙ sym (part-at image (256 * j) 256 i (omega (arith, size))))
+    where
+      apart : (i : ℕ) → i < 256 → byteAt (splice image (256 * k) sector) (256 * j + i) ≡ byteAt image (256 * j + i)
+      apart i h =
+          elim (decLt j k) [
+            | yes low ↦ splice-below image (256 * k) sector (256 * j + i) (omega arith)
+            | no high ↦ splice-above image (256 * k) sector (256 * j + i) (omega (arith, other))
+          ]
+
+-- several, one after the other: all whole sectors of the image
+unfoldable pub Whole : ℕ → List Write → Type 0
+Whole size [] = Unit {0}
+Whole size (write ∷ writes) = (length (write .bytes) ≡ 256) × (256 * write .sector + 256 ≤ size) × Whole size writes
+
+pub written-length : (image : List ℕ) (writes : List Write) → length (written image writes) ≡ length image
+unfolding written
+written-length image [] = refl
+written-length image (write ∷ writes) = written-length (splice image (256 * write .sector) (write .bytes)) writes ∙ splice-length image (256 * write .sector) (write .bytes)
+
+pub written-both : (image : List ℕ) (first second : List Write) → written (written image first) second ≡ written image (first ++ second)
+unfolding written
+written-both image [] second = refl
+written-both image (write ∷ first) second = written-both _ first second
+
+-- a sector that none of them names stands as it stood
+unfoldable pub Apart : ℕ → List Write → Type 0
+Apart j [] = Unit {0}
+Apart j (write ∷ writes) = (j ≡ write .sector → ⊥) × Apart j writes
+
+pub written-apart : (image : List ℕ) (writes : List Write) (j : ℕ) → Whole (length image) writes → Apart j writes → 256 * j + 256 ≤ length image
+    → sectorOf (written image writes) j ≡ sectorOf image j
+unfolding written Whole Apart
+written-apart image [] j whole apart inside = refl
+written-apart image (write ∷ writes) j whole apart inside =
+    let size = splice-length image (256 * write .sector) (write .bytes) in
+    written-apart (splice image (256 * write .sector) (write .bytes)) writes j (rw size (whole .2)) (apart .1) (rw size inside)
+    ∙ sector-other image (write .sector) (write .bytes) (whole .0) (whole .1) j (apart .0) inside
+
+-- a volume of the same size and label whose files are ks
+pub record Rebuilt (image after ks : List ℕ) : Type 0 where
+  pub size : length after ≡ length image
+  pub label : (i : ℕ) → i < 56 → byteAt (sectorOf after 0) i ≡ byteAt (sectorOf image 0) i
+  pub index : IsIndex (sectorCount image) (sectorOf after 1)
+  pub files-are : files after ≡ ks
+  pub descriptors : (p : ℕ) → p < length ks → IsDescriptor (sectorCount image) (sectorOf after (getD ks p 0))
+  pub ascending : Ascending after ks
+  pub single : (k : ℕ) → count k (0 ∷ (1 ∷ fileHolders after ks)) ≤ 1
+  pub map : (k : ℕ) → k < 1600 → mapBit (sectorOf after 0) k ≡ taken (sectorCount image) (0 ∷ (1 ∷ fileHolders after ks)) k
+
+label-kept : (n : ℕ) (before after : List ℕ) → length before ≡ 256 → length after ≡ 256 → ((i : ℕ) → i < 56 → byteAt after i ≡ byteAt before i) → IsLabel n before → IsLabel n after
+label-kept n before after long long′ same is =
+    let ten = part-length after 0 10 (omega arith) in
+    let name : part after 0 10 ≡ part before 0 10 =
+    ext-getD 0 (part after 0 10) (part before 0 10) (ten ∙ sym (part-length before 0 10 (omega arith)))
+    (λ i h. part-at after 0 10 i (omega (arith, ten)) ∙ same (0 + i) (omega (arith, ten)) ∙ sym (part-at before 0 10 i (omega (arith, ten))))
+    in
+    record {
+      name = rw name (is .name);
+      count = rw (same 10 (omega arith), same 11 (omega arith)) (is .count);
+      dsk = rw (same 13 (omega arith), same 14 (omega arith), same 15 (omega arith)) (is .dsk);
+    }
+
+pub sound-again : (image after ks : List ℕ) → Sound image → Rebuilt image after ks → Sound after
+unfolding holders
+sound-again image after ks is re =
+    let n : sectorCount after ≡ sectorCount image = ap (λ (m : ℕ). m / 256) (re .size) in
+    let long : length (sectorOf image 0) ≡ 256 = sector-length image 0 (omega (arith, is .whole, is .size)) in
+    let long′ : length (sectorOf after 0) ≡ 256 = sector-length after 0 (omega (arith, re .size, is .whole, is .size)) in
+    record {
+      whole = re .size ∙ is .whole ∙ ap (λ (m : ℕ). 256 * m) (sym n);
+      size = rw n (is .size);
+      label = rw n (label-kept (sectorCount image) (sectorOf image 0) (sectorOf after 0) long long′ (re .label) (is .label));
+      index = rw n (re .index);
+      descriptors = rw (re .files-are, n) (re .descriptors);
+      ascending = rw (re .files-are) (re .ascending);
+      single = rw (re .files-are) (re .single);
+      marked = rw (re .files-are, n) (λ k h. re .map k (omega (arith, is .size)) ∙ taken-below (sectorCount image) (0 ∷ (1 ∷ fileHolders after ks)) k h);
+      filled = rw n (λ k h low. re .map k low ∙ taken-past (sectorCount image) (0 ∷ (1 ∷ fileHolders after ks)) k h);
+    }
