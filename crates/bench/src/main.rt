@@ -1,14 +1,22 @@
 // The bench cases of document 01 that are run and compared: a line for each, with the case's number in
-// the document, what is done, and the number that the library gives. `stdout` has the lines that the
-// document wants.
+// the document, what is done, and the number that the library gives or that stands on the disk. `stdout`
+// has the lines that the document wants, and case M's catalogue.
 //
 // A case is a function that makes its volume in an array of its own, so no case leans on another. Its
 // answer is whether its lines could be written.
+use changing::append;
+use descriptor::chain::place_at;
+use filing::create;
 use formatting::format::Geometry;
 use formatting::format::format;
 use judge::judge;
 use libc::STDOUT_FILENO;
+use listing::listing;
+use rules::Amount;
 use rules::Answer;
+use sector::bytes::part;
+use sector::bytes::sector_of;
+use storing::store;
 
 fn write_line(words: &[u8], number: u32) -> bool {
     io::write_all(STDOUT_FILENO, words)
@@ -24,6 +32,13 @@ fn one_side(sectors_per_track: u8, tracks: u8) -> Geometry {
         tracks,
         sides: 1,
         density: 1,
+    }
+}
+
+fn number_of(answer: Answer) -> u32 {
+    match answer {
+        Answer::Done => 0,
+        Answer::Refused(number) => number,
     }
 }
 
@@ -46,8 +61,112 @@ fn case_10_three_sectors() -> bool {
     write_line(b"10 768 bytes, formatted", number_after(answer, &image))
 }
 
+// The place of a sector of the file whose descriptor is in sector 2.
+fn place_in_file(image: &[u8], offset: usize) -> u32 {
+    place_at(part(sector_of(image, 2), 28, 228), offset) as u32
+}
+
+fn case_11() -> bool {
+    let mut image = [0u8; 8960];
+    let formatted = format(&mut image, 35, b"BENCH     ", one_side(5, 7));
+    let bytes = [0x41u8; 300];
+    let stored = store(&mut image, b"TWO       ", &bytes);
+    write_line(b"11 35 sectors, formatted", number_of(formatted))
+        && write_line(b"11 two sectors stored", number_after(stored, &image))
+        && write_line(b"11 first in sector", place_in_file(&image, 0))
+        && write_line(b"11 second in sector", place_in_file(&image, 1))
+}
+
+fn digit(i: usize) -> u8 {
+    b'0' + (i % 10) as u8
+}
+
+// The first number other than 0 that creating 127 files gives.
+fn create_files(image: &mut [u8]) -> u32 {
+    let mut i = 0;
+    while i < 127 {
+        let name = [
+            b'F',
+            digit(i / 100),
+            digit(i / 10),
+            digit(i),
+            b' ',
+            b' ',
+            b' ',
+            b' ',
+            b' ',
+            b' ',
+        ];
+        let number = number_of(create(image, &name, 0x80, 80, 3));
+        if number != 0 {
+            return number;
+        }
+        i += 1;
+    }
+    judge(image)
+}
+
+// 130 sectors: two of the system, 127 descriptors, and one that is free until it is appended.
+fn case_12() -> bool {
+    let mut image = [0u8; 33280];
+    let formatted = format(&mut image, 130, b"BENCH     ", one_side(10, 13));
+    let made = create_files(&mut image);
+    let next = create(&mut image, b"NEXT      ", 0x80, 80, 3);
+    let bytes = [0x42u8; 256];
+    let last = append(&mut image, b"F000      ", &bytes);
+    let full = append(&mut image, b"F001      ", &bytes);
+    let after = create(&mut image, b"NEXT      ", 0x80, 80, 3);
+    write_line(b"12 130 sectors, formatted", number_of(formatted))
+        && write_line(b"12 127 files created", made)
+        && write_line(b"12 the next create", number_of(next))
+        && write_line(b"12 the last free sector appended", number_of(last))
+        && write_line(b"12 another one", number_of(full))
+        && write_line(b"12 the next create on the full disk", number_of(after))
+}
+
+fn case_13() -> bool {
+    let mut image = [0u8; 51200];
+    let formatted = format(&mut image, 200, b"BENCH     ", one_side(10, 20));
+    let bytes = [0x43u8; 32769];
+    let stored = store(&mut image, b"LONG      ", &bytes[0..32768]);
+    let refused = store(&mut image, b"LONGER    ", &bytes);
+    write_line(b"13 200 sectors, formatted", number_of(formatted))
+        && write_line(b"13 32768 bytes stored", number_after(stored, &image))
+        && write_line(b"13 32769 bytes stored", number_of(refused))
+}
+
+// The listing of an image, or its number.
+fn write_listing(image: &[u8]) -> bool {
+    let mut text = [0u8; 4608];
+    let listed = listing(image, &mut text);
+    match listed {
+        Amount::Refused(number) => write_line(b"M refused", number),
+        Amount::Given(size) => io::write_all(STDOUT_FILENO, part(&text, 0, size)),
+    }
+}
+
+fn case_m() -> bool {
+    let mut image = [0u8; 16384];
+    let formatted = format(&mut image, 64, b"SHELF     ", one_side(8, 8));
+    let program = [0x41u8; 300];
+    let stored = store(&mut image, b"ALPHA     ", &program);
+    let created = create(&mut image, b"NOTES     ", 0x80, 80, 3);
+    let bytes = [0x42u8; 256];
+    let appended = append(&mut image, b"NOTES     ", &bytes);
+    write_line(b"M formatted", number_of(formatted))
+        && write_line(b"M ALPHA stored", number_of(stored))
+        && write_line(b"M NOTES created", number_of(created))
+        && write_line(b"M a sector appended", number_after(appended, &image))
+        && write_listing(&image)
+}
+
 fn write_cases() -> bool {
-    case_10_two_sectors() && case_10_three_sectors()
+    case_10_two_sectors()
+        && case_10_three_sectors()
+        && case_11()
+        && case_12()
+        && case_13()
+        && case_m()
 }
 
 // A line that cannot be written ends the run: no later one would do better.

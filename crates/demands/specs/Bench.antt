@@ -7,7 +7,10 @@ use Rattle.rules.specs.Bytes.{byteAt, part}
 use Rattle.rules.specs.Chain.{blockBytes}
 use Rattle.rules.specs.Sectors.{sectorOf}
 use Rattle.rules.specs.Map.{freeCount}
+use Rattle.rules.specs.Descriptor.{sectorsOf}
+use Rattle.rules.specs.Volume.{files, nameIn, placesIn}
 use Rattle.rules.specs.Calls.Format.{Geometry, formatted}
+use Rattle.demands.specs.CaseM.{alpha, notes, caseM}
 
 -- a case: its number in the paper, what the rules compute, and what the paper prints
 pub record Case : Type 0 where
@@ -28,17 +31,20 @@ geometry = record { sectorsPerTrack = 9; tracks = 40; sides = 1; density = 1 }
 abbrev pub empty : ℕ → List ℕ
 empty n = sectorOf (formatted n diskX geometry) 0
 
--- the cases, with the sector 0 of an empty volume of 35 sectors and of one of 360
-unfoldable pub tableOf : List ℕ → List ℕ → List Case
-tableOf empty35 empty360 =
+-- the cases, with the sector 0 of an empty volume of 35 sectors and of one of 360, and case M
+unfoldable pub tableOf : List ℕ → List ℕ → List ℕ → List Case
+tableOf empty35 empty360 m =
     case 1 (blockBytes (record { start = 34; last = 0 })) (0x22 ∷ (0x00 ∷ (0x00 ∷ [])))
     ∷ (case 2 (blockBytes (record { start = 34; last = 19 })) (0x22 ∷ (0x30 ∷ (0x01 ∷ [])))
     ∷ (case 3 (blockBytes (record { start = 1599; last = 1597 })) (0x3F ∷ (0xD6 ∷ (0x63 ∷ [])))
     ∷ (case 4 (byteAt empty35 56 ∷ (byteAt empty35 60 ∷ (freeCount empty35 ∷ []))) (0x03 ∷ (0xF8 ∷ (33 ∷ [])))
-    ∷ (case 5 (part empty360 57 44 ++ part empty360 101 155) (replicate 44 0x00 ++ replicate 155 0xFF) ∷ []))))
+    ∷ (case 5 (part empty360 57 44 ++ part empty360 101 155) (replicate 44 0x00 ++ replicate 155 0xFF)
+    ∷ (case 6 (files m ++ (nameIn m 2 ++ (part (sectorOf m 2) 28 3 ++ (nameIn m 3 ++ placesIn m 3)))) (2 ∷ (3 ∷ (alpha ++ ((0x22 ∷ (0x10 ∷ (0x00 ∷ []))) ++ (notes ++ (36 ∷ []))))))
+    ∷ (case 7 (byteAt (sectorOf m 0) 56 ∷ (byteAt (sectorOf m 0) 60 ∷ [])) (0x0F ∷ (0x1C ∷ []))
+    ∷ (case 9 (sectorsOf (sectorOf m 2) ∷ (byteAt (sectorOf m 2) 16 ∷ [])) (2 ∷ (44 ∷ [])) ∷ [])))))))
 
 unfoldable pub table : List Case
-table = tableOf (empty 35) (empty 360)
+table = tableOf (empty 35) (empty 360) caseM
 
 -- the statement: each case of the table, by its place in it
 unfoldable pub Bench : Type 0

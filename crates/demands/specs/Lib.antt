@@ -1,5 +1,6 @@
 pub mod Catalogue
 pub mod Effects
+pub mod CaseM
 pub mod Bench
 pub mod Formatting
 pub mod Reading
