@@ -2,3 +2,20 @@
 pub mod Bench
 pub mod Formatting
 pub mod Reading
+mod Listed
+mod TakingOut
+mod Putting
+mod TwoWrites
+mod Changing
+pub mod Protects
+pub mod Unprotects
+pub mod Overwrites
+pub mod Appends
+mod NewFile
+mod Entered
+mod Entering
+pub mod Creates
+mod Pieces
+pub mod Stores
+pub mod Deletes
+pub mod Renames

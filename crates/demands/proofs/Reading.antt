@@ -36,7 +36,7 @@ get-mapped f [] p d e h = absurd (omega arith)
 get-mapped f (x ∷ l) zero d e h = refl
 get-mapped f (x ∷ l) (suc p) d e h = get-mapped f l p d e (omega arith)
 
-not-same : (first second : List ℕ) → (first ≡ second → ⊥) → same first second ≡ false
+pub not-same : (first second : List ℕ) → (first ≡ second → ⊥) → same first second ≡ false
 not-same first second other = go (same first second) refl
   where
     go : (t : Bool) → same first second ≡ t → t ≡ false
