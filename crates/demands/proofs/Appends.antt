@@ -31,10 +31,10 @@ use Rattle.rules.proofs.Choice.{Chosen, sound-fenced, data-choice-free}
 use Rattle.rules.proofs.Outcome.{IsOpened, opened-is, file-long}
 use Rattle.rules.proofs.Changes.{changed-done}
 use Rattle.rules.proofs.Written.{sector-same, Whole, written-length, Apart, written-apart}
-use Rattle.rules.proofs.Kept.{free-unheld}
+use Rattle.rules.proofs.Kept.{free-unheld, map-agree}
 use Rattle.demands.specs.Catalogue.{changed}
 use Rattle.demands.specs.Effects.{Done, longer, Appends}
-use Rattle.demands.proofs.Changing.{map-kept, Altered, altered-done, own-and-rest, own-once, held-inside}
+use Rattle.demands.proofs.Changing.{Altered, altered-done, own-and-rest, own-once, held-inside}
 
 -- the front of a buffer with bytes laid over it: behind the front, and inside it
 take-below : (n : ℕ) (buffer : List ℕ) (at : ℕ) (bytes : List ℕ) → n ≤ at → take n (splice buffer at bytes) ≡ take n buffer
@@ -299,7 +299,7 @@ module _ (image name : List ℕ) (p k : ℕ) (o : IsOpened image name p k) (byte
     contents-now =
         ap (map (sectorOf after)) places-now
         ∙ map-append (sectorOf after) (placesIn image k) (new ∷ [])
-        ∙ rw (new-now, map-kept (sectorOf image) (sectorOf after) (placesIn image k) place-same)
+        ∙ rw (new-now, map-agree (sectorOf after) (sectorOf image) (placesIn image k) place-same)
 
     many : length (contentsIn image k) ≡ sectorsOf (sectorOf image k)
     unfolding contentsIn

@@ -1,51 +1,42 @@
 -- A call that changes one file where it stands: sector 1 stays, and so do all holders but those of that file, which may take free sectors for its end.
 -- Then the volume is sound again, and its catalogue is the old one with that file changed.
-use mathlib.Core.Path.{_≡_, refl, sym, ap, _∙_}
+use mathlib.Core.Path.{_≡_, sym, ap, _∙_}
 use mathlib.Core.Bool.{true, false}
 use mathlib.Core.List.{List, [], _∷_, _++_, map, append-nil}
 use Prim.Native.Nat.{ℕ, zero, suc, _+_, _*_, _≤_, _<_}
 use native.Mathlib.Omega.{arith}
 use native.Mathlib.Decide.{decLt, ℕ-discrete}
 use lib.ListN.{length, getD, set, length-map, List·getD-map}
-use lib.Seq.{take-take}
 use Rattle.rules.specs.Bytes.{byteAt, same, splice}
 use Rattle.rules.specs.Sectors.{sectorOf, sectorCount}
 use Rattle.rules.specs.Map.{mapBit, count, taken, freeCount, markedAll}
 use Rattle.rules.specs.Descriptor.{nameOf, IsDescriptor}
 use Rattle.rules.specs.Index.{numbers, without}
-use Rattle.rules.specs.Volume.{File, files, nameIn, placesIn, fileHolders, holders, headerIn, fileIn, catalogue}
+use Rattle.rules.specs.Volume.{File, files, nameIn, placesIn, fileHolders, holders, fileIn, catalogue}
 use Rattle.rules.specs.Sound.{Sound, fileAt}
 use Rattle.rules.proofs.Bytes.{is-same}
 use Rattle.rules.proofs.Splice.{splice-length}
 use Rattle.rules.proofs.Name.{before-irrefl}
-use Rattle.rules.proofs.Map.{count-none, count-here, count-other, count-more, count-at, count-append, taken-below, taken-past}
+use Rattle.rules.proofs.Map.{count-none, count-here, count-other, count-more, count-at, count-append}
 use Rattle.rules.proofs.Volume.{file-holders-inside}
 use Rattle.rules.proofs.Outcome.{IsOpened, file-long}
 use Rattle.rules.proofs.Choice.{Chosen}
 use Rattle.rules.proofs.Marking.{all-label, marked-holders, all-free}
 use Rattle.rules.proofs.Indexed.{without-count}
-use Rattle.rules.proofs.Kept.{file-kept, holders-kept, holders-without, file-holds, free-unheld}
+use Rattle.rules.proofs.Kept.{file-kept, holders-kept, holders-without, file-holds, free-unheld, map-agree}
 use Rattle.rules.proofs.Written.{sector-same, sector-other, Rebuilt, sound-again}
 use Rattle.demands.specs.Catalogue.{fileName, changed}
 use Rattle.demands.specs.Effects.{Kept, Done}
+use Rattle.demands.proofs.Listed.{map-is}
+use Rattle.demands.proofs.Putting.{file-name}
 use Rattle.demands.proofs.Reading.{not-same}
-
--- the name in a file of the catalogue is that in its descriptor
-name-of-file : (image : List ℕ) (k : ℕ) → fileName (fileIn image k) ≡ nameIn image k
-unfolding fileName fileIn headerIn nameIn nameOf
-name-of-file image k = take-take 10 28 (sectorOf image k) (omega arith)
-
--- a list read through two functions that agree on it, and through two that differ at one place alone
-pub map-kept : {B : Type 0} (old new : ℕ → B) (ks : List ℕ) → ((k : ℕ) → 1 ≤ count k ks → new k ≡ old k) → map new ks ≡ map old ks
-map-kept old new [] same = refl
-map-kept old new (k ∷ ks) same = rw (same k (omega (arith, count-here k ks)), map-kept old new ks (λ j some. same j (omega (arith, some, count-more j k ks))))
 
 pub map-changed : {B : Type 0} (old new : ℕ → B) (ks : List ℕ) (p : ℕ) → p < length ks → count (getD ks p 0) ks ≤ 1
     → ((k : ℕ) → 1 ≤ count k ks → (k ≡ getD ks p 0 → ⊥) → new k ≡ old k) → map new ks ≡ set (map old ks) p (new (getD ks p 0))
 map-changed old new [] p h once others = absurd (omega arith)
 map-changed old new (k ∷ ks) zero h once others =
     ap (λ l. new k ∷ l)
-    (map-kept old new ks (λ j some. others j (omega (arith, some, count-more j k ks)) (λ e. omega (arith, once, count-here k ks, rw e at some))))
+    (map-agree new old ks (λ j some. others j (omega (arith, some, count-more j k ks)) (λ e. omega (arith, once, count-here k ks, rw e at some))))
 map-changed old new (k ∷ ks) (suc p) h once others =
     let there = count-at ks p (omega arith) in
     rw (others k (omega (arith, count-here k ks)) (λ e. omega (arith, once, there, ap (λ (j : ℕ). count (getD ks p 0) (j ∷ ks)) e, count-here (getD ks p 0) ks)))
@@ -67,14 +58,6 @@ changed-at name change none (file ∷ list) (suc p) h before here =
 pub held-inside : (image : List ℕ) (j : ℕ) → Sound image → 1 ≤ count j (fileHolders image (files image)) → (2 ≤ j) × (j < sectorCount image)
 unfolding files
 held-inside image j is h = file-holders-inside (sectorCount image) image (files image) j (is .index .range) (is .descriptors) h
-
--- the map of a sound volume, on all its bits
-map-taken : (image : List ℕ) → Sound image → (j : ℕ) → j < 1600 → mapBit (sectorOf image 0) j ≡ taken (sectorCount image) (holders image) j
-map-taken image is j low =
-    elim (decLt j (sectorCount image)) [
-      | yes inside ↦ is .marked j inside ∙ sym (taken-below (sectorCount image) (holders image) j inside)
-      | no outside ↦ is .filled j (omega arith) low ∙ sym (taken-past (sectorCount image) (holders image) j (omega arith))
-    ]
 
 -- What such a call leaves: the file at sector k has the sectors `fresh` more at its end, which were free and are marked.
 pub record Altered (image after name : List ℕ) (p k : ℕ) (fresh : List ℕ) : Type 0 where
@@ -141,9 +124,9 @@ module _ (image name : List ℕ) (p k : ℕ) (o : IsOpened image name p k) where
       let here = file-listed p ∙ ap (fileIn image) (o .is) in
       changed-at name change (fileIn image 0) (catalogue image) p place-listed
       (λ q l.
-      rw (file-listed q, name-of-file image (fileAt image q))
+      rw (file-listed q, file-name image (fileAt image q))
       (not-same name (nameIn image (fileAt image q)) (λ e. other-place q (omega (arith, l, o .inside)) (λ z. omega arith) (sym e))))
-      (rw (here, name-of-file image k, ← o .named) (is-same name))
+      (rw (here, file-name image k, ← o .named) (is-same name))
       ∙ ap (λ (file : File). set (catalogue image) p (change file)) here
 
 module _ (image after name : List ℕ) (p k : ℕ) (fresh : List ℕ) (a : Altered image after name p k fresh) where
@@ -219,7 +202,7 @@ module _ (image after name : List ℕ) (p k : ℕ) (fresh : List ℕ) (a : Alter
   map-after : (j : ℕ) → j < 1600 → mapBit (sectorOf after 0) j ≡ taken (sectorCount image) (0 ∷ (1 ∷ fileHolders after (files image))) j
   map-after j low =
       ap (λ (s : List ℕ). mapBit s j) (a .sector0)
-      ∙ marked-holders (sectorCount image) (sectorOf image 0) (holders image) fresh (0 ∷ (1 ∷ fileHolders after (files image))) label-long (map-taken image (a .opened .whole)) all-once all-after j low
+      ∙ marked-holders (sectorCount image) (sectorOf image 0) (holders image) fresh (0 ∷ (1 ∷ fileHolders after (files image))) label-long (map-is image (a .opened .whole)) all-once all-after j low
 
   rebuilt : Rebuilt image after (files image)
   rebuilt =

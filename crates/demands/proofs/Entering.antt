@@ -9,7 +9,7 @@ use native.Mathlib.Decide.{decLt}
 use lib.ListN.{length, getD}
 use Rattle.rules.specs.Bytes.{byteAt, part, same}
 use Rattle.rules.specs.Sectors.{sectorOf, sectorCount, written}
-use Rattle.rules.specs.Map.{mapBit, count, taken, freeCount, markedAll}
+use Rattle.rules.specs.Map.{count, taken, freeCount, markedAll}
 use Rattle.rules.specs.Chain.{placesFrom, places, extendedAll, Linked}
 use Rattle.rules.specs.Kind.{kindOf, IsStatus, IsKind}
 use Rattle.rules.specs.Descriptor.{nameOf, chainOf, IsDescriptor}
@@ -24,7 +24,7 @@ use Rattle.rules.proofs.Tests.{absurd-test}
 use Rattle.rules.proofs.Bytes.{is-same}
 use Rattle.rules.proofs.Sectors.{sector-length}
 use Rattle.rules.proofs.Name.{name-is}
-use Rattle.rules.proofs.Map.{count-here, count-more, count-at, taken-below, taken-past}
+use Rattle.rules.proofs.Map.{count-here, count-more, count-at}
 use Rattle.rules.proofs.Marking.{all-length, all-label, marked-holders, all-free}
 use Rattle.rules.proofs.Extended.{extended-all-linked, extended-all-places}
 use Rattle.rules.proofs.Choice.{Chosen}
@@ -35,6 +35,7 @@ use Rattle.rules.proofs.Written.{Rebuilt, sound-again}
 use Rattle.rules.proofs.Changes.{IsAbsent}
 use Rattle.demands.specs.Catalogue.{putIn}
 use Rattle.demands.specs.Effects.{Kept, Done, newHeader, pieces}
+use Rattle.demands.proofs.Listed.{map-is}
 use Rattle.demands.proofs.Putting.{file-name, placed-files}
 use Rattle.demands.proofs.NewFile.{chainWith, descriptorWith, made-length, made-header, made-name, made-places, made-rules}
 use Rattle.demands.proofs.Entered.{Entered, entered-is}
@@ -50,14 +51,6 @@ none-named image name p (k ∷ ks) e q h named = go q h named (same name (nameIn
     go q h named true s e more = let z : _≡_ {A = ℕ} 0 1 = cc in omega arith
     go zero h named false s e more = absurd-test (sym (is-same name) ∙ ap (same name) (sym named) ∙ s)
     go (suc q) h named false s e more = more e q (omega arith) named
-
--- the map of a sound volume is that of its holders
-map-bits : (image : List ℕ) → Sound image → (k : ℕ) → k < 1600 → mapBit (sectorOf image 0) k ≡ taken (sectorCount image) (holders image) k
-map-bits image is k low =
-    elim (decLt k (sectorCount image)) [
-      | yes inside ↦ is .marked k inside ∙ sym (taken-below (sectorCount image) (holders image) k inside)
-      | no outside ↦ is .filled k (omega arith) low ∙ sym (taken-past (sectorCount image) (holders image) k (omega arith))
-    ]
 
 -- what is to be known of the new file: its name is not there, there is a place for it, its sectors were free, and its descriptor, in sector k, keeps the rules and names ks
 record Enters (image name : List ℕ) (k : ℕ) (ks descriptor : List ℕ) : Type 0 where
@@ -176,7 +169,7 @@ module _ (image after name bytes : List ℕ) (k : ℕ) (ks descriptor : List ℕ
         descriptors = new-descriptors;
         ascending = placed-ascending image after name k new-name old (sound-before .ascending) name-long (none-named image name 0 old (is .absent .absent)) name-stays;
         single = λ j. omega (arith, new-holders j, taken-once j);
-        map = rw (there .map-is) (marked-holders n (sectorOf image 0) (holders image) (k ∷ ks) (0 ∷ (1 ∷ fileHolders after new)) long0 (map-bits image sound-before) taken-once new-holders);
+        map = rw (there .map-is) (marked-holders n (sectorOf image 0) (holders image) (k ∷ ks) (0 ∷ (1 ∷ fileHolders after new)) long0 (map-is image sound-before) taken-once new-holders);
       }
 
   all-kept : Kept image after name

@@ -19,9 +19,10 @@ use Rattle.rules.proofs.Map.{count-here, count-more}
 use Rattle.rules.proofs.Marking.{with-bit-same, with-bit-other}
 use Rattle.rules.proofs.Outcome.{IsOpened, opened-is}
 use Rattle.rules.proofs.Changes.{changed-done}
+use Rattle.rules.proofs.Kept.{map-agree}
 use Rattle.demands.specs.Catalogue.{changed}
 use Rattle.demands.specs.Effects.{Done, left, withProtection, Protects}
-use Rattle.demands.proofs.Changing.{map-kept, altered-done, own-once, own-inside, own-here, own-other, own-altered}
+use Rattle.demands.proofs.Changing.{altered-done, own-once, own-inside, own-here, own-other, own-altered}
 
 -- a status with that bit changed
 module _ (bit : ℕ) (small : bit ≤ 1) where
@@ -120,7 +121,7 @@ module _ (bit : ℕ) (small : bit ≤ 1) where
     unfolding contentsIn
     contents-now =
         ap (map (sectorOf after)) places-now
-        ∙ map-kept (sectorOf image) (sectorOf after) (placesIn image k)
+        ∙ map-agree (sectorOf after) (sectorOf image) (placesIn image k)
         (λ j h.
         let inside = own-inside image name p k o j (omega (arith, h, count-more j k (placesIn image k))) in
         own-other image name p k o k new new-long own j (inside .1)

@@ -29,9 +29,9 @@ use Rattle.rules.proofs.Bytes.{part-length, part-at, is-same}
 use Rattle.rules.proofs.Splice.{splice-length, splice-front, splice-above}
 use Rattle.rules.proofs.Sectors.{sector-length}
 use Rattle.rules.proofs.Name.{name-is}
-use Rattle.rules.proofs.Map.{count-none, count-here, count-other, count-more, count-at, taken-below, taken-past}
+use Rattle.rules.proofs.Map.{count-none, count-other, count-more, count-at, taken-below, taken-past}
 use Rattle.rules.proofs.Indexed.{placed-count, without-length, placed-length, without-all, placed-all, without-ascending, placed-ascending, Ascending, index-length, numbers-index, index-is-index}
-use Rattle.rules.proofs.Kept.{holders-kept, holders-placed, file-kept, files-kept}
+use Rattle.rules.proofs.Kept.{holders-kept, holders-placed, file-kept, files-kept, map-agree}
 use Rattle.rules.proofs.Outcome.{opened-is}
 use Rattle.rules.proofs.Changes.{changed-done, added-done}
 use Rattle.rules.proofs.Written.{written-length, Rebuilt, sound-again}
@@ -93,12 +93,6 @@ taken-same n old new counts k =
       | no past ↦ rw (taken-past n new k (omega arith), taken-past n old k (omega arith))
     ]
 
--- sectors that stand as they stood
-sectors-kept : (image after ps : List ℕ) → ((p : ℕ) → 1 ≤ count p ps → sectorOf after p ≡ sectorOf image p) → map (sectorOf after) ps ≡ map (sectorOf image) ps
-sectors-kept image after [] kept = refl
-sectors-kept image after (p ∷ ps) kept =
-    rw (kept p (omega (arith, count-here p ps)), sectors-kept image after ps (λ q h. kept q (omega (arith, count-more q p ps))))
-
 -- an image afterwards, by its sectors
 module _ (image after new : List ℕ) (k : ℕ) (is : Sound image) (there : 1 ≤ count k (files image)) (is-name : IsName new)
     (absent : (j : ℕ) → 1 ≤ count j (files image) → nameIn image j ≡ new → ⊥) (size : length after ≡ length image)
@@ -145,7 +139,7 @@ module _ (image after new : List ℕ) (k : ℕ) (is : Sound image) (there : 1 �
 
   k-file : fileIn after k ≡ renamed new (fileIn image k)
   unfolding renamed fileIn headerIn contentsIn
-  k-file = rw (k-places, sector-k, new-header (sectorOf image k) new k-long (is-name .ten), sectors-kept image after (placesIn image k) (λ p. contents-stand k p there))
+  k-file = rw (k-places, sector-k, new-header (sectorOf image k) new k-long (is-name .ten), map-agree (sectorOf after) (sectorOf image) (placesIn image k) (λ p. contents-stand k p there))
 
   -- sector 1
   all-range : (p : ℕ) → p < length all → (2 ≤ getD all p 0) × (getD all p 0 < sectorCount image)

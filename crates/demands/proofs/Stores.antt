@@ -24,7 +24,7 @@ use Rattle.rules.proofs.Sectors.{sector-length}
 use Rattle.rules.proofs.Name.{name-is}
 use Rattle.rules.proofs.Map.{count-here, count-other}
 use Rattle.rules.proofs.Marking.{marked-length, marked-here, marked-other, marked-free}
-use Rattle.rules.proofs.Choice.{Fenced, Chosen, sound-fenced, descriptor-choice-free, choices-length, choices-free, choices-once}
+use Rattle.rules.proofs.Choice.{Fenced, Chosen, sound-fenced, descriptor-choice-free, choices-length, choices-free, choices-once, fenced-marked}
 use Rattle.rules.proofs.Changes.{IsAbsent, added-done}
 use Rattle.demands.specs.Catalogue.{putIn}
 use Rattle.demands.specs.Reading.{lengthIs}
@@ -44,21 +44,8 @@ module _ (n : ℕ) (sector0 : List ℕ) (many : ℕ) (long : length sector0 ≡ 
   first-free : Chosen n sector0 first
   first-free = descriptor-choice-free n sector0 fence (omega (arith, room))
 
-  -- marking it takes away none of the other bits that are one
-  still-marked : (j : ℕ) → j < 1600 → mapBit sector0 j ≡ 1 → mapBit (marked 1 sector0 first) j ≡ 1
-  still-marked j low one =
-      elim (ℕ-discrete j first) [
-        | yes same ↦ absurd (omega (arith, one, first-free .free, ap (mapBit sector0) same))
-        | no other ↦ marked-other 1 (omega arith) sector0 first j other ∙ one
-      ]
-
   still-fenced : Fenced n (marked 1 sector0 first)
-  still-fenced =
-      record {
-        label = still-marked 0 (omega arith) (fence .label);
-        index = still-marked 1 (omega arith) (fence .index);
-        filled = λ j from low. still-marked j low (fence .filled j from low);
-      }
+  still-fenced = fenced-marked n sector0 first long fence
 
   long-marked : length (marked 1 sector0 first) ≡ 256
   long-marked = marked-length 1 sector0 first ∙ long

@@ -45,11 +45,14 @@ newHeader name status recordsPerSector c endOffset recordLength =
     name ++ (0 ∷ (0 ∷ (status ∷ (recordsPerSector ∷ ((c / 256) ∷ ((c % 256) ∷ (endOffset ∷ (recordLength ∷ replicate 10 0))))))))
 
 -- create adds an empty file with that header
+abbrev pub Created : List ℕ → List ℕ → List ℕ → ℕ → ℕ → ℕ → Type 0
+Created image after name status recordLength recordsPerSector =
+    Done image after name (putIn (record { header = newHeader name status recordsPerSector 0 0 recordLength; contents = [] }) (catalogue image)) 1 0
+
 unfoldable pub Creates : Type 0
 Creates = (image name : List ℕ) (status recordLength recordsPerSector : ℕ) →
     let outcome = createOf image name status recordLength recordsPerSector in
-    outcome .number ≡ 0
-    → Done image (left image outcome) name (putIn (record { header = newHeader name status recordsPerSector 0 0 recordLength; contents = [] }) (catalogue image)) 1 0
+    outcome .number ≡ 0 → Created image (left image outcome) name status recordLength recordsPerSector
 
 -- `many` sectors of these bytes, and zeros where there are no more
 unfoldable pub pieces : ℕ → List ℕ → List (List ℕ)
@@ -57,57 +60,78 @@ pieces zero bytes = []
 pieces (suc many) bytes = over (replicate 256 0) bytes ∷ pieces many (drop 256 bytes)
 
 -- store adds the program whose load is the bytes lent
+abbrev pub Stored : List ℕ → List ℕ → List ℕ → List ℕ → Type 0
+Stored image after name bytes =
+    let c = sectorsFor (length bytes) in
+    Done image after name (putIn (record { header = newHeader name 0x01 0 c (length bytes % 256) 0; contents = pieces c bytes }) (catalogue image)) (1 + c) 0
+    × (loadOf after name (length bytes) ≡ gives (length bytes) bytes)
+
 unfoldable pub Stores : Type 0
 Stores = (image name bytes : List ℕ) →
     let outcome = storeOf image name bytes in
-    let c = sectorsFor (length bytes) in
-    outcome .number ≡ 0
-    → Done image (left image outcome) name (putIn (record { header = newHeader name 0x01 0 c (length bytes % 256) 0; contents = pieces c bytes }) (catalogue image)) (1 + c) 0
-    × (loadOf (left image outcome) name (length bytes) ≡ gives (length bytes) bytes)
+    outcome .number ≡ 0 → Stored image (left image outcome) name bytes
 
 -- append adds that sector at the end of that file
 unfoldable pub longer : List ℕ → File → File
 longer bytes file = record { header = splice (file .header) 14 (wordBytes (length (file .contents) + 1)); contents = file .contents ++ (bytes ∷ []) }
 
+abbrev pub Appended : List ℕ → List ℕ → List ℕ → List ℕ → Type 0
+Appended image after name bytes = Done image after name (changed name (longer bytes) (catalogue image)) 1 0
+
 unfoldable pub Appends : Type 0
 Appends = (image name bytes : List ℕ) →
     let outcome = appendOf image name bytes in
-    outcome .number ≡ 0 → Done image (left image outcome) name (changed name (longer bytes) (catalogue image)) 1 0
+    outcome .number ≡ 0 → Appended image (left image outcome) name bytes
 
 -- overwrite changes that sector of that file
 unfoldable pub overwritten : ℕ → List ℕ → File → File
 overwritten offset bytes file = record { header = file .header; contents = set (file .contents) offset bytes }
 
+abbrev pub Overwritten : List ℕ → List ℕ → List ℕ → ℕ → List ℕ → Type 0
+Overwritten image after name offset bytes = Done image after name (changed name (overwritten offset bytes) (catalogue image)) 0 0
+
 unfoldable pub Overwrites : Type 0
 Overwrites = (image name : List ℕ) (offset : ℕ) (bytes : List ℕ) →
     let outcome = overwriteOf image name offset bytes in
-    outcome .number ≡ 0 → Done image (left image outcome) name (changed name (overwritten offset bytes) (catalogue image)) 0 0
+    outcome .number ≡ 0 → Overwritten image (left image outcome) name offset bytes
 
 -- protect and unprotect change that bit
 unfoldable pub withProtection : ℕ → File → File
 withProtection bit file = record { header = set (file .header) 12 (withBit (byteAt (file .header) 12) 3 bit); contents = file .contents }
 
+abbrev pub Protected : List ℕ → List ℕ → List ℕ → Type 0
+Protected image after name = Done image after name (changed name (withProtection 1) (catalogue image)) 0 0
+
 unfoldable pub Protects : Type 0
 Protects = (image name : List ℕ) →
     let outcome = protectOf image name in
-    outcome .number ≡ 0 → Done image (left image outcome) name (changed name (withProtection 1) (catalogue image)) 0 0
+    outcome .number ≡ 0 → Protected image (left image outcome) name
+
+abbrev pub Unprotected : List ℕ → List ℕ → List ℕ → Type 0
+Unprotected image after name = Done image after name (changed name (withProtection 0) (catalogue image)) 0 0
 
 unfoldable pub Unprotects : Type 0
 Unprotects = (image name : List ℕ) →
     let outcome = unprotectOf image name in
-    outcome .number ≡ 0 → Done image (left image outcome) name (changed name (withProtection 0) (catalogue image)) 0 0
+    outcome .number ≡ 0 → Unprotected image (left image outcome) name
 
 -- delete takes that file out
+abbrev pub Deleted : List ℕ → List ℕ → List ℕ → Type 0
+Deleted image after name = Done image after name (takenOut name (catalogue image)) 0 (held (named name (catalogue image)))
+
 unfoldable pub Deletes : Type 0
 Deletes = (image name : List ℕ) →
     let outcome = deleteOf image name in
-    outcome .number ≡ 0 → Done image (left image outcome) name (takenOut name (catalogue image)) 0 (held (named name (catalogue image)))
+    outcome .number ≡ 0 → Deleted image (left image outcome) name
 
 -- rename changes that name
 unfoldable pub renamed : List ℕ → File → File
 renamed name file = record { header = splice (file .header) 0 name; contents = file .contents }
 
+abbrev pub Renamed : List ℕ → List ℕ → List ℕ → List ℕ → Type 0
+Renamed image after old new = Done image after old (putIn (renamed new (named old (catalogue image))) (takenOut old (catalogue image))) 0 0
+
 unfoldable pub Renames : Type 0
 Renames = (image old new : List ℕ) →
     let outcome = renameOf image old new in
-    outcome .number ≡ 0 → Done image (left image outcome) old (putIn (renamed new (named old (catalogue image))) (takenOut old (catalogue image))) 0 0
+    outcome .number ≡ 0 → Renamed image (left image outcome) old new

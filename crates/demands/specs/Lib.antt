@@ -2,7 +2,9 @@ pub mod Catalogue
 pub mod Effects
 pub mod Call
 pub mod Ours
+pub mod Grounds
 pub mod CaseM
 pub mod Bench
 pub mod Formatting
 pub mod Reading
+pub mod Demand2

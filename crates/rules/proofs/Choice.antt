@@ -184,7 +184,7 @@ module _ (n : ℕ) (sector0 : List ℕ) (fence : Fenced n sector0) where
         ]
 
 -- bits that are one stay so when a sector is marked, and what is free then was free and is another
-fenced-marked : (n : ℕ) (sector0 : List ℕ) (k : ℕ) → length sector0 ≡ 256 → Fenced n sector0 → Fenced n (marked 1 sector0 k)
+pub fenced-marked : (n : ℕ) (sector0 : List ℕ) (k : ℕ) → length sector0 ≡ 256 → Fenced n sector0 → Fenced n (marked 1 sector0 k)
 fenced-marked n sector0 k long fence =
     record {
       label = stays 0 (omega arith) (fence .label);

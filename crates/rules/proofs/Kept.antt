@@ -33,7 +33,7 @@ holders-kept image after (k ∷ ks) kept =
     rw (places-kept image after k (kept k (omega (arith, count-here k ks))), holders-kept image after ks (λ j h. kept j (omega (arith, count-more j k ks))))
 
 -- a list read through two functions that agree on it
-map-agree : {B : Type 0} (f g : ℕ → B) (ks : List ℕ) → ((k : ℕ) → 1 ≤ count k ks → f k ≡ g k) → map f ks ≡ map g ks
+pub map-agree : {B : Type 0} (f g : ℕ → B) (ks : List ℕ) → ((k : ℕ) → 1 ≤ count k ks → f k ≡ g k) → map f ks ≡ map g ks
 map-agree f g [] same = refl
 map-agree f g (k ∷ ks) same = rw (same k (omega (arith, count-here k ks)), map-agree f g ks (λ j h. same j (omega (arith, count-more j k ks))))
 

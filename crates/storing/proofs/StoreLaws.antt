@@ -17,14 +17,9 @@ use Rattle.rules.specs.Outcome.{write, done, refusal, openOf}
 use Rattle.rules.specs.Calls.Create.{entered}
 use Rattle.rules.specs.Calls.Store.{sectorsFor, dataWrites, storing, storeOf}
 use Rattle.rules.specs.declared.Opened.the-variants.{At, Refused}
+use Rattle.rules.proofs.Written.{written-both}
 use Rattle.rules.proofs.Changes.{add-present, add-refused, add-absent}
 use Rattle.storing.specs.Spread.{Spread}
-
--- writes and then others
-written-both : (image : List ℕ) (first second : List Write) → written (written image first) second ≡ written image (first ++ second)
-unfolding written
-written-both image [] second = refl
-written-both image (one ∷ first) second = written-both _ first second
 
 -- the data, and behind them what enters the file
 pub written-entered : (image name : List ℕ) (k : ℕ) (first : List Write) (descriptor sector0 : List ℕ) (data-there made index after : List ℕ)
