@@ -14,3 +14,4 @@ pub mod Sound
 pub mod Choice
 pub mod Outcome
 pub mod Calls
+pub mod Packing
