@@ -85,7 +85,7 @@ unfolding Formatting
 formatting n name g large small rule = empty-volume n name g large small (name-is name rule)
 
 -- the choices of the call's number, where it is 0
-passed : (sized asked ruled : Bool) → _≡_ {A = ℕ} (cond (sized && asked) (cond ruled 0 7) 1) 0 → (sized ≡ true) × (asked ≡ true) × (ruled ≡ true)
+pub passed : (sized asked ruled : Bool) → _≡_ {A = ℕ} (cond (sized && asked) (cond ruled 0 7) 1) 0 → (sized ≡ true) × (asked ≡ true) × (ruled ≡ true)
 passed true true true e = (refl, refl, refl)
 passed true true false e = absurd (omega arith)
 passed true false ruled e = absurd (omega arith)

@@ -19,3 +19,14 @@ mod Pieces
 pub mod Stores
 pub mod Deletes
 pub mod Renames
+mod Described
+mod Faults
+mod Opening
+pub mod Progress
+mod Refusals
+mod Given
+mod Plain
+pub mod Ours
+pub mod Demand2
+pub mod Wrong
+pub mod Unique

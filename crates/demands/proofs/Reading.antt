@@ -5,29 +5,29 @@ use mathlib.Core.List.{List, [], _∷_, map}
 use Prim.Native.Nat.{ℕ, zero, suc, _+_, _≤_, _<_}
 use native.Mathlib.Omega.{arith}
 use native.Mathlib.Decide.{decLt}
-use lib.ListN.{length, getD, length-map}
+use lib.ListN.{length, getD, length-map, take}
 use lib.Seq.{take-take}
-use lib.Dec.{leb}
+use lib.Dec.{eqb, leb, ltb}
 use borrow.Author.Tests.{lt-ltb, le-ltb, le-leb}
 use Rattle.rules.specs.Bytes.{same, byteAt, part}
 use Rattle.rules.specs.Sectors.{sectorOf, sectorCount}
 use Rattle.rules.specs.Name.{nameRule}
 use Rattle.rules.specs.Kind.{isProgram, programLength}
-use Rattle.rules.specs.Chain.{places, blocks}
-use Rattle.rules.specs.Descriptor.{nameOf, statusOf, sectorsOf, chainOf}
-use Rattle.rules.specs.Volume.{files, nameIn, placesIn, headerIn, contentsIn, fileIn, catalogue}
+use Rattle.rules.specs.Descriptor.{nameOf, statusOf, sectorsOf, IsDescriptor}
+use Rattle.rules.specs.Volume.{File, files, nameIn, placesIn, headerIn, contentsIn, fileIn, catalogue}
+use Rattle.rules.specs.Verdict.{verdict}
 use Rattle.rules.specs.Sound.{Sound, fileAt}
 use Rattle.rules.specs.Outcome.{gives, refuses, judged, findIn, openOf, onFile}
 use Rattle.rules.specs.Calls.Catalogue.{entryOf}
 use Rattle.rules.specs.Calls.Read.{reading, readOf}
-use Rattle.rules.specs.Calls.Load.{lengthIn, programIn, loading, loadOf}
-use Rattle.rules.specs.declared.Opened.the-variants.{At}
+use Rattle.rules.specs.Calls.Load.{joined, lengthIn, programIn, loading, loadOf}
+use Rattle.rules.specs.declared.Opened.the-variants.{At, Refused}
 use Rattle.rules.proofs.Bytes.{same-is, is-same, part-at}
 use Rattle.rules.proofs.Name.{is-name, before-irrefl}
-use Rattle.rules.proofs.Chain.{places-length}
+use Rattle.rules.proofs.Volume.{places-count}
 use Rattle.rules.proofs.Verdict.{passes}
 use Rattle.rules.proofs.Free.{free-holders}
-use Rattle.demands.specs.Reading.{noFile, fileOf, Entries, Reads, Loads, Free, Reading}
+use Rattle.demands.specs.Reading.{noFile, fileOf, nameIs, lengthIs, Entries, Reads, Loads, Free, ReadsWhatIsThere, Reading}
 
 -- an element of a mapped list, inside
 get-mapped : {A B : Type 0} (f : A → B) (l : List A) (p : ℕ) (d : A) (e : B) → p < length l → getD (map f l) p e ≡ f (getD l p d)
@@ -52,13 +52,36 @@ find-at image name start (k ∷ ks) (suc q) h before here =
     let e : start + 1 + q ≡ start + suc q = omega arith in
     rw (before 0 (omega arith)) (rw e at (find-at image name (start + 1) ks q (omega arith) (λ j l. before (suc j) (omega arith)) here))
 
+-- the header and the contents of the file at sector k, and what its descriptor says
+module _ (image : List ℕ) (k : ℕ) where
+  pub header-at : (i : ℕ) → i < 28 → byteAt (headerIn image k) i ≡ byteAt (sectorOf image k) i
+  unfolding headerIn
+  header-at i low = let e : 0 + i ≡ i = omega arith in rw e at (part-at (sectorOf image k) 0 28 i low)
+
+  pub header-name : nameOf (headerIn image k) ≡ nameIn image k
+  unfolding headerIn nameIn nameOf
+  header-name = take-take 10 28 (sectorOf image k) (omega arith)
+
+  module _ (is : IsDescriptor (sectorCount image) (sectorOf image k)) where
+    sectors-in : length (contentsIn image k) ≡ sectorsOf (sectorOf image k)
+    unfolding contentsIn
+    sectors-in = length-map (placesIn image k) (sectorOf image) ∙ places-count (sectorCount image) image k is
+
+    pub length-in : programLength (length (contentsIn image k)) (byteAt (headerIn image k) 16) ≡ lengthIn image k
+    unfolding lengthIn
+    length-in = rw (sectors-in, header-at 16 (omega arith))
+
+    pub content-at : (offset : ℕ) → offset < sectorsOf (sectorOf image k) → getD (contentsIn image k) offset [] ≡ sectorOf image (getD (placesIn image k) offset 0)
+    unfolding contentsIn
+    content-at offset low = get-mapped (sectorOf image) (placesIn image k) offset 0 [] (rw (places-count (sectorCount image) image k is) low)
+
 module _ (image : List ℕ) (is : Sound image) where
   -- a file of the catalogue, by its place
   place-of : (p : ℕ) → p < length (catalogue image) → p < length (files image)
   unfolding catalogue
   place-of p h = rw (length-map (files image) (fileIn image)) at h
 
-  file-of : (p : ℕ) → p < length (files image) → fileOf image p ≡ fileIn image (fileAt image p)
+  pub file-of : (p : ℕ) → p < length (files image) → fileOf image p ≡ fileIn image (fileAt image p)
   unfolding catalogue
   file-of p h = get-mapped (fileIn image) (files image) p 0 noFile h
 
@@ -79,35 +102,21 @@ module _ (image : List ℕ) (is : Sound image) where
 
   module _ (p : ℕ) (h : p < length (files image)) where
     name-in : part (headerIn image (fileAt image p)) 0 10 ≡ nameIn image (fileAt image p)
-    unfolding headerIn nameIn nameOf
-    name-in = take-take 10 28 (sectorOf image (fileAt image p)) (omega arith)
-
-    sectors-in : length (contentsIn image (fileAt image p)) ≡ sectorsOf (sectorOf image (fileAt image p))
-    unfolding contentsIn placesIn places
-    sectors-in =
-        let all = places-length (sectorCount image) (sectorsOf (sectorOf image (fileAt image p))) 0 (blocks (chainOf (sectorOf image (fileAt image p)))) (is .descriptors p h .chain .linked) in
-        length-map (placesIn image (fileAt image p)) (sectorOf image) ∙ omega (arith, all)
+    unfolding nameOf
+    name-in = header-name image (fileAt image p)
 
     read-in : (offset room : ℕ) → offset < length (contentsIn image (fileAt image p)) → 256 ≤ room
         → readOf image (nameIn image (fileAt image p)) offset room ≡ gives 0 (getD (contentsIn image (fileAt image p)) offset [])
-    unfolding readOf onFile reading contentsIn
+    unfolding readOf onFile reading
     read-in offset room inside large =
-        let low : offset < sectorsOf (sectorOf image (fileAt image p)) = omega (arith, sectors-in, inside) in
+        let low : offset < sectorsOf (sectorOf image (fileAt image p)) = omega (arith, sectors-in image (fileAt image p) (is .descriptors p h), inside) in
         rw (opened-at p h, lt-ltb offset (sectorsOf (sectorOf image (fileAt image p))) low, le-leb 256 room large)
-        (ap (gives 0) (sym (get-mapped (sectorOf image) (placesIn image (fileAt image p)) offset 0 [] (rw (length-map (placesIn image (fileAt image p)) (sectorOf image)) at inside))))
+        (ap (gives 0) (sym (content-at image (fileAt image p) (is .descriptors p h) offset low)))
 
     load-in : (room : ℕ) → isProgram (statusOf (sectorOf image (fileAt image p))) ≡ true → lengthIn image (fileAt image p) ≤ room
         → loadOf image (nameIn image (fileAt image p)) room ≡ gives (lengthIn image (fileAt image p)) (programIn image (fileAt image p))
     unfolding loadOf onFile loading
     load-in room program large = rw (opened-at p h, program, le-leb (lengthIn image (fileAt image p)) room large)
-
-    header-at : (i : ℕ) → i < 28 → byteAt (headerIn image (fileAt image p)) i ≡ byteAt (sectorOf image (fileAt image p)) i
-    unfolding headerIn
-    header-at i low = let e : 0 + i ≡ i = omega arith in rw e at (part-at (sectorOf image (fileAt image p)) 0 28 i low)
-
-    length-in : programLength (length (contentsIn image (fileAt image p))) (byteAt (headerIn image (fileAt image p)) 16) ≡ lengthIn image (fileAt image p)
-    unfolding lengthIn
-    length-in = rw (sectors-in, header-at 16 (omega arith))
 
   -- the entry inside the catalogue, and past its end
   entry-inside : (p room : ℕ) → p < length (files image) → entryOf image p room ≡ cond (leb 28 room) (gives 0 (headerIn image (fileAt image p))) (refuses 15)
@@ -149,8 +158,8 @@ module _ (image : List ℕ) (is : Sound image) where
   unfolding Loads fileIn programIn
   loads p room h program large =
       let there = place-of p h in
-      rw (file-of p there, name-in p there, length-in p there)
-      (load-in p there room (rw (file-of p there, header-at p there 12 (omega arith)) at program) (rw (file-of p there, length-in p there) at large))
+      rw (file-of p there, name-in p there, length-in image (fileAt image p) (is .descriptors p there))
+      (load-in p there room (rw (file-of p there, header-at image (fileAt image p) 12 (omega arith)) at program) (rw (file-of p there, length-in image (fileAt image p) (is .descriptors p there)) at large))
 
 pub reading-holds : Reading
 unfolding Reading Free

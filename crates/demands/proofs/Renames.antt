@@ -260,7 +260,7 @@ module _ (image old new : List ℕ) (k : ℕ) (is : Sound image) (there : 1 ≤ 
       old is-named
 
 -- a name that the search does not find is no file's
-unfound : (image name : List ℕ) (p : ℕ) (ks : List ℕ) → findIn image name p ks ≡ Refused 8 → (j : ℕ) → 1 ≤ count j ks → nameIn image j ≡ name → ⊥
+pub unfound : (image name : List ℕ) (p : ℕ) (ks : List ℕ) → findIn image name p ks ≡ Refused 8 → (j : ℕ) → 1 ≤ count j ks → nameIn image j ≡ name → ⊥
 unfolding findIn
 unfound image name p [] e j some is = omega (arith, some, count-none j)
 unfound image name p (k ∷ ks) e j some is = go (same name (nameIn image k)) refl e (unfound image name (p + 1) ks)

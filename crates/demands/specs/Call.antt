@@ -1,10 +1,13 @@
 -- Any call of the paper with any arguments, and any version of the software: what it answers to each call, and what it leaves of the image and of the buffer lent.
+use mathlib.Core.Path.{_≡_}
 use mathlib.Core.List.{List, [], _∷_}
 use Prim.Native.Nat.{ℕ}
 use Rattle.rules.specs.Outcome.{answerNumber, amountNumber}
 use Rattle.rules.specs.Calls.Format.{Geometry}
 use Rattle.rules.specs.declared.Answer.{Answer}
 use Rattle.rules.specs.declared.Amount.{Amount}
+use Rattle.rules.specs.declared.Answer.the-variants as answer
+use Rattle.rules.specs.declared.Amount.the-variants as amount
 use Rattle.rules.specs.declared.Summary.{Summary}
 use Rattle.rules.specs.declared.Summary.the-variants as summary
 use Rattle.rules.specs.declared.Entry.{Entry}
@@ -69,6 +72,25 @@ numberIn (unprotect name) answer = answerNumber answer
 numberIn (store name bytes) answer = answerNumber answer
 numberIn (delete name) answer = answerNumber answer
 numberIn (rename old new) answer = answerNumber answer
+
+-- no refusal has the number 0, so that 0 always stands for done
+abbrev pub Plain : (call : Call) → Given call → Type 0
+Plain judge number = Unit {0}
+Plain (format n name geometry) given = given ≡ answer.Refused 0 → ⊥
+Plain freeCount given = given ≡ amount.Refused 0 → ⊥
+Plain (summarize buffer) given = given ≡ summary.Refused 0 → ⊥
+Plain (entry place buffer) given = given .answer ≡ answer.Refused 0 → ⊥
+Plain (read name offset buffer) given = given ≡ answer.Refused 0 → ⊥
+Plain (load name buffer) given = given ≡ amount.Refused 0 → ⊥
+Plain (list buffer) given = given ≡ amount.Refused 0 → ⊥
+Plain (create name status recordLength recordsPerSector) given = given ≡ answer.Refused 0 → ⊥
+Plain (append name bytes) given = given ≡ answer.Refused 0 → ⊥
+Plain (overwrite name offset bytes) given = given ≡ answer.Refused 0 → ⊥
+Plain (protect name) given = given ≡ answer.Refused 0 → ⊥
+Plain (unprotect name) given = given ≡ answer.Refused 0 → ⊥
+Plain (store name bytes) given = given ≡ answer.Refused 0 → ⊥
+Plain (delete name) given = given ≡ answer.Refused 0 → ⊥
+Plain (rename old new) given = given ≡ answer.Refused 0 → ⊥
 
 -- the buffer lent to be filled, where there is one
 abbrev pub lent : Call → List ℕ

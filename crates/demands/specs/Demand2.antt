@@ -21,7 +21,7 @@ use Rattle.demands.specs.Effects.{Kept, Created, Stored, Appended, Overw
 use Rattle.demands.specs.Formatting.{EmptyVolume}
 use Rattle.demands.specs.Reading.{fileOf, lengthIs}
 use Rattle.demands.specs.Call as call
-use Rattle.demands.specs.Call.{Call, Result, Version, lent, number, run}
+use Rattle.demands.specs.Call.{Call, Result, Version, Plain, lent, number, run}
 use Rattle.demands.specs.Grounds.{First, grounds}
 
 -- the free count of a volume: n less the holders
@@ -80,6 +80,8 @@ Frame (call.delete name) image after = Kept image after name
 Frame (call.rename old new) image after = Kept image after old
 
 pub record Demand2 (version : Version) : Type 0 where
+  -- an answer is done or a refusal with its number
+  pub plain : (c : Call) (image : List ℕ) → Plain c (version c image .answer)
   -- a number other than 0 leaves every buffer as it was, whatever the image
   pub refuses : (c : Call) (image : List ℕ) → (number version c image ≡ 0 → ⊥) → (version c image .image ≡ image) × (version c image .buffer ≡ lent c)
   -- a sound volume stays sound through any list of calls; what formatting makes of any image is sound

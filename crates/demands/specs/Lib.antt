@@ -8,3 +8,5 @@ pub mod Bench
 pub mod Formatting
 pub mod Reading
 pub mod Demand2
+pub mod Wrong
+pub mod Unique

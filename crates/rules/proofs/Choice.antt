@@ -68,6 +68,13 @@ module _ (sector0 : List ℕ) where
             ]
       ]
 
+lowest-of : (sector0 : List ℕ) (many from k : ℕ) → from ≤ k → k < from + many → mapBit sector0 k ≡ 0 → lowestFree sector0 many from ≤ k
+lowest-of sector0 many from k low high free =
+    elim (decLt k (lowestFree sector0 many from)) [
+      | yes before ↦ absurd (lowest-first sector0 many from k low before free)
+      | no behind ↦ omega arith
+    ]
+
 -- whatever the map says, what is chosen is never sector 0 or 1
 pub descriptor-choice-range : (sector0 : List ℕ) → (2 ≤ descriptorChoice sector0) × (descriptorChoice sector0 ≤ 1600)
 unfolding descriptorChoice
@@ -80,6 +87,25 @@ data-choice-range sector0 = go (ltb (lowestFree sector0 1566 34) 1600)
     go : (t : Bool) → (2 ≤ cond t (lowestFree sector0 1566 34) (lowestFree sector0 32 2)) × (cond t (lowestFree sector0 1566 34) (lowestFree sector0 32 2) ≤ 1600)
     go true = (omega (arith, lowest-from sector0 1566 34), lowest-to sector0 1566 34)
     go false = (lowest-from sector0 32 2, omega (arith, lowest-to sector0 32 2))
+
+-- and it is the lowest: of a descriptor from 2 up, of data from 34 up, and below 34 only when none is left there
+pub descriptor-choice-lowest : (sector0 : List ℕ) (k : ℕ) → 2 ≤ k → k < 1600 → mapBit sector0 k ≡ 0 → descriptorChoice sector0 ≤ k
+unfolding descriptorChoice
+descriptor-choice-lowest sector0 k low high free = lowest-of sector0 1598 2 k low high free
+
+pub data-choice-lowest : (sector0 : List ℕ) (k : ℕ) → 34 ≤ k → k < 1600 → mapBit sector0 k ≡ 0 → (34 ≤ dataChoice sector0) × (dataChoice sector0 ≤ k)
+unfolding dataChoice
+data-choice-lowest sector0 k low high free =
+    let here = lowest-of sector0 1566 34 k low high free in
+    rw (lt-ltb (lowestFree sector0 1566 34) 1600 (omega (arith, here))) (lowest-from sector0 1566 34, here)
+
+pub data-choice-low : (sector0 : List ℕ) → ((k : ℕ) → 34 ≤ k → k < 1600 → mapBit sector0 k ≡ 0 → ⊥) → (k : ℕ) → 2 ≤ k → k < 34 → mapBit sector0 k ≡ 0 → dataChoice sector0 ≤ k
+unfolding dataChoice
+data-choice-low sector0 none k low high free =
+    elim (decLt (lowestFree sector0 1566 34) 1600) [
+      | yes found ↦ absurd (none (lowestFree sector0 1566 34) (lowest-from sector0 1566 34) found (lowest-is-free sector0 1566 34 found))
+      | no full ↦ rw (le-ltb (lowestFree sector0 1566 34) 1600 (omega arith)) (lowest-of sector0 32 2 k low high free)
+    ]
 
 -- several choices, one at a time
 pub choices-none : (sector0 : List ℕ) → dataChoices 0 sector0 ≡ []
