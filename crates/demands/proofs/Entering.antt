@@ -1,13 +1,12 @@
 -- A new file entered into a sound volume, create's and store's alike: the volume is sound again, all that stood there stands, and the catalogue has that file more.
 -- The sectors that it takes were free, so nothing else was in them.
 use mathlib.Core.Path.{_≡_, refl, sym, ap, _∙_}
-use mathlib.Core.Bool.{Bool, true, false, cond}
 use mathlib.Core.List.{List, [], _∷_, _++_, map}
-use Prim.Native.Nat.{ℕ, zero, suc, _+_, _≤_, _<_}
+use Prim.Native.Nat.{ℕ, _+_, _≤_, _<_}
 use native.Mathlib.Omega.{arith}
 use native.Mathlib.Decide.{decLt}
 use lib.ListN.{length, getD}
-use Rattle.rules.specs.Bytes.{byteAt, part, same}
+use Rattle.rules.specs.Bytes.{byteAt, part}
 use Rattle.rules.specs.Sectors.{sectorOf, sectorCount, written}
 use Rattle.rules.specs.Map.{count, taken, freeCount, markedAll}
 use Rattle.rules.specs.Chain.{placesFrom, places, extendedAll, Linked}
@@ -16,12 +15,9 @@ use Rattle.rules.specs.Descriptor.{nameOf, chainOf, IsDescriptor}
 use Rattle.rules.specs.Index.{numbers, IsIndex}
 use Rattle.rules.specs.Volume.{files, nameIn, placesIn, fileHolders, holders, headerIn, contentsIn, fileIn, placed, catalogue}
 use Rattle.rules.specs.Sound.{Sound}
-use Rattle.rules.specs.Outcome.{findIn}
 use Rattle.rules.specs.Calls.Create.{entered}
 use Rattle.rules.specs.Calls.Store.{dataWrites}
-use Rattle.rules.specs.declared.Opened.the-variants.{At, Refused}
-use Rattle.rules.proofs.Tests.{absurd-test}
-use Rattle.rules.proofs.Bytes.{is-same}
+use Rattle.rules.proofs.Outcome.{unfound}
 use Rattle.rules.proofs.Sectors.{sector-length}
 use Rattle.rules.proofs.Name.{name-is}
 use Rattle.rules.proofs.Map.{count-here, count-more, count-at}
@@ -39,18 +35,6 @@ use Rattle.demands.proofs.Listed.{map-is}
 use Rattle.demands.proofs.Putting.{file-name, placed-files}
 use Rattle.demands.proofs.NewFile.{chainWith, descriptorWith, made-length, made-header, made-name, made-places, made-rules}
 use Rattle.demands.proofs.Entered.{Entered, entered-is}
-
--- a name that was not found is no file's
-none-named : (image name : List ℕ) (p : ℕ) (ks : List ℕ) → findIn image name p ks ≡ Refused 8 → (q : ℕ) → q < length ks → nameIn image (getD ks q 0) ≡ name → ⊥
-unfolding findIn
-none-named image name p [] e q h named = omega arith
-none-named image name p (k ∷ ks) e q h named = go q h named (same name (nameIn image k)) refl e (none-named image name (p + 1) ks)
-  where
-    go : (q : ℕ) → q < length (k ∷ ks) → nameIn image (getD (k ∷ ks) q 0) ≡ name → (t : Bool) → same name (nameIn image k) ≡ t → cond t (At p k) (findIn image name (p + 1) ks) ≡ Refused 8
-        → (findIn image name (p + 1) ks ≡ Refused 8 → (q : ℕ) → q < length ks → nameIn image (getD ks q 0) ≡ name → ⊥) → ⊥
-    go q h named true s e more = let z : _≡_ {A = ℕ} 0 1 = cc in omega arith
-    go zero h named false s e more = absurd-test (sym (is-same name) ∙ ap (same name) (sym named) ∙ s)
-    go (suc q) h named false s e more = more e q (omega arith) named
 
 -- what is to be known of the new file: its name is not there, there is a place for it, its sectors were free, and its descriptor, in sector k, keeps the rules and names ks
 record Enters (image name : List ℕ) (k : ℕ) (ks descriptor : List ℕ) : Type 0 where
@@ -167,7 +151,7 @@ module _ (image after name bytes : List ℕ) (k : ℕ) (ks descriptor : List ℕ
         index = new-index;
         files-are = files-are;
         descriptors = new-descriptors;
-        ascending = placed-ascending image after name k new-name old (sound-before .ascending) name-long (none-named image name 0 old (is .absent .absent)) name-stays;
+        ascending = placed-ascending image after name k new-name old (sound-before .ascending) name-long (λ q h. unfound image name 0 old (is .absent .absent) (getD old q 0) (count-at old q h)) name-stays;
         single = λ j. omega (arith, new-holders j, taken-once j);
         map = rw (there .map-is) (marked-holders n (sectorOf image 0) (holders image) (k ∷ ks) (0 ∷ (1 ∷ fileHolders after new)) long0 (map-is image sound-before) taken-once new-holders);
       }

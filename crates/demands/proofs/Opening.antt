@@ -20,7 +20,7 @@ use Rattle.rules.proofs.Changes.{verdict-small}
 use Rattle.demands.specs.Grounds.{Ground, First, faults, Has, Present}
 use Rattle.demands.proofs.Listed.{listed-name}
 use Rattle.demands.proofs.Faults.{first-there, first-later, refused-if, refused-unless, first-broken, faults-first}
-use Rattle.demands.proofs.Renames.{unfound}
+use Rattle.rules.proofs.Outcome.{unfound}
 
 -- what holds of the file that was found
 module _ (image name : List ℕ) (p k : ℕ) (o : IsOpened image name p k) (holds : ℕ → Type 0) where

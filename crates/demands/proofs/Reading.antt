@@ -5,29 +5,28 @@ use mathlib.Core.List.{List, [], _∷_, map}
 use Prim.Native.Nat.{ℕ, zero, suc, _+_, _≤_, _<_}
 use native.Mathlib.Omega.{arith}
 use native.Mathlib.Decide.{decLt}
-use lib.ListN.{length, getD, length-map, take}
+use lib.ListN.{length, getD, length-map}
 use lib.Seq.{take-take}
-use lib.Dec.{eqb, leb, ltb}
+use lib.Dec.{leb}
 use borrow.Author.Tests.{lt-ltb, le-ltb, le-leb}
 use Rattle.rules.specs.Bytes.{same, byteAt, part}
 use Rattle.rules.specs.Sectors.{sectorOf, sectorCount}
 use Rattle.rules.specs.Name.{nameRule}
 use Rattle.rules.specs.Kind.{isProgram, programLength}
 use Rattle.rules.specs.Descriptor.{nameOf, statusOf, sectorsOf, IsDescriptor}
-use Rattle.rules.specs.Volume.{File, files, nameIn, placesIn, headerIn, contentsIn, fileIn, catalogue}
-use Rattle.rules.specs.Verdict.{verdict}
+use Rattle.rules.specs.Volume.{files, nameIn, placesIn, headerIn, contentsIn, fileIn, catalogue}
 use Rattle.rules.specs.Sound.{Sound, fileAt}
 use Rattle.rules.specs.Outcome.{gives, refuses, judged, findIn, openOf, onFile}
 use Rattle.rules.specs.Calls.Catalogue.{entryOf}
 use Rattle.rules.specs.Calls.Read.{reading, readOf}
-use Rattle.rules.specs.Calls.Load.{joined, lengthIn, programIn, loading, loadOf}
-use Rattle.rules.specs.declared.Opened.the-variants.{At, Refused}
+use Rattle.rules.specs.Calls.Load.{lengthIn, programIn, loading, loadOf}
+use Rattle.rules.specs.declared.Opened.the-variants.{At}
 use Rattle.rules.proofs.Bytes.{same-is, is-same, part-at}
 use Rattle.rules.proofs.Name.{is-name, before-irrefl}
 use Rattle.rules.proofs.Volume.{places-count}
 use Rattle.rules.proofs.Verdict.{passes}
 use Rattle.rules.proofs.Free.{free-holders}
-use Rattle.demands.specs.Reading.{noFile, fileOf, nameIs, lengthIs, Entries, Reads, Loads, Free, ReadsWhatIsThere, Reading}
+use Rattle.demands.specs.Reading.{noFile, fileOf, Entries, Reads, Loads, Free, Reading}
 
 -- an element of a mapped list, inside
 get-mapped : {A B : Type 0} (f : A → B) (l : List A) (p : ℕ) (d : A) (e : B) → p < length l → getD (map f l) p e ≡ f (getD l p d)

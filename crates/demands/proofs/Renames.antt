@@ -5,7 +5,7 @@ use mathlib.Core.Bool.{Bool, true, false, cond, _&&_}
 use mathlib.Core.List.{List, [], _∷_, map}
 use Prim.Native.Nat.{ℕ, zero, suc, _+_, _*_, _≤_, _<_}
 use native.Mathlib.Omega.{arith}
-use native.Mathlib.Decide.{decLt, ℕ-discrete}
+use native.Mathlib.Decide.{decLt}
 use lib.Dec.{eqb}
 use lib.ListN.{length, take, getD}
 use lib.Seq.{ext-getD}
@@ -23,16 +23,15 @@ use Rattle.rules.specs.Verdict.{verdict}
 use Rattle.rules.specs.Sound.{Sound}
 use Rattle.rules.specs.Outcome.{Outcome, write, done, refusal, findIn, openOf, changing, adding}
 use Rattle.rules.specs.Calls.Rename.{renaming, renameOf}
-use Rattle.rules.specs.declared.Opened.the-variants.{At, Refused}
-use Rattle.rules.proofs.Tests.{both, absurd-test}
-use Rattle.rules.proofs.Bytes.{part-length, part-at, is-same}
+use Rattle.rules.proofs.Tests.{both}
+use Rattle.rules.proofs.Bytes.{part-length, part-at}
 use Rattle.rules.proofs.Splice.{splice-length, splice-front, splice-above}
 use Rattle.rules.proofs.Sectors.{sector-length}
 use Rattle.rules.proofs.Name.{name-is}
-use Rattle.rules.proofs.Map.{count-none, count-other, count-more, count-at, taken-below, taken-past}
+use Rattle.rules.proofs.Map.{count-more, count-at, taken-below, taken-past}
 use Rattle.rules.proofs.Indexed.{placed-count, without-length, placed-length, without-all, placed-all, without-ascending, placed-ascending, Ascending, index-length, numbers-index, index-is-index}
 use Rattle.rules.proofs.Kept.{holders-kept, holders-placed, file-kept, files-kept, map-agree}
-use Rattle.rules.proofs.Outcome.{opened-is}
+use Rattle.rules.proofs.Outcome.{opened-is, unfound}
 use Rattle.rules.proofs.Changes.{changed-done, added-done}
 use Rattle.rules.proofs.Written.{written-length, Rebuilt, sound-again}
 use Rattle.demands.specs.Catalogue.{putIn, takenOut, named}
@@ -258,21 +257,6 @@ module _ (image old new : List ℕ) (k : ℕ) (is : Sound image) (there : 1 ≤ 
       (second-stands image k 1 descriptor index long long1 fits fits1)
       (λ j other apart inside. others-stand image k 1 descriptor index long long1 fits fits1 j other apart (sector-inside image is j inside))
       old is-named
-
--- a name that the search does not find is no file's
-pub unfound : (image name : List ℕ) (p : ℕ) (ks : List ℕ) → findIn image name p ks ≡ Refused 8 → (j : ℕ) → 1 ≤ count j ks → nameIn image j ≡ name → ⊥
-unfolding findIn
-unfound image name p [] e j some is = omega (arith, some, count-none j)
-unfound image name p (k ∷ ks) e j some is = go (same name (nameIn image k)) refl e (unfound image name (p + 1) ks)
-  where
-    go : (t : Bool) → same name (nameIn image k) ≡ t → cond t (At p k) (findIn image name (p + 1) ks) ≡ Refused 8
-        → (findIn image name (p + 1) ks ≡ Refused 8 → (j : ℕ) → 1 ≤ count j ks → nameIn image j ≡ name → ⊥) → ⊥
-    go true s e more = let z : _≡_ {A = ℕ} 0 1 = cc in omega (arith, z)
-    go false s e more =
-        elim (ℕ-discrete k j) [
-          | yes here ↦ absurd-test (sym (rw (here, is) (is-same name)) ∙ s)
-          | no there ↦ more e j (omega (arith, some, count-other j k ks there)) is
-        ]
 
 -- number 0: both names keep the rule, the old one is found and the new one is not, and the file is not protected
 open-is : (image name : List ℕ) → eqb (verdict image) 0 ≡ true → nameRule name ≡ true → findIn image name 0 (files image) ≡ openOf image name

@@ -8,7 +8,7 @@ use native.Mathlib.Nat.{div-one}
 use native.Mathlib.Decide.{ℕ-discrete}
 use lib.Dec.{eqb}
 use lib.ListN.{length, getD}
-use borrow.Author.Tests.{eq-eqb, ne-eqb, eqb-true, eqb-false}
+use borrow.Author.Tests.{eq-eqb, ne-eqb, eqb-true}
 use Rattle.rules.specs.Sectors.{Write, written, sectorOf, sectorCount}
 use Rattle.rules.specs.Name.{nameRule}
 use Rattle.rules.specs.Label.{labelRule}

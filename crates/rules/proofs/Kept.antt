@@ -3,22 +3,19 @@
 use mathlib.Core.Path.{_≡_, refl, sym, ap, _∙_}
 use mathlib.Core.Bool.{Bool, true, false, cond}
 use mathlib.Core.List.{List, [], _∷_, _++_, map}
-use Prim.Native.Nat.{ℕ, zero, suc, _+_, _*_, _≤_, _<_}
+use Prim.Native.Nat.{ℕ, _+_, _≤_, _<_}
 use native.Mathlib.Omega.{arith}
-use native.Mathlib.Decide.{ℕ-discrete}
 use lib.Dec.{eqb}
-use lib.ListN.{length, getD}
 use borrow.Author.Tests.{eqb-true, eqb-false}
-use Rattle.rules.specs.Bytes.{part}
 use Rattle.rules.specs.Sectors.{sectorOf, sectorCount}
 use Rattle.rules.specs.Name.{precedes}
 use Rattle.rules.specs.Map.{mapBit, count}
 use Rattle.rules.specs.Chain.{places}
 use Rattle.rules.specs.Descriptor.{chainOf}
 use Rattle.rules.specs.Index.{without}
-use Rattle.rules.specs.Volume.{File, files, nameIn, placesIn, fileHolders, holders, headerIn, contentsIn, fileIn, placed}
-use Rattle.rules.specs.Sound.{Sound, fileAt}
-use Rattle.rules.proofs.Map.{count-none, count-here, count-other, count-more, count-at, count-append}
+use Rattle.rules.specs.Volume.{files, nameIn, placesIn, fileHolders, holders, headerIn, contentsIn, fileIn, placed}
+use Rattle.rules.specs.Sound.{Sound}
+use Rattle.rules.proofs.Map.{count-none, count-here, count-other, count-more, count-append}
 
 -- the places of a descriptor that stands as it stood
 pub places-kept : (image after : List ℕ) (k : ℕ) → sectorOf after k ≡ sectorOf image k → placesIn after k ≡ placesIn image k

@@ -4,7 +4,7 @@ use mathlib.Core.Bool.{Bool, true, false, cond}
 use mathlib.Core.List.{List, [], _∷_}
 use Prim.Native.Nat.{ℕ, suc, _+_, _-_, _*_, _≤_, _<_}
 use native.Mathlib.Omega.{arith}
-use native.Mathlib.Decide.{decLt}
+use native.Mathlib.Decide.{decLt, ℕ-discrete}
 use lib.Dec.{eqb}
 use lib.ListN.{length, drop, getD}
 use borrow.Author.Tests.{eq-eqb, ne-eqb, eqb-true, eqb-false}
@@ -20,7 +20,10 @@ use Rattle.rules.specs.Outcome.{Reading, refuses, answerOf, amountOf, an
 use Rattle.rules.specs.declared.Opened.the-variants.{At, Refused}
 use Rattle.rules.specs.declared.Answer.the-variants as answer
 use Rattle.rules.specs.declared.Amount.the-variants as amount
-use Rattle.rules.proofs.Bytes.{same-is}
+use Rattle.rules.specs.Map.{count}
+use Rattle.rules.proofs.Tests.{absurd-test}
+use Rattle.rules.proofs.Bytes.{same-is, is-same}
+use Rattle.rules.proofs.Map.{count-none, count-other}
 use Rattle.rules.proofs.Sectors.{sector-length}
 use Rattle.rules.proofs.Index.{numbers-step, numbers-end, numbers-short, number-at, number-past}
 use Rattle.rules.proofs.Verdict.{sound}
@@ -111,6 +114,21 @@ find-refused image name p (k ∷ ks) number e = go (same name (nameIn image k)) 
     go : (t : Bool) → cond t (At p k) (findIn image name (p + 1) ks) ≡ Refused number → (findIn image name (p + 1) ks ≡ Refused number → number ≡ 8) → number ≡ 8
     go true e more = absurd (let z : _≡_ {A = ℕ} 0 1 = cc in omega arith)
     go false e more = more e
+
+-- a name that the search does not find is no file's
+pub unfound : (image name : List ℕ) (p : ℕ) (ks : List ℕ) → findIn image name p ks ≡ Refused 8 → (j : ℕ) → 1 ≤ count j ks → nameIn image j ≡ name → ⊥
+unfolding findIn
+unfound image name p [] e j some is = omega (arith, some, count-none j)
+unfound image name p (k ∷ ks) e j some is = go (same name (nameIn image k)) refl e (unfound image name (p + 1) ks)
+  where
+    go : (t : Bool) → same name (nameIn image k) ≡ t → cond t (At p k) (findIn image name (p + 1) ks) ≡ Refused 8
+        → (findIn image name (p + 1) ks ≡ Refused 8 → (j : ℕ) → 1 ≤ count j ks → nameIn image j ≡ name → ⊥) → ⊥
+    go true s e more = let z : _≡_ {A = ℕ} 0 1 = cc in omega (arith, z)
+    go false s e more =
+        elim (ℕ-discrete k j) [
+          | yes here ↦ absurd-test (sym (rw (here, is) (is-same name)) ∙ s)
+          | no there ↦ more e j (omega (arith, some, count-other j k ks there)) is
+        ]
 
 pub open-refused : (image name : List ℕ) (number : ℕ) → openOf image name ≡ Refused number → number ≡ 0 → ⊥
 unfolding openOf

@@ -53,7 +53,7 @@ module _ (n : ℕ) (image : List ℕ) where
   descriptors-are previous (k ∷ ks) e zero h = descriptor-is n (sectorOf image k) (unfolded previous k ks e .0)
   descriptors-are previous (k ∷ ks) e (suc p) h = descriptors-are (nameIn image k) ks (unfolded previous k ks e .2) p (omega arith)
 
-  name-long : (k : ℕ) → IsDescriptor n (sectorOf image k) → length (nameIn image k) ≡ 10
+  pub name-long : (k : ℕ) → IsDescriptor n (sectorOf image k) → length (nameIn image k) ≡ 10
   unfolding nameIn
   name-long k is = is .name .ten
 
@@ -71,7 +71,7 @@ module _ (n : ℕ) (image : List ℕ) where
       go zero h first more = first
       go (suc p) h first more = before-trans previous (nameIn image k) (nameIn image (getD ks p 0)) first (more p (omega arith))
 
-  ascend : (previous ks : List ℕ) → descriptorsRule n image previous ks ≡ true → (p q : ℕ) → p < q → q < length ks → Before (nameIn image (getD ks p 0)) (nameIn image (getD ks q 0))
+  pub ascend : (previous ks : List ℕ) → descriptorsRule n image previous ks ≡ true → (p q : ℕ) → p < q → q < length ks → Before (nameIn image (getD ks p 0)) (nameIn image (getD ks q 0))
   ascend previous [] e p q h k = absurd (omega arith)
   ascend previous (k ∷ ks) e zero zero h l = absurd (omega arith)
   ascend previous (k ∷ ks) e zero (suc q) h l =
@@ -80,7 +80,7 @@ module _ (n : ℕ) (image : List ℕ) where
   ascend previous (k ∷ ks) e (suc p) zero h l = absurd (omega arith)
   ascend previous (k ∷ ks) e (suc p) (suc q) h l = ascend (nameIn image k) ks (unfolded previous k ks e .2) p q (omega arith) (omega arith)
 
-  are-descriptors : (previous ks : List ℕ) → ((p : ℕ) → p < length ks → IsDescriptor n (sectorOf image (getD ks p 0)))
+  pub are-descriptors : (previous ks : List ℕ) → ((p : ℕ) → p < length ks → IsDescriptor n (sectorOf image (getD ks p 0)))
       → ((p : ℕ) → p < length ks → precedes previous (nameIn image (getD ks p 0)) ≡ true)
       → ((p q : ℕ) → p < q → q < length ks → Before (nameIn image (getD ks p 0)) (nameIn image (getD ks q 0)))
       → descriptorsRule n image previous ks ≡ true
@@ -92,7 +92,7 @@ module _ (n : ℕ) (image : List ℕ) where
       (λ p q h l. order (suc p) (suc q) (omega arith) (omega arith)))
 
 -- no name is before the first
-precedes-none : (name : List ℕ) → length name ≡ 10 → precedes [] name ≡ true
+pub precedes-none : (name : List ℕ) → length name ≡ 10 → precedes [] name ≡ true
 unfolding precedes
 precedes-none [] long = absurd (omega arith)
 precedes-none (b ∷ name) long = refl

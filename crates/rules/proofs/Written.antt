@@ -1,20 +1,20 @@
 -- What a written sector does to each sector of an image; and a sound volume written anew: what has to be seen of its sectors afterwards for it to be sound.
 use mathlib.Core.Path.{_≡_, refl, sym, ap, _∙_}
 use mathlib.Core.List.{List, [], _∷_, _++_}
-use Prim.Native.Nat.{ℕ, _+_, _-_, _*_, _/_, _≤_, _<_}
+use Prim.Native.Nat.{ℕ, _+_, _*_, _/_, _≤_, _<_}
 use native.Mathlib.Omega.{arith}
 use native.Mathlib.Decide.{decLt}
-use lib.ListN.{length, take, getD}
+use lib.ListN.{length, getD}
 use lib.Seq.{ext-getD}
-use Rattle.rules.specs.Bytes.{byteAt, wordAt, part, splice}
+use Rattle.rules.specs.Bytes.{byteAt, part, splice}
 use Rattle.rules.specs.Sectors.{sectorOf, sectorCount, Write, written}
 use Rattle.rules.specs.Label.{IsLabel}
 use Rattle.rules.specs.Map.{mapBit, count, taken}
 use Rattle.rules.specs.Descriptor.{IsDescriptor}
 use Rattle.rules.specs.Index.{IsIndex}
-use Rattle.rules.specs.Volume.{files, nameIn, fileHolders, holders}
-use Rattle.rules.specs.Sound.{Sound, fileAt}
-use Rattle.rules.proofs.Bytes.{part-length, part-short, part-at}
+use Rattle.rules.specs.Volume.{files, fileHolders, holders}
+use Rattle.rules.specs.Sound.{Sound}
+use Rattle.rules.proofs.Bytes.{part-length, part-at}
 use Rattle.rules.proofs.Splice.{splice-length, splice-inside, splice-below, splice-above}
 use Rattle.rules.proofs.Sectors.{sector-length}
 use Rattle.rules.proofs.Map.{taken-below, taken-past}
