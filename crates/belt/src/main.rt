@@ -5,7 +5,8 @@
 // reads the images and writes the lines, and of that only safety is proved, since no contract can
 // say what is read or written. An image that cannot be read has `-` in the number's place and the
 // reason on standard error, and the images after it are judged all the same.
-ghost use Rattle.belt.specs.Filled.{Filled};
+use input::Reading;
+use input::read_image;
 use libc::STDIN_FILENO;
 use libc::STDOUT_FILENO;
 
@@ -17,46 +18,10 @@ const IMAGE_ROOM: usize = 409601;
 // each line carries its argument whole.
 const ARGUMENT_ROOM: usize = 131072;
 
-// What a reading gives: how many bytes it put at the start of the buffer.
-enum Reading {
-    Bytes(usize),
-    Failed,
-}
-
 // What a line begins with: the judge's number, or that there was no image to judge.
 enum Verdict {
     Number(u32),
     Unread,
-}
-
-// One read. At the end of the input it gives 0 bytes.
-fn read_once(descriptor: i32, buffer: &mut [u8]) -> Reading
-    ensures { λ r. ⌜ Filled r (now (buffer .exit)) ⌝ }
-{
-    let got = libc::read(descriptor, buffer);
-    if got < 0 {
-        return Reading::Failed;
-    }
-    Reading::Bytes(io::count(got, buffer))
-}
-
-// Reads until the input ends or the buffer is full. `io::read_full` answers a short count where a
-// read fails, as if the input ended there, and the bytes before a failure are no image to judge.
-fn read_image(descriptor: i32, buffer: &mut [u8]) -> Reading
-    ensures { λ r. ⌜ Filled r (now (buffer .exit)) ⌝ }
-{
-    let mut filled = 0;
-    while filled < buffer.len() {
-        let reading = read_once(descriptor, &mut buffer[filled..]);
-        let Reading::Bytes(more) = reading else {
-            return Reading::Failed;
-        };
-        if more == 0 {
-            return Reading::Bytes(filled);
-        }
-        filled += more;
-    }
-    Reading::Bytes(filled)
 }
 
 // Judges what the descriptor gives. A reason, which begins with `name`, is written before the caller

@@ -1,3 +1,2 @@
--- The laws that belong to no one function.
-mod Readings
+-- The law that belongs to no one function.
 mod Outputs

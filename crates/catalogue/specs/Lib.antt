@@ -1,3 +1,2 @@
 -- The definitions that the contracts of `catalogue` cite.
-pub mod Filled
 pub mod Output

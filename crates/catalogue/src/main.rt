@@ -8,8 +8,9 @@ ghost use mathlib.Core.Path.{_≡_};
 ghost use Prim.Native.Nat.{_≤_};
 ghost use lib.ListN.{length};
 ghost use Rattle.rules.specs.Bytes.{part};
-ghost use Rattle.catalogue.specs.Filled.{Filled};
 ghost use Rattle.catalogue.specs.Output.{output};
+use input::Reading;
+use input::read_image;
 use libc::STDIN_FILENO;
 use libc::STDOUT_FILENO;
 use listing::listing;
@@ -25,42 +26,6 @@ const IMAGE_ROOM: usize = 65537;
 
 // No listing is longer: a line of at most 21 bytes and at most 127 of at most 36.
 const TEXT_ROOM: usize = 4593;
-
-// What a reading gives: how many bytes it put at the start of the buffer.
-enum Reading {
-    Bytes(usize),
-    Failed,
-}
-
-// One read. At the end of the input it gives 0 bytes.
-fn read_once(descriptor: i32, buffer: &mut [u8]) -> Reading
-    ensures { λ r. ⌜ Filled r (now (buffer .exit)) ⌝ }
-{
-    let got = libc::read(descriptor, buffer);
-    if got < 0 {
-        return Reading::Failed;
-    }
-    Reading::Bytes(io::count(got, buffer))
-}
-
-// Reads until the input ends or the buffer is full. `io::read_full` answers a short count where a
-// read fails, as if the input ended there, and the bytes before a failure are no image to list.
-fn read_image(descriptor: i32, buffer: &mut [u8]) -> Reading
-    ensures { λ r. ⌜ Filled r (now (buffer .exit)) ⌝ }
-{
-    let mut filled = 0;
-    while filled < buffer.len() {
-        let reading = read_once(descriptor, &mut buffer[filled..]);
-        let Reading::Bytes(more) = reading else {
-            return Reading::Failed;
-        };
-        if more == 0 {
-            return Reading::Bytes(filled);
-        }
-        filled += more;
-    }
-    Reading::Bytes(filled)
-}
 
 // Puts what the program writes for an image at the front of the text, and gives its length. The
 // length is tested here, since the library takes images that are longer than the program's.

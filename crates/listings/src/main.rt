@@ -5,7 +5,8 @@
 // text, and of that only safety is proved, since no contract can say what is read or written. For an
 // image that cannot be read there is a line `-`, with the reason on standard error, and the images
 // after it are listed all the same.
-ghost use Rattle.listings.specs.Filled.{Filled};
+use input::Reading;
+use input::read_image;
 use libc::STDOUT_FILENO;
 use listing::listing;
 use listing::refused_line;
@@ -22,42 +23,6 @@ const ARGUMENT_ROOM: usize = 131072;
 
 // No listing is longer: a line of at most 21 bytes and at most 127 of at most 36.
 const TEXT_ROOM: usize = 4593;
-
-// What a reading gives: how many bytes it put at the start of the buffer.
-enum Reading {
-    Bytes(usize),
-    Failed,
-}
-
-// One read. At the end of the input it gives 0 bytes.
-fn read_once(descriptor: i32, buffer: &mut [u8]) -> Reading
-    ensures { λ r. ⌜ Filled r (now (buffer .exit)) ⌝ }
-{
-    let got = libc::read(descriptor, buffer);
-    if got < 0 {
-        return Reading::Failed;
-    }
-    Reading::Bytes(io::count(got, buffer))
-}
-
-// Reads until the input ends or the buffer is full. `io::read_full` answers a short count where a
-// read fails, as if the input ended there, and the bytes before a failure are no image to list.
-fn read_image(descriptor: i32, buffer: &mut [u8]) -> Reading
-    ensures { λ r. ⌜ Filled r (now (buffer .exit)) ⌝ }
-{
-    let mut filled = 0;
-    while filled < buffer.len() {
-        let reading = read_once(descriptor, &mut buffer[filled..]);
-        let Reading::Bytes(more) = reading else {
-            return Reading::Failed;
-        };
-        if more == 0 {
-            return Reading::Bytes(filled);
-        }
-        filled += more;
-    }
-    Reading::Bytes(filled)
-}
 
 // Each `put_` puts a text at the front of the lent one and gives its length.
 fn put_listing(image: &[u8], text: &mut [u8]) -> usize {

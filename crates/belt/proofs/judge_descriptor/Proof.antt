@@ -1,7 +1,7 @@
 -- `belt::judge_descriptor` is safe: the part of the buffer that the judge is lent lies within it, as `read_image` promises of what it counts.
 -- Assumes nothing.
 use borrow.Author.Needs.{needs}
-use Rattle.belt.proofs.Readings.{counted}
+use Rattle.input.proofs.Readings.{counted}
 use Rattle.belt.proofs.judge_descriptor.Statement.{statement}
 use Rattle.belt.proofs.judge_descriptor.Tie as tie
 

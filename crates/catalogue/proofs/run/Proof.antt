@@ -1,7 +1,7 @@
 -- `catalogue::run` is safe: the part of the buffer that is listed lies within it, as `read_image` promises of what it counts.
 -- Assumes nothing.
 use borrow.Author.Needs.{needs}
-use Rattle.catalogue.proofs.Readings.{counted}
+use Rattle.input.proofs.Readings.{counted}
 use Rattle.catalogue.proofs.run.Statement.{statement}
 use Rattle.catalogue.proofs.run.Tie as tie
 

@@ -1,7 +1,7 @@
 -- `listings::put_descriptor` is safe: the part of the buffer that is listed lies within it, as `read_image` promises of what it counts.
 -- Assumes nothing.
 use borrow.Author.Needs.{needs}
-use Rattle.listings.proofs.Readings.{counted}
+use Rattle.input.proofs.Readings.{counted}
 use Rattle.listings.proofs.put_descriptor.Statement.{statement}
 use Rattle.listings.proofs.put_descriptor.Tie as tie
 

@@ -2,8 +2,8 @@
 use Prim.Native.Nat.{ℕ}
 use mathlib.Core.List.{List}
 use Rattle.io.specs.Counts.{Counts}
-use Rattle.listings.specs.declared.Reading.{Reading}
-use Rattle.listings.specs.declared.Reading.the-variants.{Bytes, Failed}
+use Rattle.input.specs.declared.Reading.{Reading}
+use Rattle.input.specs.declared.Reading.the-variants.{Bytes, Failed}
 
 -- a reading that did not fail counts bytes at the start of the buffer, so no more than the buffer has; of one that failed nothing is said
 abbrev pub Filled : Reading → List ℕ → Type 0

@@ -1,4 +1,4 @@
--- `catalogue::read_image` meets its contract: what it counts lies within the buffer. The loop's invariant: the buffer keeps its length, and what
+-- `input::read_image` meets its contract: what it counts lies within the buffer. The loop's invariant: the buffer keeps its length, and what
 -- is filled lies within it. The measure is the room that is left, which falls since a turn that reads nothing leaves the loop.
 -- Assumes nothing.
 use Prim.Native.Nat.{_+_, _≤_, _-_}
@@ -7,9 +7,9 @@ use native.Mathlib.Omega.{arith}
 use lib.ListN.{length, length-take, length-drop}
 use borrow.Author.Needs.{needs}
 use Rattle.io.proofs.Counting.{counts}
-use Rattle.catalogue.proofs.Readings.{counted}
-use Rattle.catalogue.proofs.read_image.Statement.{statement}
-use Rattle.catalogue.proofs.read_image.Tie as tie
+use Rattle.input.proofs.Readings.{counted}
+use Rattle.input.proofs.read_image.Statement.{statement}
+use Rattle.input.proofs.read_image.Tie as tie
 
 abbrev Inv-loop : tie.InvT-loop
 Inv-loop descriptor buffer₀ filled₀ buffer filled = (length buffer ≡ length buffer₀) × (filled ≤ length buffer)

@@ -1,2 +1,0 @@
--- The definitions that the contracts of `belt` cite.
-pub mod Filled

@@ -1,0 +1,2 @@
+-- The definitions that the contracts of `input` cite.
+pub mod Filled

@@ -1,2 +1,0 @@
--- The definitions that the contracts of `listings` cite.
-pub mod Filled
