@@ -14,7 +14,9 @@ use Rattle.rules.specs.Chain.{blockBytes, blockOf, endsChain, blocks, blocksRul
 use Rattle.rules.specs.Kind.{statusRule, programLength, kindOf, kindRule}
 use Rattle.rules.specs.Descriptor.{nameOf, chainOf, fileKind, descriptorRule, newDescriptor, withChain}
 use Rattle.rules.specs.Index.{numbers, rangeRule, indexRule, numbersBytes, indexOf, without}
-use Rattle.rules.specs.Volume.{files, nameIn, placesIn, fileHolders, holders, placed}
+use Rattle.rules.specs.Volume.{files, nameIn, placesIn, fileHolders, holders, placed, headerIn, contentsIn, fileIn, catalogue}
+use Rattle.rules.specs.Packing.{labelArea, oneBlock, packedDescriptor, packedDescriptors, packedData, dataSectors, packedSectors, packed}
+use Rattle.rules.specs.Calls.Load.{joined}
 use Rattle.rules.specs.Verdict.{sizeRule, descriptorsRule, heldTwice, verdict}
 use Rattle.rules.specs.Choice.{lowestFree, descriptorChoice, dataChoice, dataChoices}
 use Rattle.rules.specs.Outcome.{findIn, openOf, changing, adding}
@@ -40,7 +42,7 @@ holds-at (row ∷ rows) none e zero h = same-is (row .computed) (row .printed) (
 holds-at (row ∷ rows) none e (suc p) h = holds-at rows none (both (same (row .computed) (row .printed)) (holds rows) e .1) p (omega arith)
 
 computed : holds (tableOf (newLabel 35 diskX geometry ++ mapOf 35 (0 ∷ (1 ∷ []))) (newLabel 360 diskX geometry ++ mapOf 360 (0 ∷ (1 ∷ []))) caseM) ≡ true
-unfolding same holds tableOf caseM over splice allAre withBit sectorOf written nameByte padded nameRule precedes labelRule mapBit count taken bitsRule mapRule byteOf bytesOf mapOf zeroBits freeCount marked markedAll blockBytes blockOf endsChain blocks blocksRule chainRule run placesFrom places extended extendedAll blocksBytes statusRule programLength kindOf kindRule nameOf chainOf fileKind descriptorRule newDescriptor withChain numbers rangeRule indexRule numbersBytes indexOf without files nameIn placesIn fileHolders holders placed sizeRule descriptorsRule heldTwice verdict lowestFree descriptorChoice dataChoice dataChoices findIn openOf changing adding newLabel formatted createStatus entered creating createOf appending appendOf dataWrites storing storeOf
+unfolding headerIn contentsIn fileIn catalogue joined labelArea oneBlock packedDescriptor packedDescriptors packedData dataSectors packedSectors packed same holds tableOf caseM over splice allAre withBit sectorOf written nameByte padded nameRule precedes labelRule mapBit count taken bitsRule mapRule byteOf bytesOf mapOf zeroBits freeCount marked markedAll blockBytes blockOf endsChain blocks blocksRule chainRule run placesFrom places extended extendedAll blocksBytes statusRule programLength kindOf kindRule nameOf chainOf fileKind descriptorRule newDescriptor withChain numbers rangeRule indexRule numbersBytes indexOf without files nameIn placesIn fileHolders holders placed sizeRule descriptorsRule heldTwice verdict lowestFree descriptorChoice dataChoice dataChoices findIn openOf changing adding newLabel formatted createStatus entered creating createOf appending appendOf dataWrites storing storeOf
 computed = refl
 
 listed-same : same (listingText caseM) printed ≡ true

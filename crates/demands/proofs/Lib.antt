@@ -30,3 +30,7 @@ pub mod Ours
 pub mod Demand2
 pub mod Wrong
 pub mod Unique
+mod Packed
+mod Packing
+pub mod Demand3
+pub mod WrongPacking

@@ -28,11 +28,11 @@ splice-behind (b ∷ front) back i bytes = rw (suc-add (length front) i) (ap (λ
 abbrev pub chainWith : List Block → List ℕ
 chainWith bs = over (replicate 228 0) (blocksBytes bs)
 
-chain-with-length : (bs : List Block) → length (chainWith bs) ≡ 228
+pub chain-with-length : (bs : List Block) → length (chainWith bs) ≡ 228
 unfolding splice
 chain-with-length bs = splice-length (replicate 228 0) 0 (blocksBytes bs) ∙ length-replicate {A = ℕ} 228 0
 
-chain-with-past : (bs : List Block) (i : ℕ) → 3 * length bs ≤ i → byteAt (chainWith bs) i ≡ 0
+pub chain-with-past : (bs : List Block) (i : ℕ) → 3 * length bs ≤ i → byteAt (chainWith bs) i ≡ 0
 unfolding splice
 chain-with-past bs i h = splice-above (replicate 228 0) 0 (blocksBytes bs) i (omega (arith, blocks-bytes-length bs)) ∙ replicate-zero 228 i
 

@@ -30,6 +30,7 @@ use Rattle.rules.specs.Calls.Protect.{protectOf, unprotectOf}
 use Rattle.rules.specs.Calls.Store.{storeOf}
 use Rattle.rules.specs.Calls.Delete.{deleteOf}
 use Rattle.rules.specs.Calls.Rename.{renameOf}
+use Rattle.rules.specs.Packing.{packNumber}
 use Rattle.rules.specs.declared.Summary.the-variants as summary
 use Rattle.rules.proofs.Splice.{splice-none}
 use Rattle.rules.proofs.Name.{name-is}
@@ -42,6 +43,7 @@ use Rattle.demands.specs.Formatting.{EmptyVolume, FormatCall}
 use Rattle.demands.specs.Call as call
 use Rattle.demands.specs.Call.{Call, lent, number, run, summaryNumber}
 use Rattle.demands.specs.Ours.{ours}
+use Rattle.demands.specs.Demand3.{packs}
 use Rattle.demands.specs.Grounds.{First, grounds}
 use Rattle.demands.specs.Demand2.{FreeIs, FreeGiven, Summarized, Means, Frame, Demand2}
 use Rattle.demands.proofs.Formatting.{passed, format-call}
@@ -69,6 +71,7 @@ use Rattle.demands.proofs.Refusals.{
   load-puts,
   listing-puts,
 }
+use Rattle.demands.proofs.Demand3.{packing-demand}
 use Rattle.demands.proofs.Plain.{plain}
 use Rattle.demands.proofs.Given.{catalogue-length, entry-bytes, entry-answers, read-is, load-is, listing-is}
 
@@ -94,7 +97,7 @@ refused-summary image buffer some = go (eqb (verdict image) 0) some
     go false some = splice-none buffer 0
 
 pub refuses : (c : Call) (image : List ℕ) → (number ours c image ≡ 0 → ⊥) → (ours c image .image ≡ image) × (ours c image .buffer ≡ lent c)
-unfolding ours entryAnswer
+unfolding ours entryAnswer packs
 refuses call.judge image some = (refl, refl)
 refuses (call.format n name geometry) image some = (refused-format image n name geometry some, refl)
 refuses call.freeCount image some = (refl, refl)
@@ -116,6 +119,7 @@ refuses (call.unprotect name) image some = (refused-image image (unprotectOf ima
 refuses (call.store name bytes) image some = (refused-image image (storeOf image name bytes) (store-writes image name bytes) some, refl)
 refuses (call.delete name) image some = (refused-image image (deleteOf image name) (delete-writes image name) some, refl)
 refuses (call.rename old new) image some = (refused-image image (renameOf image old new) (rename-writes image old new) some, refl)
+refuses (call.pack buffer) image some = (refl, packing-demand .refuses image buffer (λ z. some (answer-number (packNumber image buffer) ∙ z)))
 
 -- what a call that was done means: formatting, whatever the image was
 format-means : (image : List ℕ) (n : ℕ) (name : List ℕ) (g : Geometry) → formatNumber image n name ≡ 0
@@ -145,7 +149,7 @@ summary-means image buffer is =
     (record { free = freeCount (sectorOf image 0); is = rw (passes image is, catalogue-length image); count = free-is image is }, rw (passes image is))
 
 pub means : (c : Call) (image : List ℕ) → Sound image → number ours c image ≡ 0 → Means c image (ours c image)
-unfolding ours Means entryAnswer amountOf Creates Stores Appends Overwrites Protects Unprotects Deletes Renames
+unfolding ours Means packs entryAnswer amountOf Creates Stores Appends Overwrites Protects Unprotects Deletes Renames
 means call.judge image is e = tt
 means (call.format n name geometry) image is e = formats n name geometry image e
 means call.freeCount image is e = free-means image is
@@ -170,6 +174,9 @@ means (call.unprotect name) image is e = unprotects image name (sym (answer-numb
 means (call.store name bytes) image is e = stores image name bytes (sym (answer-number (storeOf image name bytes .number)) ∙ e)
 means (call.delete name) image is e = deletes image name (sym (answer-number (deleteOf image name .number)) ∙ e)
 means (call.rename old new) image is e = renames image old new (sym (answer-number (renameOf image old new .number)) ∙ e)
+means (call.pack buffer) image is e =
+    let can = packing-demand .done image buffer .0 (sym (answer-number (packNumber image buffer)) ∙ e) in
+    (packing-demand .sound image buffer can, packing-demand .label image buffer can, packing-demand .listed image buffer can)
 
 -- the frame: of a call that was done, and of a refusal
 kept-same : (image after name : List ℕ) → after ≡ image → Kept image after name
@@ -194,6 +201,7 @@ frame-done (call.unprotect name) image m = m .kept
 frame-done (call.store name bytes) image m = m .0 .kept
 frame-done (call.delete name) image m = m .kept
 frame-done (call.rename old new) image m = m .kept
+frame-done (call.pack buffer) image m = refl
 
 frame-same : (c : Call) (image after : List ℕ) → after ≡ image → Frame c image after
 unfolding Frame
@@ -213,6 +221,7 @@ frame-same (call.unprotect name) image after same = kept-same image after name s
 frame-same (call.store name bytes) image after same = kept-same image after name same
 frame-same (call.delete name) image after same = kept-same image after name same
 frame-same (call.rename old new) image after same = kept-same image after old same
+frame-same (call.pack buffer) image after same = same
 
 pub frame : (c : Call) (image : List ℕ) → Sound image → Frame c image (ours c image .image)
 frame c image is =
@@ -240,6 +249,7 @@ sound-done (call.unprotect name) image is m = m .sound
 sound-done (call.store name bytes) image is m = m .0 .sound
 sound-done (call.delete name) image is m = m .sound
 sound-done (call.rename old new) image is m = m .sound
+sound-done (call.pack buffer) image is m = is
 
 sound-call : (c : Call) (image : List ℕ) → Sound image → Sound (ours c image .image)
 sound-call c image is =

@@ -59,3 +59,4 @@ plain (call.unprotect name) image = plain-answer _
 plain (call.store name bytes) image = plain-answer _
 plain (call.delete name) image = plain-answer _
 plain (call.rename old new) image = plain-answer _
+plain (call.pack buffer) image = plain-answer _

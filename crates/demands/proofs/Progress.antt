@@ -28,6 +28,7 @@ use Rattle.rules.specs.Calls.Format.{Geometry, formatNumber}
 use Rattle.rules.specs.Calls.Create.{createStatus, creating, createOf}
 use Rattle.rules.specs.Calls.Append.{appending, appendOf}
 use Rattle.rules.specs.Calls.Store.{sectorsFor, storing, storeOf}
+use Rattle.rules.specs.Packing.{packNumber}
 use Rattle.rules.specs.Calls.Rename.{renaming, renameOf}
 use Rattle.rules.specs.Calls.Protect.{protecting, protectOf, unprotectOf}
 use Rattle.rules.specs.Calls.Delete.{deleting, deleteOf}
@@ -93,6 +94,14 @@ list-first image buffer =
     (λ sound.
     refused-unless reads _ [] (leb (length (listingText image)) (length buffer)) _ _ (not-over _ _) (leb-false _ _) refl
     (λ e. first-none))
+
+pack-first : (image buffer : List ℕ) → First (packNumber image buffer) (grounds (call.pack buffer) image)
+unfolding grounds packNumber
+pack-first image buffer =
+    faults-first image _ (λ some. rw (ne-eqb (verdict image) 0 some)) _
+    (λ zero.
+    first-broken (eqb (length buffer) (length image)) _ 15 [] (eqb-true (length buffer) (length image)) (eq-eqb (length buffer) (length image)) (λ t. rw (eq-eqb (verdict image) 0 zero, t))
+    (λ t. rw (eq-eqb (verdict image) 0 zero, t) first-none))
 
 format-first : (image : List ℕ) (n : ℕ) (name : List ℕ) (g : Geometry) → First (formatNumber image n name) (grounds (call.format n name g) image)
 unfolding grounds formatNumber
@@ -279,3 +288,4 @@ progress (call.unprotect name) image = rw (answer-number (unprotectOf image name
 progress (call.store name bytes) image = rw (answer-number (storeOf image name bytes .number)) (store-first image name bytes)
 progress (call.delete name) image = rw (answer-number (deleteOf image name .number)) (delete-first image name)
 progress (call.rename old new) image = rw (answer-number (renameOf image old new .number)) (rename-first image old new)
+progress (call.pack buffer) image = rw (answer-number (packNumber image buffer)) (pack-first image buffer)

@@ -29,7 +29,7 @@ use Rattle.rules.proofs.Free.{free-holders}
 use Rattle.demands.specs.Reading.{noFile, fileOf, Entries, Reads, Loads, Free, Reading}
 
 -- an element of a mapped list, inside
-get-mapped : {A B : Type 0} (f : A → B) (l : List A) (p : ℕ) (d : A) (e : B) → p < length l → getD (map f l) p e ≡ f (getD l p d)
+pub get-mapped : {A B : Type 0} (f : A → B) (l : List A) (p : ℕ) (d : A) (e : B) → p < length l → getD (map f l) p e ≡ f (getD l p d)
 get-mapped f [] p d e h = absurd (omega arith)
 get-mapped f (x ∷ l) zero d e h = refl
 get-mapped f (x ∷ l) (suc p) d e h = get-mapped f l p d e (omega arith)

@@ -85,7 +85,7 @@ module _ (d new : List ℕ) (long : length d ≡ 256) (ten : length new ≡ 10) 
       }
 
 -- holders that count the same need the same map
-taken-same : (n : ℕ) (old new : List ℕ) → ((k : ℕ) → count k new ≡ count k old) → (k : ℕ) → taken n new k ≡ taken n old k
+pub taken-same : (n : ℕ) (old new : List ℕ) → ((k : ℕ) → count k new ≡ count k old) → (k : ℕ) → taken n new k ≡ taken n old k
 taken-same n old new counts k =
     elim (decLt k n) [
       | yes below ↦ rw (taken-below n new k below, taken-below n old k below) (counts k)

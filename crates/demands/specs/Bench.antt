@@ -5,10 +5,11 @@ use Prim.Native.Nat.{ℕ, _<_}
 use lib.ListN.{length, replicate, getD}
 use Rattle.rules.specs.Bytes.{byteAt, part}
 use Rattle.rules.specs.Chain.{blockBytes}
-use Rattle.rules.specs.Sectors.{sectorOf}
+use Rattle.rules.specs.Sectors.{sectorOf, sectorCount}
+use Rattle.rules.specs.Packing.{labelArea, packed}
 use Rattle.rules.specs.Map.{freeCount}
 use Rattle.rules.specs.Descriptor.{sectorsOf}
-use Rattle.rules.specs.Volume.{files, nameIn, placesIn}
+use Rattle.rules.specs.Volume.{files, nameIn, placesIn, catalogue}
 use Rattle.rules.specs.Calls.Format.{Geometry, formatted}
 use Rattle.demands.specs.CaseM.{alpha, notes, caseM}
 
@@ -31,6 +32,10 @@ geometry = record { sectorsPerTrack = 9; tracks = 40; sides = 1; density = 1 }
 abbrev pub empty : ℕ → List ℕ
 empty n = sectorOf (formatted n diskX geometry) 0
 
+-- an image packed
+abbrev packedOf : List ℕ → List ℕ
+packedOf image = packed (sectorCount image) (labelArea image) (catalogue image)
+
 -- the cases, with the sector 0 of an empty volume of 35 sectors and of one of 360, and case M
 unfoldable pub tableOf : List ℕ → List ℕ → List ℕ → List Case
 tableOf empty35 empty360 m =
@@ -41,7 +46,8 @@ tableOf empty35 empty360 m =
     ∷ (case 5 (part empty360 57 44 ++ part empty360 101 155) (replicate 44 0x00 ++ replicate 155 0xFF)
     ∷ (case 6 (files m ++ (nameIn m 2 ++ (part (sectorOf m 2) 28 3 ++ (nameIn m 3 ++ placesIn m 3)))) (2 ∷ (3 ∷ (alpha ++ ((0x22 ∷ (0x10 ∷ (0x00 ∷ []))) ++ (notes ++ (36 ∷ []))))))
     ∷ (case 7 (byteAt (sectorOf m 0) 56 ∷ (byteAt (sectorOf m 0) 60 ∷ [])) (0x0F ∷ (0x1C ∷ []))
-    ∷ (case 9 (sectorsOf (sectorOf m 2) ∷ (byteAt (sectorOf m 2) 16 ∷ [])) (2 ∷ (44 ∷ [])) ∷ [])))))))
+    ∷ (case 8 (part (sectorOf (packedOf m) 2) 28 3 ++ (part (sectorOf (packedOf m) 3) 28 3 ++ (byteAt (sectorOf (packedOf m) 0) 56 ∷ []))) (0x04 ∷ (0x10 ∷ (0x00 ∷ (0x06 ∷ (0x00 ∷ (0x00 ∷ (0x7F ∷ [])))))))
+    ∷ (case 9 (sectorsOf (sectorOf m 2) ∷ (byteAt (sectorOf m 2) 16 ∷ [])) (2 ∷ (44 ∷ [])) ∷ []))))))))
 
 unfoldable pub table : List Case
 table = tableOf (empty 35) (empty 360) caseM

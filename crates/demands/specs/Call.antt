@@ -12,7 +12,7 @@ use Rattle.rules.specs.declared.Summary.{Summary}
 use Rattle.rules.specs.declared.Summary.the-variants as summary
 use Rattle.rules.specs.declared.Entry.{Entry}
 
--- `buffer` is what the buffer holds that is lent to be filled; a name, bytes and numbers are any
+-- `buffer` is what the buffer holds that is lent to be filled, packing's target; a name, bytes and numbers are any
 pub data Call : Type 0 where
   judge : Call
   format : (n : ℕ) (name : List ℕ) (geometry : Geometry) → Call
@@ -30,6 +30,7 @@ pub data Call : Type 0 where
   store : (name bytes : List ℕ) → Call
   delete : (name : List ℕ) → Call
   rename : (old new : List ℕ) → Call
+  pack : (buffer : List ℕ) → Call
 
 -- what a call answers with
 abbrev pub Given : Call → Type 0
@@ -49,6 +50,7 @@ Given (unprotect name) = Answer
 Given (store name bytes) = Answer
 Given (delete name) = Answer
 Given (rename old new) = Answer
+Given (pack buffer) = Answer
 
 unfoldable pub summaryNumber : Summary → ℕ
 summaryNumber (summary.Given sectors listed free) = 0
@@ -72,6 +74,7 @@ numberIn (unprotect name) answer = answerNumber answer
 numberIn (store name bytes) answer = answerNumber answer
 numberIn (delete name) answer = answerNumber answer
 numberIn (rename old new) answer = answerNumber answer
+numberIn (pack buffer) answer = answerNumber answer
 
 -- no refusal has the number 0, so that 0 always stands for done
 abbrev pub Plain : (call : Call) → Given call → Type 0
@@ -91,6 +94,7 @@ Plain (unprotect name) given = given ≡ answer.Refused 0 → ⊥
 Plain (store name bytes) given = given ≡ answer.Refused 0 → ⊥
 Plain (delete name) given = given ≡ answer.Refused 0 → ⊥
 Plain (rename old new) given = given ≡ answer.Refused 0 → ⊥
+Plain (pack buffer) given = given ≡ answer.Refused 0 → ⊥
 
 -- the buffer lent to be filled, where there is one
 abbrev pub lent : Call → List ℕ
@@ -110,6 +114,7 @@ lent (unprotect name) = []
 lent (store name bytes) = []
 lent (delete name) = []
 lent (rename old new) = []
+lent (pack buffer) = buffer
 
 pub record Result (call : Call) : Type 0 where
   pub answer : Given call

@@ -11,6 +11,7 @@ use Rattle.rules.specs.Calls.Catalogue.{rowOf}
 use Rattle.rules.specs.Calls.Format.{Geometry, newLabel}
 use Rattle.rules.specs.Calls.Load.{joined}
 use Rattle.rules.specs.Calls.Listing.{listingText}
+use Rattle.rules.specs.Packing.{labelArea}
 use Rattle.rules.specs.declared.Amount.{Amount}
 use Rattle.rules.specs.declared.Amount.the-variants as amount
 use Rattle.rules.specs.declared.Answer.the-variants as answer
@@ -59,6 +60,7 @@ Means (call.unprotect name) image r = Unprotected image (r .image) name
 Means (call.store name bytes) image r = Stored image (r .image) name bytes
 Means (call.delete name) image r = Deleted image (r .image) name
 Means (call.rename old new) image r = Renamed image (r .image) old new
+Means (call.pack buffer) image r = Sound (r .buffer) × (labelArea (r .buffer) ≡ labelArea image) × (catalogue (r .buffer) ≡ catalogue image)
 
 -- what a call leaves as it stood, done or refused: the label, and every file but the one it names; formatting leaves nothing
 unfoldable pub Frame : Call → List ℕ → List ℕ → Type 0
@@ -78,6 +80,7 @@ Frame (call.unprotect name) image after = Kept image after name
 Frame (call.store name bytes) image after = Kept image after name
 Frame (call.delete name) image after = Kept image after name
 Frame (call.rename old new) image after = Kept image after old
+Frame (call.pack buffer) image after = after ≡ image
 
 pub record Demand2 (version : Version) : Type 0 where
   -- an answer is done or a refusal with its number

@@ -140,3 +140,4 @@ grounds (call.rename old new) image =
     ++ (ground 7 (IsName old → ⊥)
     ∷ (ground 7 (IsName new → ⊥)
     ∷ (ground 8 (Present image old → ⊥) ∷ (ground 9 (Present image new) ∷ (ground 10 (Has image old (isProtected image)) ∷ [])))))
+grounds (call.pack buffer) image = faults image ++ (ground 15 (length buffer ≡ length image → ⊥) ∷ [])

@@ -10,3 +10,5 @@ pub mod Reading
 pub mod Demand2
 pub mod Wrong
 pub mod Unique
+pub mod Demand3
+pub mod WrongPacking

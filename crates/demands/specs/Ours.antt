@@ -19,8 +19,8 @@ use Rattle.rules.specs.Calls.Protect.{protectOf, unprotectOf}
 use Rattle.rules.specs.Calls.Store.{storeOf}
 use Rattle.rules.specs.Calls.Delete.{deleteOf}
 use Rattle.rules.specs.Calls.Rename.{renameOf}
-use Rattle.rules.specs.declared.Answer.{Answer}
-use Rattle.demands.specs.Call.{Version, Call, judge, format, freeCount, summarize, entry, read, load, list, create, append, overwrite, protect, unprotect, store, delete, rename}
+use Rattle.rules.specs.Packing.{packNumber, afterPack}
+use Rattle.demands.specs.Call.{Version, Call, judge, format, freeCount, summarize, entry, read, load, list, create, append, overwrite, protect, unprotect, store, delete, rename, pack}
 
 unfoldable pub ours : Version
 ours judge image = record { answer = verdict image; buffer = []; image = image }
@@ -47,3 +47,4 @@ ours (unprotect name) image = record { answer = answerOf (unprotectOf image name
 ours (store name bytes) image = record { answer = answerOf (storeOf image name bytes .number); buffer = []; image = written image (storeOf image name bytes .writes) }
 ours (delete name) image = record { answer = answerOf (deleteOf image name .number); buffer = []; image = written image (deleteOf image name .writes) }
 ours (rename old new) image = record { answer = answerOf (renameOf image old new .number); buffer = []; image = written image (renameOf image old new .writes) }
+ours (pack buffer) image = record { answer = answerOf (packNumber image buffer); buffer = afterPack image buffer; image = image }

@@ -37,6 +37,7 @@ fixed number answered counted summed (call.unprotect name) = answered
 fixed number answered counted summed (call.store name bytes) = answered
 fixed number answered counted summed (call.delete name) = answered
 fixed number answered counted summed (call.rename old new) = answered
+fixed number answered counted summed (call.pack buffer) = answered
 
 -- every call is refused with 1, and image and buffer stay as they were
 unfoldable pub refusesAlways : Version
@@ -69,6 +70,7 @@ oursBut counts appends (call.unprotect name) image = ours (call.unprotect name) 
 oursBut counts appends (call.store name bytes) image = ours (call.store name bytes) image
 oursBut counts appends (call.delete name) image = ours (call.delete name) image
 oursBut counts appends (call.rename old new) image = ours (call.rename old new) image
+oursBut counts appends (call.pack buffer) image = ours (call.pack buffer) image
 
 -- an unsound image is refused as we refuse it, but the free count of a sound volume is the number `free`, whatever the volume
 unfoldable pub inventsFree : ℕ → Version

@@ -1,0 +1,254 @@
+-- A packed image, sector by sector: a packed descriptor keeps the rules and has its data at consecutive places; the descriptors and the data laid end to end are
+-- read back as sectors, so the catalogue of such an image is the list of files that was laid down, and its holders are two runs of sectors.
+use mathlib.Core.Path.{_≡_, refl, sym, ap, _∙_}
+use mathlib.Core.List.{List, [], _∷_, _++_, map, append-assoc, append-nil}
+use Prim.Native.Nat.{ℕ, zero, suc, _+_, _-_, _*_, _≤_, _<_}
+use native.Mathlib.Omega.{arith}
+use lib.ListN.{length, take, length-append, List·getD-append}
+use lib.Seq.{take-at, drop-at, take-all, take-append-le}
+use Rattle.rules.specs.Bytes.{byteAt, wordAt, part}
+use Rattle.rules.specs.Sectors.{sectorOf}
+use Rattle.rules.specs.Name.{IsName}
+use Rattle.rules.specs.Map.{count}
+use Rattle.rules.specs.Chain.{blocks, run, placesFrom, places, Linked}
+use Rattle.rules.specs.Kind.{kindOf, IsStatus, IsKind}
+use Rattle.rules.specs.Descriptor.{nameOf, sectorsOf, chainOf, fileKind, IsDescriptor}
+use Rattle.rules.specs.Volume.{File, placesIn, fileHolders, headerIn, contentsIn, fileIn}
+use Rattle.rules.specs.Calls.Load.{joined}
+use Rattle.rules.specs.Packing.{oneBlock, packedDescriptor, packedDescriptors, packedData, dataSectors}
+use Rattle.rules.specs.declared.Block.{Block}
+use Rattle.rules.proofs.Map.{count-append}
+use Rattle.rules.proofs.Extended.{blocks-over, linked-writable}
+use Rattle.demands.proofs.NewFile.{chainWith, chain-with-length, chain-with-past}
+
+-- a run in two parts
+pub count-runs : (k s first second : ℕ) → count k (run s (first + second)) ≡ count k (run s first) + count k (run (s + first) second)
+unfolding run count
+count-runs k s zero second =
+    let e : s + 0 ≡ s = omega arith in
+    let f : 0 + second ≡ second = omega arith in
+    rw (e, f) (omega arith)
+count-runs k s (suc first) second =
+    let e : s + 1 + first ≡ s + suc first = omega arith in
+    let f : suc first + second ≡ suc (first + second) = omega arith in
+    rw (f, ← e) (omega (arith, count-runs k (s + 1) first second))
+
+-- a sector behind a front of whole sectors
+pub sector-behind : (image front sector rest : List ℕ) (k : ℕ) → image ≡ front ++ (sector ++ rest) → length front ≡ 256 * k → length sector ≡ 256 → sectorOf image k ≡ sector
+unfolding sectorOf
+sector-behind image front sector rest k e long size = rw (e, drop-at front (sector ++ rest) (256 * k) long) (take-at sector rest 256 size)
+
+-- the first part of what is laid behind a front goes to the front
+move-front : (image front first second rest : List ℕ) → image ≡ front ++ ((first ++ second) ++ rest) → image ≡ front ++ (first ++ (second ++ rest))
+move-front image front first second rest e = e ∙ ap (λ (l : List ℕ). front ++ l) (append-assoc first second rest)
+
+moved-front : (image front first second rest : List ℕ) → image ≡ front ++ ((first ++ second) ++ rest) → image ≡ (front ++ first) ++ (second ++ rest)
+moved-front image front first second rest e = move-front image front first second rest e ∙ sym (append-assoc front first (second ++ rest))
+
+-- contents of whole sectors
+unfoldable pub Full : List (List ℕ) → Type 0
+Full [] = Unit {0}
+Full (sector ∷ sectors) = (length sector ≡ 256) × Full sectors
+
+joined-length : (sectors : List (List ℕ)) → Full sectors → length (joined sectors) ≡ 256 * length sectors
+unfolding joined Full
+joined-length [] full = refl
+joined-length (sector ∷ sectors) full = length-append sector (joined sectors) ∙ omega (arith, full .0, joined-length sectors (full .1))
+
+contents-behind : (image front : List ℕ) (sectors : List (List ℕ)) (rest : List ℕ) (k : ℕ) → image ≡ front ++ (joined sectors ++ rest) → length front ≡ 256 * k → Full sectors
+    → map (sectorOf image) (run k (length sectors)) ≡ sectors
+unfolding joined run Full
+contents-behind image front [] rest k e long full = refl
+contents-behind image front (sector ∷ sectors) rest k e long full =
+    let here = sector-behind image front sector (joined sectors ++ rest) k (move-front image front sector (joined sectors) rest e) long (full .0) in
+    let later =
+    contents-behind image (front ++ sector) sectors rest (k + 1) (moved-front image front sector (joined sectors) rest e)
+    (length-append front sector ∙ omega (arith, long, full .0)) (full .1)
+    in
+    rw (here, later)
+
+-- what the catalogue of a sound volume says of a file
+pub record IsListed (file : File) : Type 0 where
+  pub long : length (file .header) ≡ 28
+  pub name : IsName (part (file .header) 0 10)
+  pub status : IsStatus (byteAt (file .header) 12)
+  pub kind : IsKind (kindOf (byteAt (file .header) 12) (wordAt (file .header) 14) (byteAt (file .header) 16) (byteAt (file .header) 17)) (wordAt (file .header) 14)
+  pub sectors : wordAt (file .header) 14 ≡ length (file .contents)
+  pub full : Full (file .contents)
+
+unfoldable pub Each : List File → Type 0
+Each [] = Unit {0}
+Each (file ∷ more) = IsListed file × Each more
+
+-- one block, of c sectors from s on
+one-linked : (n s c : ℕ) → 2 ≤ s → s + c ≤ n → Linked n c 0 (oneBlock s c)
+unfolding oneBlock Linked
+one-linked n s zero low high = refl
+one-linked n s (suc c) low high = (low, omega arith, omega arith, omega arith)
+
+one-places : (s c : ℕ) → placesFrom 0 (oneBlock s c) ≡ run s c
+unfolding oneBlock placesFrom run
+one-places s zero = refl
+one-places s (suc c) =
+    let e : c - 0 + 1 ≡ suc c = omega arith in
+    rw (e, append-nil (run s (suc c)))
+
+one-short : (s c : ℕ) → length (oneBlock s c) ≤ 1
+unfolding oneBlock
+one-short s zero = omega arith
+one-short s (suc c) = omega arith
+
+-- a header and a chain behind it, over any header of 28 bytes
+module _ (header chain : List ℕ) (long : length header ≡ 28) (size : length chain ≡ 228) where
+  behind-length : length (header ++ chain) ≡ 256
+  behind-length = length-append header chain ∙ omega arith
+
+  behind-header : part (header ++ chain) 0 28 ≡ header
+  behind-header = take-at header chain 28 long
+
+  behind-byte : (i : ℕ) → i < 28 → byteAt (header ++ chain) i ≡ byteAt header i
+  behind-byte i h = List·getD-append header chain 0 i (omega arith)
+
+  behind-name : nameOf (header ++ chain) ≡ part header 0 10
+  unfolding nameOf
+  behind-name = take-append-le 10 header chain (omega arith)
+
+  behind-chain : chainOf (header ++ chain) ≡ chain
+  unfolding chainOf
+  behind-chain = ap (take 228) (drop-at header chain 28 long) ∙ take-all 228 chain (omega arith)
+
+  behind-sectors : sectorsOf (header ++ chain) ≡ wordAt header 14
+  behind-sectors = omega (arith, behind-byte 14 (omega arith), behind-byte 15 (omega arith))
+
+  behind-kind : fileKind (header ++ chain) ≡ kindOf (byteAt header 12) (wordAt header 14) (byteAt header 16) (byteAt header 17)
+  unfolding fileKind
+  behind-kind = rw (behind-sectors, behind-byte 12 (omega arith), behind-byte 16 (omega arith), behind-byte 17 (omega arith))
+
+module _ (n s : ℕ) (file : File) (listed : IsListed file) (small : n ≤ 1600) (low : 2 ≤ s) (high : s + length (file .contents) ≤ n) where
+  abbrev bs : List Block
+  bs = oneBlock s (length (file .contents))
+
+  chain-blocks : blocks (chainWith bs) ≡ bs
+  chain-blocks =
+      blocks-over 228 bs (linked-writable n (length (file .contents)) 0 bs (omega arith) (omega arith) (one-linked n s (length (file .contents)) low high))
+      (omega (arith, one-short s (length (file .contents))))
+
+  packed-places : places (chainOf (packedDescriptor s file)) ≡ run s (length (file .contents))
+  unfolding packedDescriptor places
+  packed-places =
+      ap (placesFrom 0) (ap blocks (behind-chain (file .header) (chainWith bs) (listed .long) (chain-with-length bs)) ∙ chain-blocks) ∙ one-places s (length (file .contents))
+
+  packed-descriptor : IsDescriptor n (packedDescriptor s file)
+  unfolding packedDescriptor
+  packed-descriptor =
+      let long = listed .long in
+      let size = chain-with-length bs in
+      record {
+        name = rw (behind-name (file .header) (chainWith bs) long size) (listed .name);
+        status = rw (behind-byte (file .header) (chainWith bs) long size 12 (omega arith)) (listed .status);
+        kind = rw (behind-kind (file .header) (chainWith bs) long size, behind-sectors (file .header) (chainWith bs) long size) (listed .kind);
+        chain = rw (behind-sectors (file .header) (chainWith bs) long size, behind-chain (file .header) (chainWith bs) long size, listed .sectors)
+            (record {
+              linked = rw chain-blocks (one-linked n s (length (file .contents)) low high);
+              rest = λ i h. chain-with-past bs i (omega (arith, h, ap length chain-blocks));
+            });
+      }
+
+packed-length : (s : ℕ) (file : File) → IsListed file → length (packedDescriptor s file) ≡ 256
+unfolding packedDescriptor
+packed-length s file listed = behind-length (file .header) (chainWith (oneBlock s (length (file .contents)))) (listed .long) (chain-with-length (oneBlock s (length (file .contents))))
+
+packed-header : (s : ℕ) (file : File) → IsListed file → part (packedDescriptor s file) 0 28 ≡ file .header
+unfolding packedDescriptor
+packed-header s file listed = behind-header (file .header) (chainWith (oneBlock s (length (file .contents)))) (listed .long) (chain-with-length (oneBlock s (length (file .contents))))
+
+-- Files laid down in an image: descriptors at consecutive sectors from d on, the data of the first from s on and that of the others behind it.
+unfoldable pub Laid : List ℕ → ℕ → ℕ → List File → Type 0
+Laid image d s [] = Unit {0}
+Laid image d s (file ∷ more) =
+    (sectorOf image d ≡ packedDescriptor s file)
+    × (map (sectorOf image) (run s (length (file .contents))) ≡ file .contents)
+    × Laid image (d + 1) (s + length (file .contents)) more
+
+-- so they stand in an image that has the descriptors behind d sectors and the data behind s sectors
+pub laid : (image front rest front′ rest′ : List ℕ) (d s : ℕ) (files : List File) → image ≡ front ++ (packedDescriptors s files ++ rest)
+    → image ≡ front′ ++ (packedData files ++ rest′) → length front ≡ 256 * d → length front′ ≡ 256 * s → Each files → Laid image d s files
+unfolding Laid Each packedDescriptors packedData
+laid image front rest front′ rest′ d s [] e e′ long long′ each = tt
+laid image front rest front′ rest′ d s (file ∷ more) e e′ long long′ each =
+    let c = length (file .contents) in
+    let first = packedDescriptor s file in
+    let size = packed-length s file (each .0) in
+    let size′ = joined-length (file .contents) (each .0 .full) in (
+      sector-behind image front first (packedDescriptors (s + c) more ++ rest) d (move-front image front first (packedDescriptors (s + c) more) rest e) long size,
+      contents-behind image front′ (file .contents) (packedData more ++ rest′) s (move-front image front′ (joined (file .contents)) (packedData more) rest′ e′) long′ (each .0 .full),
+      laid image (front ++ first) rest (front′ ++ joined (file .contents)) rest′ (d + 1) (s + c) more
+          (moved-front image front first (packedDescriptors (s + c) more) rest e)
+          (moved-front image front′ (joined (file .contents)) (packedData more) rest′ e′)
+          (length-append front first ∙ omega (arith, long, size)) (length-append front′ (joined (file .contents)) ∙ omega (arith, long′, size′)) (each .1),
+    )
+
+-- how long they are
+pub descriptors-length : (s : ℕ) (files : List File) → Each files → length (packedDescriptors s files) ≡ 256 * length files
+unfolding Each packedDescriptors
+descriptors-length s [] each = refl
+descriptors-length s (file ∷ more) each =
+    let c = length (file .contents) in
+    length-append (packedDescriptor s file) (packedDescriptors (s + c) more) ∙ omega (arith, packed-length s file (each .0), descriptors-length (s + c) more (each .1))
+
+pub data-length : (files : List File) → Each files → length (packedData files) ≡ 256 * dataSectors files
+unfolding Each packedData dataSectors
+data-length [] each = refl
+data-length (file ∷ more) each =
+    length-append (joined (file .contents)) (packedData more) ∙ omega (arith, joined-length (file .contents) (each .0 .full), data-length more (each .1))
+
+same-file : (header header′ : List ℕ) (contents contents′ : List (List ℕ)) → header ≡ header′ → contents ≡ contents′
+    → _≡_ {A = File} (record { header = header; contents = contents }) (record { header = header′; contents = contents′ })
+same-file header header′ contents contents′ p q = rw (p, q)
+
+-- What is read of them.
+module _ (n : ℕ) (image : List ℕ) (small : n ≤ 1600) where
+  laid-places : (d s : ℕ) (file : File) → IsListed file → 2 ≤ s → s + length (file .contents) ≤ n → sectorOf image d ≡ packedDescriptor s file
+      → placesIn image d ≡ run s (length (file .contents))
+  unfolding placesIn
+  laid-places d s file listed low high is = rw is (packed-places n s file listed small low high)
+
+  laid-file : (d s : ℕ) (file : File) → IsListed file → 2 ≤ s → s + length (file .contents) ≤ n → sectorOf image d ≡ packedDescriptor s file
+      → map (sectorOf image) (run s (length (file .contents))) ≡ file .contents → fileIn image d ≡ file
+  unfolding fileIn headerIn contentsIn
+  laid-file d s file listed low high is there =
+      same-file (part (sectorOf image d) 0 28) (file .header) (map (sectorOf image) (placesIn image d)) (file .contents)
+      (rw is (packed-header s file listed)) (rw (laid-places d s file listed low high is) there)
+
+  -- they are the files of those descriptors, in their order
+  pub laid-files : (d s : ℕ) (files : List File) → Each files → 2 ≤ s → s + dataSectors files ≤ n → Laid image d s files → map (fileIn image) (run d (length files)) ≡ files
+  unfolding Laid Each dataSectors run
+  laid-files d s [] each low high is = refl
+  laid-files d s (file ∷ more) each low high is =
+      rw (
+        laid-file d s file (each .0) low (omega arith) (is .0) (is .1),
+        laid-files (d + 1) (s + length (file .contents)) more (each .1) (omega arith) (omega arith) (is .2),
+      )
+
+  pub laid-descriptor : (d s : ℕ) (files : List File) → Each files → 2 ≤ s → s + dataSectors files ≤ n → Laid image d s files → (p : ℕ) → p < length files
+      → IsDescriptor n (sectorOf image (d + p))
+  unfolding Laid Each dataSectors
+  laid-descriptor d s [] each low high is p h = absurd (omega arith)
+  laid-descriptor d s (file ∷ more) each low high is zero h =
+      let e : d + 0 ≡ d = omega arith in
+      rw (e, is .0) (packed-descriptor n s file (each .0) small low (omega arith))
+  laid-descriptor d s (file ∷ more) each low high is (suc p) h =
+      let e : d + 1 + p ≡ d + suc p = omega arith in
+      rw (← e) (laid-descriptor (d + 1) (s + length (file .contents)) more (each .1) (omega arith) (omega arith) (is .2) p (omega arith))
+
+  -- the descriptors hold a run of sectors, and the data another
+  pub laid-holders : (k d s : ℕ) (files : List File) → Each files → 2 ≤ s → s + dataSectors files ≤ n → Laid image d s files
+      → count k (fileHolders image (run d (length files))) ≡ count k (run d (length files)) + count k (run s (dataSectors files))
+  unfolding Laid Each dataSectors run fileHolders count
+  laid-holders k d s [] each low high is = refl
+  laid-holders k d s (file ∷ more) each low high is =
+      let c = length (file .contents) in
+      let rest = laid-holders k (d + 1) (s + c) more (each .1) (omega arith) (omega arith) (is .2) in
+      let places = laid-places d s file (each .0) low (omega arith) (is .0) in
+      let split = count-append k (run s c) (fileHolders image (run (d + 1) (length more))) in
+      rw places (omega (arith, rest, split, count-runs k s c (dataSectors more)))

@@ -1,0 +1,48 @@
+-- Demand 3, a statement about any version of packing, over the catalogue of demand 2: packing gives the one laid down form. Equal packed bytes exactly for equal label areas and catalogues; the same catalogue as the original; packing again changes nothing.
+use mathlib.Core.Path.{_≡_}
+use mathlib.Core.Logic.{_↔_}
+use mathlib.Core.List.{List}
+use Prim.Native.Nat.{ℕ}
+use lib.ListN.{length}
+use Rattle.rules.specs.Volume.{catalogue}
+use Rattle.rules.specs.Verdict.{verdict}
+use Rattle.rules.specs.Sound.{Sound}
+use Rattle.rules.specs.Packing.{labelArea, packNumber, afterPack}
+
+-- what packing answers, and the whole target afterwards
+pub record Packed : Type 0 where
+  pub number : ℕ
+  pub target : List ℕ
+
+abbrev pub Packing : Type 0
+Packing = (source target : List ℕ) → Packed
+
+-- a source and a target that can be packed: the source is sound, and the target has its length
+pub record Packable (source target : List ℕ) : Type 0 where
+  pub sound : Sound source
+  pub long : length target ≡ length source
+
+pub record Demand3 (pack : Packing) : Type 0 where
+  -- 0 exactly where it can be packed; otherwise the number of the source, 1 to 6, and 15 for a target of another length
+  pub done : (source target : List ℕ) → (pack source target .number ≡ 0) ↔ Packable source target
+  pub judged : (source target : List ℕ) → (Sound source → ⊥) → pack source target .number ≡ verdict source
+  pub measured : (source target : List ℕ) → Sound source → (length target ≡ length source → ⊥) → pack source target .number ≡ 15
+  -- a refusal leaves the target as it was
+  pub refuses : (source target : List ℕ) → (pack source target .number ≡ 0 → ⊥) → pack source target .target ≡ target
+  -- the packed image is sound, and has the length, the label area and the catalogue of its original
+  pub sound : (source target : List ℕ) → Packable source target → Sound (pack source target .target)
+  pub size : (source target : List ℕ) → Packable source target → length (pack source target .target) ≡ length source
+  pub label : (source target : List ℕ) → Packable source target → labelArea (pack source target .target) ≡ labelArea source
+  pub listed : (source target : List ℕ) → Packable source target → catalogue (pack source target .target) ≡ catalogue source
+  -- packing it again changes nothing
+  pub again : (source target other : List ℕ) → Packable source target → length other ≡ length source
+      → (pack (pack source target .target) other .number ≡ 0) × (pack (pack source target .target) other .target ≡ pack source target .target)
+  -- one form: equal bytes exactly for equal label areas and catalogues
+  pub form : (first second target other : List ℕ) → Packable first target → Packable second other
+      → (pack first target .target ≡ pack second other .target) ↔ ((labelArea first ≡ labelArea second) × (catalogue first ≡ catalogue second))
+  -- nothing of the target's old bytes shows
+  pub fresh : (source target other : List ℕ) → Packable source target → Packable source other → pack source target .target ≡ pack source other .target
+
+-- the software's version: the rules
+unfoldable pub packs : Packing
+packs source target = record { number = packNumber source target; target = afterPack source target }
