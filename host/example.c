@@ -1,5 +1,5 @@
 /*
- * A host program: shows what is on a disk image, and takes files from it and puts files on it.
+ * A host program: shows what is on a disk image, takes files from it, puts files on it, and packs it.
  *
  *     rt staticlib pnoelithe
  *     cc -Iinclude host/example.c target/staticlib/libpnoelithe.a -o example
@@ -9,6 +9,7 @@
  *     ./example IMAGE append NAME FILE       FILE at the end of the data file NAME, which is made where there is
  *                                            none; the rest of the last sector is zero
  *     ./example IMAGE delete NAME
+ *     ./example IMAGE pack FILE              the packed volume into FILE; IMAGE stays as it is
  */
 #include <stdio.h>
 #include <stdlib.h>
@@ -86,6 +87,14 @@ static uint32_t delete(const uint8_t name[10], const char *path) {
     return pno_delete(image, image_len, name, 10);
 }
 
+static uint32_t pack(const uint8_t name[10], const char *path) {
+    (void)name;
+    uint32_t number = pno_pack(image, image_len, bytes, image_len);
+    if (number == PNO_DONE)
+        write_file(path, bytes, image_len);
+    return number;
+}
+
 /* The ten bytes of a name; one that is too long has none, and is left blank, which no name is. */
 static void pad(uint8_t padded[10], const char *name) {
     size_t length = strlen(name);
@@ -118,10 +127,11 @@ static int refused(uint32_t number) {
 
 static const struct command {
     const char *word;
-    int words; /* of the command line */
-    int writes;
+    int words;  /* of the command line: the first after the command as a name, the last as a path */
+    int writes; /* the image, which then goes back to its file */
     uint32_t (*call)(const uint8_t name[10], const char *path);
-} commands[] = {{"load", 5, 0, load}, {"store", 5, 1, store}, {"append", 5, 1, append}, {"delete", 4, 1, delete}};
+} commands[] = {{"load", 5, 0, load}, {"store", 5, 1, store}, {"append", 5, 1, append},
+                {"delete", 4, 1, delete}, {"pack", 4, 0, pack}};
 
 int main(int argc, char **argv) {
     const struct command *command = NULL;
@@ -129,7 +139,7 @@ int main(int argc, char **argv) {
         if (argc == commands[i].words && strcmp(argv[2], commands[i].word) == 0)
             command = &commands[i];
     if (argc != 2 && command == NULL) {
-        fprintf(stderr, "usage: example IMAGE [(load | store | append) NAME FILE | delete NAME]\n");
+        fprintf(stderr, "usage: example IMAGE [(load | store | append) NAME FILE | delete NAME | pack FILE]\n");
         return 2;
     }
     image_len = read_file(argv[1], image, sizeof image);
@@ -139,7 +149,7 @@ int main(int argc, char **argv) {
     } else {
         uint8_t name[10];
         pad(name, argv[3]);
-        number = command->call(name, argv[4]);
+        number = command->call(name, argv[argc - 1]);
     }
     if (number != PNO_DONE)
         return refused(number);

@@ -40,7 +40,8 @@ enum pno_number {
     PNO_PROTECTED = 10,   /* the file is protected */
     PNO_NOT_PROGRAM = 14, /* the file is not a program; append and overwrite: it is one */
     PNO_SIZE = 15,        /* a buffer is too short, or data too long or not 256 bytes; the file has no sector
-                             at that offset; no file can be created with that status */
+                             at that offset; no file can be created with that status; the target of
+                             packing is not as long as its source */
     PNO_INDEX_FULL = 11,  /* there are 127 files already */
     PNO_DISK_FULL = 12,   /* fewer sectors are free than the call takes */
     PNO_CHAIN_FULL = 13   /* the file's chain would need a 77th block */
@@ -212,6 +213,18 @@ uint32_t pno_rename(uint8_t *image, size_t image_len, const uint8_t *old, size_t
  */
 uint32_t pno_protect(uint8_t *image, size_t image_len, const uint8_t *name, size_t name_len);
 uint32_t pno_unprotect(uint8_t *image, size_t image_len, const uint8_t *name, size_t name_len);
+
+/*
+ * Packs a volume into another image of the same length, whatever bytes that had: the target is then a sound
+ * volume with the source's label, files and contents, and has nothing else on it. Bytes 0 to 55 of sector 0 are
+ * the source's. The descriptors lie from sector 2 on in the order of names, bytes 0 to 27 of each as they were;
+ * the data of all files follows in that order without a gap, in one block a file; every free sector is E5 hex.
+ * So volumes that differ only in where things lie, and in what is left in free sectors, pack to the same bytes,
+ * and packing what was packed changes nothing. The source is read and never changed.
+ *
+ * Numbers: 1 to 6 for the source; 15 where target_len is not source_len.
+ */
+uint32_t pno_pack(const uint8_t *source, size_t source_len, uint8_t *target, size_t target_len);
 
 #ifdef __cplusplus
 }

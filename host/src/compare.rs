@@ -1,14 +1,15 @@
 //! Compares the library with both judges of this folder on many thousand images, and all three
 //! with the number that the paper gives where the image was built to have one; then its other
-//! calls with the reference and with the plans of disks; then sequences of calls that write.
+//! calls with the reference and with the plans of disks; then sequences of calls that write; then
+//! packing.
 //!
-//! `compare [--images N] [--calls N] [--sequences N] [--seed S] [IMAGE...]`
+//! `compare [--images N] [--calls N] [--sequences N] [--packs N] [--seed S] [IMAGE...]`
 
 use host::random::Random;
 use host::reference::{self, Descriptor, Form, Kind};
 use host::suites::{edges_of_a_block, of_every_value, Batch, Image};
 use host::volumes::{Disk, File, MOST_BLOCKS, MOST_FILES, MOST_SECTORS, SECTOR_BYTES};
-use host::{calls, library, sequences, tuned};
+use host::{calls, library, packing, sequences, tuned};
 use std::path::PathBuf;
 use std::process::ExitCode;
 
@@ -33,20 +34,23 @@ struct Arguments {
     calls: u64,
     /// How many calls the sequences have together.
     sequences: u64,
+    packs: u64,
     seed: u64,
     files: Vec<PathBuf>,
 }
 
 impl Arguments {
     fn read() -> Result<Self, String> {
-        let (images, calls, sequences) = (200_000, 200_000, 200_000);
-        let mut arguments = Arguments { images, calls, sequences, seed: 1, files: Vec::new() };
+        let (images, calls, sequences, packs) = (200_000, 200_000, 200_000, 5_000);
+        let (seed, files) = (1, Vec::new());
+        let mut arguments = Arguments { images, calls, sequences, packs, seed, files };
         let mut words = std::env::args().skip(1);
         while let Some(word) = words.next() {
             match word.as_str() {
                 "--images" => arguments.images = number_after(&word, words.next())?,
                 "--calls" => arguments.calls = number_after(&word, words.next())?,
                 "--sequences" => arguments.sequences = number_after(&word, words.next())?,
+                "--packs" => arguments.packs = number_after(&word, words.next())?,
                 "--seed" => arguments.seed = number_after(&word, words.next())?,
                 _ => arguments.files.push(PathBuf::from(word)),
             }
@@ -66,7 +70,9 @@ fn run(arguments: &Arguments) -> Result<(), String> {
     println!();
     compare_calls(arguments, &outside)?;
     println!();
-    compare_sequences(arguments, &outside)
+    compare_sequences(arguments, &outside)?;
+    println!();
+    compare_packing(arguments, &outside)
 }
 
 /// An image from outside, with what is expected of it where that lies beside it.
@@ -129,6 +135,15 @@ fn compare_sequences(arguments: &Arguments, outside: &[Outside]) -> Result<(), S
     let mut comparison = sequences::Comparison::new(arguments.seed);
     comparison.run(arguments.sequences)?;
     outside.iter().try_for_each(|outside| comparison.outside(&outside.image))?;
+    comparison.report()
+}
+
+fn compare_packing(arguments: &Arguments, outside: &[Outside]) -> Result<(), String> {
+    let mut comparison = packing::Comparison::new(arguments.seed);
+    comparison.run(arguments.packs)?;
+    for Outside { name, image, .. } in outside {
+        comparison.outside(name, image)?;
+    }
     comparison.report()
 }
 

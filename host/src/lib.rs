@@ -4,6 +4,7 @@
 pub mod calls;
 pub mod damage;
 pub mod library;
+pub mod packing;
 pub mod random;
 pub mod reference;
 pub mod sequences;

@@ -123,6 +123,12 @@ mod imported {
             new_name: *const u8,
             new_len: usize,
         ) -> u32;
+        pub fn pno_pack(
+            source: *const u8,
+            source_len: usize,
+            target: *mut u8,
+            target_len: usize,
+        ) -> u32;
     }
 }
 
@@ -310,5 +316,11 @@ pub fn rename(image: &mut [u8], old: &mut [u8], new: &mut [u8]) -> u32 {
             new.as_mut_ptr(),
             new.len(),
         )
+    }
+}
+
+pub fn pack(source: &mut [u8], target: &mut [u8]) -> u32 {
+    unsafe {
+        imported::pno_pack(source.as_mut_ptr(), source.len(), target.as_mut_ptr(), target.len())
     }
 }

@@ -2,13 +2,15 @@
 //! compared with and measured against. `volume` reads bytes by the layout and refuses nothing;
 //! `judge` holds what was read to the rules, in the order of the paper's numbers. The calls stand
 //! on both: an answer is a value, and what it has to fit into comes as a length. The calls that
-//! write take sectors by the rules of `choice` and lay bytes down through a `draft`.
+//! write take sectors by the rules of `choice` and lay bytes down through a `draft`; packing lays
+//! all of a volume down anew.
 
 mod choice;
 mod draft;
 mod format;
 mod judge;
 mod listing;
+mod packing;
 mod reading;
 mod refusal;
 mod volume;
@@ -17,6 +19,7 @@ mod writing;
 pub use format::{format, Geometry};
 pub use judge::{judge, number};
 pub use listing::{catalogue, listing};
+pub use packing::pack;
 pub use reading::{entry, free_count, load, read, summary, Entry, Row, Summary};
 pub use refusal::Refusal;
 pub use volume::{Block, Chain, Descriptor, Form, Index, Kind, Label, Name, Sector, Volume};

@@ -13,6 +13,10 @@ mod starts;
 mod tally;
 
 pub use comparison::Comparison;
+pub(crate) use comparison::{built, left_by_calls};
+pub(crate) use plan::of_image;
+pub(crate) use shelf::Shelf;
+pub(crate) use starts::damaged;
 
 use crate::calls::Given;
 use crate::reference::{self, Refusal};

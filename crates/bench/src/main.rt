@@ -7,13 +7,16 @@
 use changing::append;
 use descriptor::chain::place_at;
 use filing::create;
+use filing::delete;
 use formatting::format::Geometry;
 use formatting::format::format;
 use judge::judge;
 use libc::STDOUT_FILENO;
 use listing::listing;
+use packing::pack;
 use rules::Amount;
 use rules::Answer;
+use sector::bytes::all_are;
 use sector::bytes::part;
 use sector::bytes::sector_of;
 use storing::store;
@@ -135,6 +138,30 @@ fn case_13() -> bool {
         && write_line(b"13 32769 bytes stored", number_of(refused))
 }
 
+// 1 where every byte from sector 2 on is E5 hex, else 0.
+fn blank_files(image: &[u8]) -> u32 {
+    if all_are(0xE5, image, 512) {
+        return 1;
+    }
+    0
+}
+
+fn case_14() -> bool {
+    let mut image = [0u8; 8960];
+    let formatted = format(&mut image, 35, b"BENCH     ", one_side(5, 7));
+    let bytes = [0x44u8; 300];
+    let stored = store(&mut image, b"GONE      ", &bytes);
+    let deleted = delete(&mut image, b"GONE      ");
+    let mut target = [0u8; 8960];
+    let packed = pack(&image, &mut target);
+    write_line(b"14 35 sectors, formatted", number_of(formatted))
+        && write_line(b"14 a program stored", number_of(stored))
+        && write_line(b"14 and deleted", number_after(deleted, &image))
+        && write_line(b"14 all E5 from sector 2 on", blank_files(&image))
+        && write_line(b"14 packed", number_after(packed, &target))
+        && write_line(b"14 all E5 from sector 2 on, packed", blank_files(&target))
+}
+
 // The listing of an image, or its number.
 fn write_listing(image: &[u8]) -> bool {
     let mut text = [0u8; 4608];
@@ -166,6 +193,7 @@ fn write_cases() -> bool {
         && case_11()
         && case_12()
         && case_13()
+        && case_14()
         && case_m()
 }
 

@@ -24,6 +24,7 @@ ghost use Rattle.rules.specs.Calls.Protect.{protectOf, unprotectOf};
 ghost use Rattle.rules.specs.Calls.Store.{storeOf};
 ghost use Rattle.rules.specs.Calls.Delete.{deleteOf};
 ghost use Rattle.rules.specs.Calls.Rename.{renameOf};
+ghost use Rattle.rules.specs.Packing.{packNumber, afterPack};
 ghost use Rattle.pnoelithe.specs.Crossing.{kindNumber, flag};
 
 mod crossing;
@@ -232,4 +233,12 @@ pub extern "C" fn pno_rename(image: &mut [u8], old: &[u8], new: &[u8]) -> u32
     ensures { λ r. ⌜ (r ≡ renameOf (now (image .entry)) (now (old .entry)) (now (new .entry)) .number) × (now (image .exit) ≡ written (now (image .entry)) (renameOf (now (image .entry)) (now (old .entry)) (now (new .entry)) .writes)) ⌝ }
 {
     answer_number(filing::rename(image, old, new))
+}
+
+// The packed form of the source, in the target.
+#[no_mangle]
+pub extern "C" fn pno_pack(source: &[u8], target: &mut [u8]) -> u32
+    ensures { λ r. ⌜ (r ≡ packNumber (now (source .entry)) (now (target .entry))) × (now (target .exit) ≡ afterPack (now (source .entry)) (now (target .entry))) ⌝ }
+{
+    answer_number(packing::pack(source, target))
 }

@@ -20,7 +20,8 @@ pub enum Refusal {
     /// A program is asked for and the file is not one, or data is and it is a program.
     Kind = 14,
     /// An offset not below c, a status that cannot be created, bytes to write that are too many or
-    /// not a sector's, or a buffer too short for what it is to be filled with.
+    /// not a sector's, a buffer too short for what it is to be filled with, or a target that is not
+    /// of the source's length.
     Argument = 15,
     /// 127 files are present.
     IndexFull = 11,

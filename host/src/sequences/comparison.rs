@@ -10,7 +10,7 @@ use crate::calls::planned::is_good;
 use crate::calls::{Call, Given};
 use crate::random::Random;
 use crate::reference::{self, Geometry};
-use crate::volumes::{names, Name, MOST_SECTORS, SECTOR_BYTES};
+use crate::volumes::{names, Disk, Name, MOST_SECTORS, SECTOR_BYTES};
 
 /// How many calls a sequence has on a sound disk, how many where it is a long one, and how many
 /// then on an unsound image.
@@ -90,6 +90,24 @@ impl Comparison {
         );
         Ok(())
     }
+}
+
+/// A sound disk of any sort that sequences begin on.
+pub(crate) fn built(sectors: usize, random: &mut Random) -> Disk {
+    starts::any(sectors, random).disk
+}
+
+/// The volume that a sequence leaves, after so many calls that come and go.
+pub(crate) fn left_by_calls(
+    sectors: usize,
+    calls: usize,
+    random: &mut Random,
+) -> Result<Disk, String> {
+    let sequence = Sequence::on(built(sectors, random), random);
+    let pool = names(POOL, random);
+    let mut steps = Steps { sequence, pool, random, tally: &mut Tally::default() };
+    steps.steps(&WEARING, calls)?;
+    Ok(steps.sequence.disk)
 }
 
 /// A sequence that runs.

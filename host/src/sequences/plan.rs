@@ -180,7 +180,7 @@ fn write_data(disk: &mut Disk, write: &Write) {
 }
 
 /// The plan of an image that was not built from one, as the reference reads it.
-pub(super) fn of_image(image: &[u8]) -> Option<Disk> {
+pub(crate) fn of_image(image: &[u8]) -> Option<Disk> {
     let volume = reference::judge(image).ok()?;
     let file = |(descriptor, described): (usize, reference::Descriptor)| File {
         descriptor,

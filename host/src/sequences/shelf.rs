@@ -13,14 +13,14 @@ struct Shelved {
     bytes: Vec<u8>,
 }
 
-pub(super) struct Shelf {
+pub(crate) struct Shelf {
     files: BTreeMap<Name, Shelved>,
     free: usize,
 }
 
 impl Shelf {
     /// Of a sound volume, as the reference reads it; of any other, nothing.
-    pub(super) fn of(image: &[u8]) -> Self {
+    pub(crate) fn of(image: &[u8]) -> Self {
         let mut shelf = Shelf { files: BTreeMap::new(), free: 0 };
         if let Ok(volume) = reference::judge(image) {
             shelf.free = volume.label().free_sectors();
@@ -73,7 +73,7 @@ impl Shelf {
     }
 
     /// Whether the reference finds just this on an image.
-    pub(super) fn is_on(&self, image: &[u8]) -> bool {
+    pub(crate) fn is_on(&self, image: &[u8]) -> bool {
         let volume = match reference::judge(image) {
             Ok(volume) => volume,
             Err(_) => return false,

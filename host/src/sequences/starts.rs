@@ -91,7 +91,7 @@ fn comb(sectors: usize, random: &mut Random) -> Disk {
 }
 
 /// The image of a sound disk, damaged to one of the numbers 1 to 6 or, now and then, by chance.
-pub(super) fn damaged(disk: &Disk, random: &mut Random) -> Result<Vec<u8>, String> {
+pub(crate) fn damaged(disk: &Disk, random: &mut Random) -> Result<Vec<u8>, String> {
     let mut damage = Damage::new(disk);
     damage.of_every_sort(random);
     let wanted = random.within(1..=6) as u32;

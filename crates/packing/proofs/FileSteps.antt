@@ -1,0 +1,166 @@
+-- The loops over the files: what the files from byte `at` of sector 1 on still give, at the start, a file further, and where no number is left.
+use mathlib.Core.Path.{_≡_, refl, sym, ap, _∙_}
+use mathlib.Core.List.{List, [], _∷_, map}
+use Prim.Native.Nat.{ℕ, _+_, _*_, _≤_, _<_}
+use native.Mathlib.Omega.{arith}
+use lib.ListN.{length, drop, length-append, length-map}
+use Rattle.rules.specs.Bytes.{wordAt, splice}
+use Rattle.rules.specs.Sectors.{sectorOf, sectorCount}
+use Rattle.rules.specs.Descriptor.{sectorsOf, IsDescriptor}
+use Rattle.rules.specs.Index.{numbers}
+use Rattle.rules.specs.Volume.{File, files, fileIn, catalogue}
+use Rattle.rules.specs.Sound.{Sound}
+use Rattle.rules.specs.Calls.Load.{joined}
+use Rattle.rules.specs.Packing.{packedDescriptor, packedDescriptors, packedData, dataSectors, packedSectors}
+use Rattle.rules.proofs.Bytes.{part-short}
+use Rattle.rules.proofs.Splice.{splice-append, splice-length, splice-none}
+use Rattle.rules.proofs.Indexed.{numbers-read}
+use Rattle.packing.proofs.FileLaws.{Kept, all-kept, first-kept, rest-kept, contents-count, descriptor-length}
+
+abbrev pub filesFrom : List ℕ → List ℕ → ℕ → List File
+filesFrom image sector1 at = map (fileIn image) (numbers (drop at sector1))
+
+-- the numbers from byte `at` on are of files
+pub record Rest (image sector1 : List ℕ) (at : ℕ) : Type 0 where
+  pub inside : at ≤ length sector1
+  pub short : length sector1 ≤ 256
+  pub kept : Kept image (numbers (drop at sector1))
+
+-- a number was read at byte `at`, and it is of a file
+pub record Read (image sector1 : List ℕ) (at k : ℕ) : Type 0 where
+  pub ahead : numbers (drop at sector1) ≡ k ∷ numbers (drop (at + 2) sector1)
+  pub inside : k < sectorCount image
+  pub descriptor : IsDescriptor (sectorCount image) (sectorOf image k)
+  pub rest : Rest image sector1 (at + 2)
+
+pub rest-start : (image sector1 : List ℕ) → Sound image → sector1 ≡ sectorOf image 1 → Rest image sector1 0
+unfolding files sectorOf
+rest-start image sector1 is e = record { inside = omega arith; short = rw e (part-short image 256 256); kept = rw e (all-kept image is) }
+
+pub rest-read : {image sector1 : List ℕ} {at k : ℕ} → Rest image sector1 at → at + 2 ≤ length sector1 → k ≡ wordAt sector1 at → (k ≡ 0 → ⊥) → Read image sector1 at k
+rest-read {image} {sector1} {at} {k} rest here is some =
+    let ahead = numbers-read sector1 at k here is some in
+    let kept : Kept image (k ∷ numbers (drop (at + 2) sector1)) = rw ahead at (rest .kept) in
+    record { ahead = ahead; inside = first-kept kept .0; descriptor = first-kept kept .1; rest = record { inside = here; short = rest .short; kept = rest-kept kept } }
+
+-- counting: what was counted, with what the files from `at` on are to add, is the whole
+pub record Counted (image sector1 : List ℕ) (at many used : ℕ) : Type 0 where
+  pub rest : Rest image sector1 at
+  pub few : many ≤ at
+  pub many-is : many + length (numbers (drop at sector1)) ≡ length (files image)
+  pub used-is : used + length (numbers (drop at sector1)) + dataSectors (filesFrom image sector1 at) ≡ packedSectors (catalogue image)
+
+pub counted-start : (image sector1 : List ℕ) → Sound image → sector1 ≡ sectorOf image 1 → Counted image sector1 0 0 2
+unfolding files catalogue packedSectors
+counted-start image sector1 is e =
+    record { rest = rest-start image sector1 is e; few = omega arith; many-is = rw e (omega arith); used-is = rw e (omega (arith, length-map (files image) (fileIn image))) }
+
+pub counted-step : {image sector1 : List ℕ} {at many used k sectors : ℕ} → Counted image sector1 at many used → Read image sector1 at k → sectors ≡ sectorsOf (sectorOf image k)
+    → Counted image sector1 (at + 2) (many + 1) (used + (1 + sectors))
+unfolding dataSectors
+counted-step {image} {sector1} {at} {many} {used} {k} {sectors} counted read is =
+    let here = contents-count image k (read .descriptor) in
+    let many-is = rw (read .ahead) at (counted .many-is) in
+    let used-is = rw (read .ahead) at (counted .used-is) in
+    record { rest = read .rest; few = omega (arith, counted .few); many-is = omega (arith, many-is); used-is = omega (arith, used-is, here, is) }
+
+pub counted-end : {image sector1 : List ℕ} {at many used : ℕ} → Counted image sector1 at many used → numbers (drop at sector1) ≡ []
+    → (many ≡ length (files image)) × (used ≡ packedSectors (catalogue image))
+unfolding dataSectors
+counted-end counted none =
+    let many-is = rw none at (counted .many-is) in
+    let used-is = rw none at (counted .used-is) in
+    (omega (arith, many-is), omega (arith, used-is))
+
+-- laying the descriptors: those of the files from `at` on, laid from `to` on, give what all give
+pub record Described (image sector1 before after : List ℕ) (at start to : ℕ) : Type 0 where
+  pub rest : Rest image sector1 at
+  pub kept : length after ≡ length before
+  pub to-is : to ≡ 512 + 128 * at
+  pub start-is : start + dataSectors (filesFrom image sector1 at) ≡ packedSectors (catalogue image)
+  pub same : splice after to (packedDescriptors start (filesFrom image sector1 at)) ≡ splice before 512 (packedDescriptors (2 + length (files image)) (catalogue image))
+
+pub described-start : (image sector1 target : List ℕ) (start : ℕ) → Sound image → sector1 ≡ sectorOf image 1 → start ≡ 2 + length (files image) → Described image sector1 target target 0 start 512
+unfolding files catalogue packedSectors
+described-start image sector1 target start is e f =
+    record {
+      rest = rest-start image sector1 is e;
+      kept = refl;
+      to-is = omega arith;
+      start-is = rw e (omega (arith, f, length-map (files image) (fileIn image)));
+      same = rw (e, f);
+    }
+
+-- the sectors of the file at k, and that they do not pass the last in use
+pub described-ahead : {image sector1 before after : List ℕ} {at start to k sectors : ℕ} → Described image sector1 before after at start to → Read image sector1 at k
+    → sectors ≡ sectorsOf (sectorOf image k) → start + sectors + dataSectors (filesFrom image sector1 (at + 2)) ≡ packedSectors (catalogue image)
+unfolding dataSectors
+described-ahead {image} {k = k} described read is =
+    let start-is = rw (read .ahead) at (described .start-is) in
+    omega (arith, start-is, is, contents-count image k (read .descriptor))
+
+pub described-step : {image sector1 before after later laid : List ℕ} {at start to k sectors : ℕ} → length image ≡ 256 * sectorCount image
+    → Described image sector1 before after at start to → Read image sector1 at k → sectors ≡ sectorsOf (sectorOf image k) → laid ≡ packedDescriptor start (fileIn image k)
+    → later ≡ splice after to laid → Described image sector1 before later (at + 2) (start + sectors) (to + 256)
+unfolding packedDescriptors
+described-step {image} {sector1} {before} {after} {later} {laid} {at} {start} {to} {k} {sectors} whole described read is laid-is later-is =
+    let more = filesFrom image sector1 (at + 2) in
+    let count : length (fileIn image k .contents) ≡ sectors = contents-count image k (read .descriptor) ∙ sym is in
+    let long : length laid ≡ 256 = ap length laid-is ∙ descriptor-length image whole start k (read .inside) in
+    let same = rw (read .ahead, count, ← laid-is) at (described .same) in
+    let next = ap (λ (m : ℕ). splice (splice after to laid) (to + m) (packedDescriptors (start + sectors) more)) (sym long) ∙ splice-append after to laid (packedDescriptors (start + sectors) more) in
+    record {
+      rest = read .rest;
+      kept = ap length later-is ∙ splice-length after to laid ∙ described .kept;
+      to-is = omega (arith, described .to-is);
+      start-is = described-ahead described read is;
+      same = rw later-is (next ∙ same);
+    }
+
+pub described-end : {image sector1 before after : List ℕ} {at start to : ℕ} → Described image sector1 before after at start to → numbers (drop at sector1) ≡ []
+    → after ≡ splice before 512 (packedDescriptors (2 + length (files image)) (catalogue image))
+unfolding packedDescriptors
+described-end {after = after} {to = to} described none =
+    let same = rw none at (described .same) in
+    sym (splice-none after to) ∙ same
+
+-- laying the data: that of the files from `at` on, laid from `to` on, gives what all gives and ends where all ends
+pub record Joined (image sector1 before after : List ℕ) (from at to : ℕ) : Type 0 where
+  pub rest : Rest image sector1 at
+  pub kept : length after ≡ length before
+  pub ends : to + length (packedData (filesFrom image sector1 at)) ≡ from + length (packedData (catalogue image))
+  pub same : splice after to (packedData (filesFrom image sector1 at)) ≡ splice before from (packedData (catalogue image))
+
+pub joined-start : (image sector1 target : List ℕ) (from : ℕ) → Sound image → sector1 ≡ sectorOf image 1 → Joined image sector1 target target from 0 from
+unfolding files catalogue
+joined-start image sector1 target from is e = record { rest = rest-start image sector1 is e; kept = refl; ends = rw e; same = rw e }
+
+-- the data of the file at k, and that it does not pass the end of all data
+pub joined-ahead : {image sector1 before after : List ℕ} {from at to k : ℕ} → Joined image sector1 before after from at to → Read image sector1 at k
+    → to + length (joined (fileIn image k .contents)) + length (packedData (filesFrom image sector1 (at + 2))) ≡ from + length (packedData (catalogue image))
+unfolding packedData
+joined-ahead {image} {sector1} {at = at} {k = k} so-far read =
+    let ends = rw (read .ahead) at (so-far .ends) in
+    omega (arith, ends, length-append (joined (fileIn image k .contents)) (packedData (filesFrom image sector1 (at + 2))))
+
+pub joined-step : {image sector1 before after later : List ℕ} {from at to next k : ℕ} → Joined image sector1 before after from at to → Read image sector1 at k
+    → next ≡ to + length (joined (fileIn image k .contents)) → later ≡ splice after to (joined (fileIn image k .contents))
+    → Joined image sector1 before later from (at + 2) next
+unfolding packedData
+joined-step {image} {sector1} {before} {after} {later} {from} {at} {to} {next} {k} so-far read next-is later-is =
+    let here = joined (fileIn image k .contents) in
+    let more = packedData (filesFrom image sector1 (at + 2)) in
+    let same = rw (read .ahead) at (so-far .same) in
+    record {
+      rest = read .rest;
+      kept = ap length later-is ∙ splice-length after to here ∙ so-far .kept;
+      ends = omega (arith, next-is, joined-ahead so-far read);
+      same = rw (later-is, next-is) (splice-append after to here more ∙ same);
+    }
+
+pub joined-end : {image sector1 before after : List ℕ} {from at to : ℕ} → Joined image sector1 before after from at to → numbers (drop at sector1) ≡ []
+    → after ≡ splice before from (packedData (catalogue image))
+unfolding packedData
+joined-end {after = after} {to = to} so-far none =
+    let same = rw none at (so-far .same) in
+    sym (splice-none after to) ∙ same

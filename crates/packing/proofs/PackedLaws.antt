@@ -1,0 +1,110 @@
+-- The parts of the packed form laid one behind the other over a target of the source's length are the packed form; and what each number of the call means for answer and target.
+use mathlib.Core.Path.{_≡_, sym, ap, _∙_}
+use mathlib.Core.List.{List, _++_, append-assoc}
+use Prim.Native.Nat.{ℕ, _+_, _-_, _*_, _≤_}
+use native.Mathlib.Omega.{arith}
+use lib.ListN.{length, replicate, length-append, length-map, length-replicate}
+use borrow.Rule.Slice.PartMut.{putMid}
+use borrow.Author.Tests.{eq-eqb, ne-eqb}
+use Rattle.rules.specs.Bytes.{part, splice}
+use Rattle.rules.specs.Sectors.{sectorCount}
+use Rattle.rules.specs.Map.{mapOf}
+use Rattle.rules.specs.Chain.{run}
+use Rattle.rules.specs.Index.{numbersBytes, indexOf}
+use Rattle.rules.specs.Volume.{files, fileIn, catalogue}
+use Rattle.rules.specs.Verdict.{verdict}
+use Rattle.rules.specs.Sound.{Sound}
+use Rattle.rules.specs.Outcome.{answerOf}
+use Rattle.rules.specs.Packing.{labelArea, packed, packedDescriptors, packedData, packedSectors, packNumber, afterPack}
+use Rattle.rules.specs.declared.Answer.the-variants.{Done, Refused}
+use Rattle.rules.proofs.Bytes.{part-length}
+use Rattle.rules.proofs.Splice.{splice-length, splice-whole, put-back}
+use Rattle.rules.proofs.Formatted.{laid-next, map-length}
+use Rattle.rules.proofs.Indexed.{laid-index}
+use Rattle.packing.proofs.FileLaws.{all-kept, label-length, descriptors-length, data-ends, used-inside}
+
+-- sectors 0 and 1
+abbrev pub system : List ℕ → ℕ → ℕ → List ℕ
+system image many used = labelArea image ++ (mapOf (sectorCount image) (run 0 used) ++ indexOf (run 2 many))
+
+index-length : (ks : List ℕ) → length (indexOf ks) ≡ 256
+index-length ks = ap length (sym (laid-index ks)) ∙ splice-length (replicate 256 0) 0 (numbersBytes ks)
+
+system-length : (image : List ℕ) (many used : ℕ) → length (labelArea image) ≡ 56 → length (system image many used) ≡ 512
+system-length image many used label =
+    let map = mapOf (sectorCount image) (run 0 used) in
+    let index = indexOf (run 2 many) in
+    length-append (labelArea image) (map ++ index) ∙ omega (arith, length-append map index, label, map-length (sectorCount image) (run 0 used), index-length (run 2 many))
+
+module _ (image : List ℕ) (is : Sound image) where
+  unfoldable many : ℕ
+  many = length (files image)
+
+  unfoldable used : ℕ
+  used = packedSectors (catalogue image)
+
+  unfoldable descriptors : List ℕ
+  descriptors = packedDescriptors (2 + many) (catalogue image)
+
+  descriptors-all : length descriptors ≡ 256 * many
+  unfolding descriptors many catalogue
+  descriptors-all = descriptors-length image (is .whole) (2 + length (files image)) (files image) (all-kept image is)
+
+  -- the definition, as it is laid
+  parts : (rest : List ℕ) → rest ≡ replicate (256 * (sectorCount image - used)) 0xE5
+      → ((system image many used ++ descriptors) ++ packedData (catalogue image)) ++ rest ≡ packed (sectorCount image) (labelArea image) (catalogue image)
+  unfolding packed catalogue many used descriptors
+  parts rest e = rw (e, length-map (files image) (fileIn image)) (simp append-assoc)
+
+  pub laid-packed : (target first second third rest : List ℕ) → length target ≡ length image
+      → first ≡ splice target 0 (system image (length (files image)) (packedSectors (catalogue image)))
+      → second ≡ splice first 512 (packedDescriptors (2 + length (files image)) (catalogue image))
+      → third ≡ splice second (512 + 256 * length (files image)) (packedData (catalogue image))
+      → rest ≡ replicate (length (part third (256 * packedSectors (catalogue image)) (length third - 256 * packedSectors (catalogue image)))) 0xE5
+      → putMid (256 * packedSectors (catalogue image)) (length third - 256 * packedSectors (catalogue image)) third rest
+      ≡ packed (sectorCount image) (labelArea image) (catalogue image)
+  unfolding many used descriptors
+  laid-packed target first second third rest same first-is second-is third-is rest-is =
+      let n = sectorCount image in
+      let bytes = packedData (catalogue image) in
+      let front = system image many used in
+      let inside : used ≤ n = used-inside image is in
+      let front-long : length front ≡ 512 = system-length image many used (label-length image (is .whole) (omega (arith, is .size))) in
+      let descriptors-long : length descriptors ≡ 256 * many = descriptors-all in
+      let two-long : length (front ++ descriptors) ≡ 512 + 256 * many = length-append front descriptors ∙ omega arith in
+      let three-long : length ((front ++ descriptors) ++ bytes) ≡ 256 * used = length-append (front ++ descriptors) bytes ∙ omega (arith, two-long, data-ends image is) in
+      let two : second ≡ splice target 0 (front ++ descriptors) = second-is ∙ rw first-is (laid-next target front descriptors 512 front-long) in
+      let three : third ≡ splice target 0 ((front ++ descriptors) ++ bytes) = third-is ∙ rw two (laid-next target (front ++ descriptors) bytes (512 + 256 * many) two-long) in
+      let third-long : length third ≡ 256 * n = ap length three ∙ splice-length target 0 ((front ++ descriptors) ++ bytes) ∙ same ∙ is .whole in
+      let left : length third - 256 * used ≡ 256 * (n - used) = omega arith in
+      let room = part-length third (256 * used) (length third - 256 * used) (omega arith) in
+      let rest-same : rest ≡ replicate (256 * (n - used)) 0xE5 = rest-is ∙ ap (λ (m : ℕ). replicate m 0xE5) (room ∙ left) in
+      let rest-long : length rest ≡ length third - 256 * used = ap length rest-same ∙ length-replicate {A = ℕ} (256 * (n - used)) 0xE5 ∙ sym left in
+      let all : length (((front ++ descriptors) ++ bytes) ++ rest) ≡ length target = length-append ((front ++ descriptors) ++ bytes) rest ∙ omega (arith, three-long, rest-long, third-long, inside, same, is .whole) in
+      put-back third rest (256 * used) (length third - 256 * used) rest-long (omega arith)
+      ∙ rw three (laid-next target ((front ++ descriptors) ++ bytes) rest (256 * used) three-long)
+      ∙ splice-whole target (((front ++ descriptors) ++ bytes) ++ rest) all
+      ∙ parts rest rest-same
+
+-- what a number says of the answer and of the target
+module _ (source target : List ℕ) where
+  pub refused : (number : ℕ) → (number ≡ 0 → ⊥) → packNumber source target ≡ number → (Refused number ≡ answerOf (packNumber source target)) × (target ≡ afterPack source target)
+  unfolding answerOf afterPack
+  refused number some e = (rw (e, ne-eqb number 0 some), rw (e, ne-eqb number 0 some))
+
+  pub done : packNumber source target ≡ 0 → (Done ≡ answerOf (packNumber source target)) × (packed (sectorCount source) (labelArea source) (catalogue source) ≡ afterPack source target)
+  unfolding answerOf afterPack
+  done e = (rw e, rw e)
+
+  -- and which test gives which
+  pub unsound : (verdict source ≡ 0 → ⊥) → packNumber source target ≡ verdict source
+  unfolding packNumber
+  unsound some = rw (ne-eqb (verdict source) 0 some)
+
+  pub misfit : verdict source ≡ 0 → (length target ≡ length source → ⊥) → packNumber source target ≡ 15
+  unfolding packNumber
+  misfit e other = rw (eq-eqb (verdict source) 0 e, ne-eqb (length target) (length source) other)
+
+  pub fits : verdict source ≡ 0 → length target ≡ length source → packNumber source target ≡ 0
+  unfolding packNumber
+  fits e same = rw (eq-eqb (verdict source) 0 e, eq-eqb (length target) (length source) same)

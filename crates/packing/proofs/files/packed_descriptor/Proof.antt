@@ -1,0 +1,94 @@
+-- `packing::files::packed_descriptor` meets its contract: header and block laid one behind the other over zeros. Assumes nothing.
+use mathlib.Core.Path.{_≡_, sym, ap, _∙_}
+use mathlib.Core.List.{List, _++_, append-assoc}
+use Prim.Native.Nat.{ℕ, suc, _+_, _-_}
+use native.Mathlib.Omega.{arith}
+use lib.ListN.{length, drop, replicate, length-append}
+use Rattle.rules.specs.Bytes.{over, splice}
+use Rattle.rules.specs.Chain.{blockBytes, blocksBytes}
+use Rattle.rules.specs.Packing.{oneBlock}
+use Rattle.rules.proofs.Formatted.{laid-front, laid-next}
+use borrow.Author.Needs.{needs}
+use Rattle.packing.proofs.files.packed_descriptor.Statement.{statement}
+use Rattle.packing.proofs.files.packed_descriptor.Tie as tie
+
+-- without a block, and with one
+empty : (header : List ℕ) (start : ℕ) → length header ≡ 28 → splice (replicate 256 0) 0 header ≡ header ++ over (replicate 228 0) (blocksBytes (oneBlock start 0))
+unfolding blocksBytes oneBlock over
+empty header start long = laid-front (replicate 256 0) header (omega arith) ∙ rw long
+
+one : (header : List ℕ) (start sectors : ℕ) → length header ≡ 28 → (sectors ≡ 0 → ⊥)
+    → splice (splice (replicate 256 0) 0 header) 28 (blockBytes (record { start = start; last = sectors - 1 })) ≡ header ++ over (replicate 228 0) (blocksBytes (oneBlock start sectors))
+unfolding blocksBytes oneBlock over blockBytes
+one header start sectors long some =
+    let block = blockBytes (record { start = start; last = sectors - 1 }) in
+    let all : length (header ++ block) ≡ 31 = length-append header block ∙ omega arith in
+    let e : sectors ≡ suc (sectors - 1) = omega (arith, some) in
+    laid-next (replicate 256 0) header block 28 long
+    ∙ laid-front (replicate 256 0) (header ++ block) (omega arith)
+    ∙ ap (λ (m : ℕ). (header ++ block) ++ drop m (replicate 256 0)) all
+    ∙ append-assoc header block (replicate 225 0)
+    ∙ ap (λ (m : ℕ). header ++ over (replicate 228 0) (blocksBytes (oneBlock start m))) (sym e)
+
+slice-aggregate-lay : tie.Need-slice-aggregate-lay
+slice-aggregate-lay c = search needs
+
+lay-requires : tie.Need-lay-requires
+lay-requires c κs = search needs
+
+returns : tie.Need-returns
+returns c =
+    rw (c .if1 .taken) (c .before .before .lay .ensures ∙ empty (c .before .before .before .before .before .args .header .now) (c .before .before .before .before .before .args .start) (c .before .before .before .before .before .pre .0))
+
+sub-last : tie.Need-sub-last
+sub-last c = search needs
+
+cast-low : tie.Need-cast-low
+cast-low c = search needs
+
+mul-middle : tie.Need-mul-middle
+mul-middle c = search needs
+
+add-middle : tie.Need-add-middle
+add-middle c = search needs
+
+cast-middle : tie.Need-cast-middle
+cast-middle c = search needs
+
+cast-high : tie.Need-cast-high
+cast-high c = search needs
+
+slice-aggregate-lay-2 : tie.Need-slice-aggregate-lay-2
+slice-aggregate-lay-2 c = search needs
+
+slice-aggregate-lay-3 : tie.Need-slice-aggregate-lay-3
+slice-aggregate-lay-3 c = search needs
+
+lay-requires-2 : tie.Need-lay-requires-2
+lay-requires-2 c κs = search needs
+
+returns-2 : tie.Need-returns-2
+unfolding blockBytes
+returns-2 c =
+    let a = c .before .before .before .before .before .before .before .before .before .args in
+    c .before .lay2 .ensures
+    ∙ ap (λ (d : List ℕ). splice d 28 (blockBytes (record { start = a .start; last = a .sectors - 1 }))) (c .before .before .before .before .before .before .lay .ensures)
+    ∙ one (a .header .now) (a .start) (a .sectors) (c .before .before .before .before .before .before .before .before .before .pre .0) (c .before .before .before .before .if1 .left)
+
+pub packed-descriptor-spec : {M : Type 1} → statement M
+packed-descriptor-spec =
+    tie.close
+    (tie.spec
+    slice-aggregate-lay
+    lay-requires
+    returns
+    sub-last
+    cast-low
+    mul-middle
+    add-middle
+    cast-middle
+    cast-high
+    slice-aggregate-lay-2
+    slice-aggregate-lay-3
+    lay-requires-2
+    returns-2)

@@ -1,0 +1,88 @@
+-- `packing::write_packed` meets its contract: each call lays its part right behind the one before, and the last goes to the end of the target. Assumes nothing.
+use mathlib.Core.Path.{ap, _∙_}
+use Prim.Native.Nat.{_*_, _≤_}
+use native.Mathlib.Omega.{arith}
+use lib.ListN.{length}
+use Rattle.rules.proofs.Splice.{splice-length}
+use Rattle.packing.proofs.FileLaws.{files-few, label-length, used-inside}
+use Rattle.packing.proofs.PackedLaws.{laid-packed}
+use borrow.Author.Needs.{needs}
+use Rattle.packing.proofs.write_packed.Statement.{statement}
+use Rattle.packing.proofs.write_packed.Tie as tie
+
+extent-of-requires : tie.Need-extent-of-requires
+extent-of-requires c κs = search needs
+
+lay-system-requires : tie.Need-lay-system-requires
+lay-system-requires c κs =
+    let is = c .before .before .before .before .pre .0 in
+    (omega (arith, c .before .extent-of .ensures .0, files-few _ is), label-length _ (is .whole) (omega (arith, is .size)))
+
+lay-descriptors-requires : tie.Need-lay-descriptors-requires
+lay-descriptors-requires c κs = search needs
+
+lay-data-requires : tie.Need-lay-data-requires
+lay-data-requires c κs = search needs
+
+mul-end : tie.Need-mul-end
+mul-end c =
+    let e = c .before .before .before .before .before .before .before .before .before .before .before .before in
+    let is = e .before .before .before .pre .0 in
+    omega (arith, e .extent-of .ensures .1, used-inside _ is, is .size)
+
+-- the sectors in use are inside the target
+room : (c : tie.After-slice-known4) → 256 * c .before .before .before .before .before .before .before .before .before .before .before .before .extent-of .result .used ≤ length (c .before .before .lay-data .last .1 .0)
+room c =
+    let d = c .before .before in
+    let s = d .before .before .before .before in
+    let y = s .before .before .before .before in
+    let e = y .before .before in
+    let start = e .before .before .before in
+    let kept = ap length (d .lay-data .ensures) ∙ splice-length _ _ _ ∙ ap length (s .lay-descriptors .ensures) ∙ splice-length _ _ _ ∙ ap length (y .lay-system .ensures) ∙ splice-length _ _ _ in
+    omega (arith, kept, e .extent-of .ensures .1, used-inside _ (start .pre .0), start .pre .0 .whole, start .pre .1)
+
+sub-fill : tie.Need-sub-fill
+sub-fill c = room c
+
+part-fill-start : tie.Need-part-fill-start
+part-fill-start c = room c
+
+part-fill-end : tie.Need-part-fill-end
+part-fill-end c = search needs
+
+fill-requires : tie.Need-fill-requires
+fill-requires c κs = search needs
+
+same-length : tie.Need-same-length
+same-length c = search needs
+
+returns : tie.Need-returns
+returns c =
+    let d = c .before .before .before .before .before .before in
+    let s = d .before .before .before .before in
+    let y = s .before .before .before .before in
+    let e = y .before .before in
+    let start = e .before .before .before in
+    let many = e .extent-of .ensures .0 in
+    let used = e .extent-of .ensures .1 in
+    let first = rw (many, used) at (y .lay-system .ensures) in
+    let second = rw many at (s .lay-descriptors .ensures) in
+    let third = rw many at (d .lay-data .ensures) in
+    let rest = rw used at (c .before .before .fill .ensures) in
+    rw used (laid-packed (start .args .source .now) (start .pre .0) (start .args .target .now) _ _ _ _ (start .pre .1) first second third rest)
+
+pub write-packed-spec : {M : Type 1} → statement M
+write-packed-spec =
+    tie.close
+    (tie.spec
+    extent-of-requires
+    lay-system-requires
+    lay-descriptors-requires
+    lay-data-requires
+    mul-end
+    sub-fill
+    part-fill-start
+    part-fill-end
+    fill-requires
+    same-length
+    returns)

@@ -1,0 +1,123 @@
+// The files in the order of sector 1: how much they take, and their descriptors and data laid one behind the other.
+ghost use mathlib.Core.Path.{_≡_};
+ghost use mathlib.Core.List.{_++_, map};
+ghost use Prim.Native.Nat.{_+_, _*_, _≤_, _<_};
+ghost use lib.ListN.{length, replicate};
+ghost use Rattle.rules.specs.Bytes.{over, splice};
+ghost use Rattle.rules.specs.Sectors.{sectorOf};
+ghost use Rattle.rules.specs.Chain.{places, blocksBytes};
+ghost use Rattle.rules.specs.Volume.{files, catalogue};
+ghost use Rattle.rules.specs.Sound.{Sound};
+ghost use Rattle.rules.specs.Calls.Load.{joined};
+ghost use Rattle.rules.specs.Packing.{oneBlock, packedDescriptors, packedData, packedSectors};
+use descriptor::chain::Cursor;
+use descriptor::chain::Step;
+use sector::buffer::lay;
+use sector::bytes::part;
+use sector::bytes::sector_of;
+use sector::bytes::word;
+
+// How many files there are, and how many sectors are held.
+pub struct Extent {
+    pub files: usize,
+    pub used: usize,
+}
+
+pub(crate) fn extent_of(source: &[u8]) -> Extent
+    requires { ⌜ Sound (now source) ⌝ }
+    ensures { λ r. ⌜ (r .files ≡ length (files (now (source .entry)))) × (r .used ≡ packedSectors (catalogue (now (source .entry)))) ⌝ }
+{
+    let sector1 = sector_of(source, 1);
+    let mut files = 0;
+    let mut used = 2;
+    let mut at = 0;
+    while at + 2 <= sector1.len() {
+        let k = word(sector1, at);
+        if k == 0 {
+            return Extent { files, used };
+        }
+        files += 1;
+        used += 1 + word(sector_of(source, k), 14);
+        at += 2;
+    }
+    Extent { files, used }
+}
+
+// A descriptor with that header, and one block for the file's sectors from `start` on.
+fn packed_descriptor(header: &[u8], start: usize, sectors: usize) -> [u8; 256]
+    requires { ⌜ (length (now header) ≡ 28) × (start < 4096) × (sectors < 4096) ⌝ }
+    ensures { λ r. ⌜ r ≡ now (header .entry) ++ over (replicate 228 0) (blocksBytes (oneBlock start sectors)) ⌝ }
+{
+    let mut descriptor = [0u8; 256];
+    lay(&mut descriptor, 0, header);
+    if sectors == 0 {
+        return descriptor;
+    }
+    let last = sectors - 1;
+    let low = (start % 256) as u8;
+    let middle = (start / 256 + 16 * (last % 16)) as u8;
+    let high = (last / 16) as u8;
+    let block = [low, middle, high];
+    lay(&mut descriptor, 28, &block);
+    descriptor
+}
+
+// The descriptors, from sector 2 on; the data of the first file is to follow the last of them.
+pub(crate) fn lay_descriptors(source: &[u8], target: &mut [u8], many: usize)
+    requires { ⌜ Sound (now source) × (many ≡ length (files (now source))) ⌝ }
+    ensures { λ _. ⌜ now (target .exit) ≡ splice (now (target .entry)) 512 (packedDescriptors (2 + many) (catalogue (now (source .entry)))) ⌝ }
+{
+    let sector1 = sector_of(source, 1);
+    let mut start = 2 + many;
+    let mut to = 512;
+    let mut at = 0;
+    while at + 2 <= sector1.len() {
+        let k = word(sector1, at);
+        if k == 0 {
+            return;
+        }
+        let descriptor = sector_of(source, k);
+        let sectors = word(descriptor, 14);
+        let packed = packed_descriptor(part(descriptor, 0, 28), start, sectors);
+        lay(target, to, &packed);
+        start += sectors;
+        to += 256;
+        at += 2;
+    }
+}
+
+// The sectors of a chain, from byte `at` of the target on; gives the place after them.
+fn lay_sectors(source: &[u8], chain: &[u8], target: &mut [u8], at: usize) -> usize
+    requires { ⌜ at + length (joined (map (sectorOf (now source)) (places (now chain)))) ≤ 409600 ⌝ }
+    ensures { λ r. ⌜ r ≡ at + length (joined (map (sectorOf (now (source .entry))) (places (now (chain .entry))))) ⌝ }
+    ensures { λ _. ⌜ now (target .exit) ≡ splice (now (target .entry)) at (joined (map (sectorOf (now (source .entry))) (places (now (chain .entry))))) ⌝ }
+{
+    let mut cursor = Cursor::first();
+    let mut to = at;
+    while let Step::Place(place, next) = cursor.step(chain) {
+        let sector = sector_of(source, place);
+        lay(target, to, sector);
+        to += sector.len();
+        cursor = next;
+    }
+    to
+}
+
+// The data of all files, behind that many descriptors.
+pub(crate) fn lay_data(source: &[u8], target: &mut [u8], many: usize)
+    requires { ⌜ Sound (now source) × (many ≡ length (files (now source))) ⌝ }
+    ensures { λ _. ⌜ now (target .exit) ≡ splice (now (target .entry)) (512 + 256 * many) (packedData (catalogue (now (source .entry)))) ⌝ }
+{
+    let sector1 = sector_of(source, 1);
+    let mut to = 512 + 256 * many;
+    let mut at = 0;
+    while at + 2 <= sector1.len() {
+        let k = word(sector1, at);
+        if k == 0 {
+            return;
+        }
+        let chain = part(sector_of(source, k), 28, 228);
+        to = lay_sectors(source, chain, target, to);
+        at += 2;
+    }
+}

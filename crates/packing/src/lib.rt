@@ -1,0 +1,50 @@
+// Packing: the one laid down form of a volume. The call takes any source and any target and answers with its number. With 0 it writes
+// every byte of the target, part behind part and each in one pass; a refusal writes nothing. The source is only read.
+ghost use mathlib.Core.Path.{_≡_};
+ghost use lib.ListN.{length};
+ghost use Rattle.rules.specs.Sectors.{sectorCount};
+ghost use Rattle.rules.specs.Volume.{catalogue};
+ghost use Rattle.rules.specs.Sound.{Sound};
+ghost use Rattle.rules.specs.Outcome.{answerOf};
+ghost use Rattle.rules.specs.Packing.{labelArea, packed, packNumber, afterPack};
+
+mod files;
+mod system;
+
+use files::extent_of;
+use files::lay_data;
+use files::lay_descriptors;
+use rules::Answer;
+use sector::buffer::fill;
+use system::lay_system;
+
+// The parts one behind the other, up to the end of the target.
+fn write_packed(source: &[u8], target: &mut [u8])
+    requires { ⌜ Sound (now source) × (length (now target) ≡ length (now source)) ⌝ }
+    ensures { λ _. ⌜ now (target .exit) ≡ packed (sectorCount (now (source .entry))) (labelArea (now (source .entry))) (catalogue (now (source .entry))) ⌝ }
+{
+    let extent = extent_of(source);
+    let files = extent.files;
+    let used = extent.used;
+    lay_system(source, target, files, used);
+    lay_descriptors(source, target, files);
+    lay_data(source, target, files);
+    let end = 256 * used;
+    fill(&mut target[end..], 0xE5);
+}
+
+// Writes the source's packed form over the target: 1 to 6 of the source, then 15 for a target of another length.
+pub fn pack(source: &[u8], target: &mut [u8]) -> Answer
+    ensures { λ r. ⌜ r ≡ answerOf (packNumber (now (source .entry)) (now (target .entry))) ⌝ }
+    ensures { λ _. ⌜ now (target .exit) ≡ afterPack (now (source .entry)) (now (target .entry)) ⌝ }
+{
+    let number = judge::judge(source);
+    if number != 0 {
+        return Answer::Refused(number);
+    }
+    if target.len() != source.len() {
+        return Answer::Refused(15);
+    }
+    write_packed(source, target);
+    Answer::Done
+}

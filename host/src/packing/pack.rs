@@ -1,0 +1,99 @@
+//! One pack: the memory that is lent, and what must be found there afterwards.
+
+use super::planned;
+use crate::calls::lent::Part;
+use crate::library;
+use crate::random::Random;
+use crate::reference::{self, Refusal};
+use crate::sequences::Shelf;
+use crate::suites::Image;
+
+/// Room for the text of any catalogue.
+const LISTING_BYTES: usize = 5000;
+
+/// The bytes of the target, or the number of a refusal.
+pub(super) type Answer = Result<Vec<u8>, u32>;
+
+/// Both images between other bytes.
+#[derive(Clone)]
+struct Lent {
+    source: Part,
+    target: Part,
+}
+
+impl Lent {
+    /// The target is random before.
+    fn of(source: &[u8], target_bytes: usize, random: &mut Random) -> Self {
+        let target = random.bytes(target_bytes);
+        Lent { source: Part::of(source, random), target: Part::of(&target, random) }
+    }
+
+    fn pack(&mut self) -> u32 {
+        library::pack(self.source.lent(), self.target.lent())
+    }
+
+    fn difference(&self, expected: &Lent) -> Option<String> {
+        let source = self.source.difference("source", &expected.source);
+        source.or_else(|| self.target.difference("target", &expected.target))
+    }
+}
+
+/// What a pack into a target of so many bytes gives, if library, reference and plan agree on it and
+/// it is what packing is for; else what is wrong.
+pub(super) fn compared(
+    source: &Image,
+    target_bytes: usize,
+    random: &mut Random,
+) -> Result<Answer, String> {
+    let answer = reference::pack(source.bytes, target_bytes).map_err(Refusal::number);
+    let planned = planned::answer(source, target_bytes);
+    let mut expected = Lent::of(source.bytes, target_bytes, random);
+    let mut lent = expected.clone();
+    let number = lent.pack();
+    if let Ok(packed) = &answer {
+        expected.target.lent().copy_from_slice(packed);
+    }
+    let by_reference = answer.as_ref().err().copied().unwrap_or(0);
+    let wrong = if number != by_reference {
+        Some(format!("library {}, reference {}", number, by_reference))
+    } else if let Some(difference) = lent.difference(&expected) {
+        Some(difference)
+    } else if planned.map_or(false, |planned| planned != answer) {
+        Some("library and reference pack otherwise than was planned".to_string())
+    } else {
+        answer.as_ref().ok().and_then(|packed| not_kept(source.bytes, packed, random))
+    };
+    wrong.map_or(Ok(answer), |wrong| {
+        let what = format!("difference in packing \"{}\" into {} bytes", source.what, target_bytes);
+        Err([what, wrong, format!("source kept as {}", source.keep())].join("\n  "))
+    })
+}
+
+/// What packing must keep and has not, as far as the volume can be read.
+fn not_kept(source: &[u8], packed: &[u8], random: &mut Random) -> Option<String> {
+    let number = reference::number(packed);
+    let rules = [
+        (number == 0, "is not sound"),
+        (source[..56] == packed[..56], "has another label area"),
+        (Shelf::of(source).is_on(packed), "has another catalogue"),
+        (listing(source) == listing(packed), "is listed otherwise"),
+        (number != 0 || is_left_by_packing(packed, random), "is packed to other bytes again"),
+    ];
+    let broken = rules.into_iter().find(|(kept, _)| !kept);
+    broken.map(|(_, what)| format!("the volume that was packed {}", what))
+}
+
+fn is_left_by_packing(packed: &[u8], random: &mut Random) -> bool {
+    let mut expected = Lent::of(packed, packed.len(), random);
+    let mut lent = expected.clone();
+    expected.target.lent().copy_from_slice(packed);
+    lent.pack() == 0 && lent.difference(&expected).is_none()
+}
+
+/// The library's listing, and the number that it gives.
+fn listing(image: &[u8]) -> (u32, Vec<u8>) {
+    let (mut text, mut length) = (vec![0; LISTING_BYTES], 0);
+    let number = library::listing(&mut image.to_vec(), &mut text, &mut length);
+    text.truncate(length);
+    (number, text)
+}

@@ -1,0 +1,231 @@
+//! Volumes beside a given one: with the same label area and catalogue laid out otherwise, which
+//! must pack to the same bytes, and with one thing changed, which must not.
+
+use crate::random::Random;
+use crate::volumes::{is_name, names, Disk, File, Run, HEADER_BYTES};
+use crate::volumes::{DATA_STATUS, MOST_BLOCKS, MOST_FILES, PROGRAM_STATUS, SECTOR_BYTES};
+
+/// Bytes 0 to 55 of sector 0.
+const LABEL_AREA: usize = 56;
+/// How often a byte is tried before there is taken to be none.
+const TRIES: usize = 100;
+
+/// The same files and label area, in other sectors and with other bytes in the free ones.
+pub(super) fn relaid(disk: &Disk, random: &mut Random) -> Disk {
+    let background = match random.below(3) {
+        0 => vec![0xE5; disk.image.len()],
+        // What was moved away stays behind, as if deleted.
+        1 => disk.image.clone(),
+        _ => random.bytes(disk.image.len()),
+    };
+    let files = if random.once_in(5) { disk.files.clone() } else { scattered(disk, random) };
+    moved(disk, files, background)
+}
+
+/// A disk's label area and its files, which lie elsewhere now, laid over other bytes.
+pub(super) fn moved(disk: &Disk, files: Vec<File>, background: Vec<u8>) -> Disk {
+    let mut moved = Disk { sectors: disk.sectors, files, image: background };
+    moved.image[..LABEL_AREA].copy_from_slice(&disk.image[..LABEL_AREA]);
+    moved.lay_down();
+    let places: Vec<usize> = moved.files.iter().flat_map(File::sectors).collect();
+    for (from, to) in disk.files.iter().flat_map(File::sectors).zip(places) {
+        let sector = &disk.image[SECTOR_BYTES * from..][..SECTOR_BYTES];
+        moved.image[SECTOR_BYTES * to..][..SECTOR_BYTES].copy_from_slice(sector);
+    }
+    moved
+}
+
+/// The files with their data cut anew, and descriptors, data and gaps in any order.
+fn scattered(disk: &Disk, random: &mut Random) -> Vec<File> {
+    let gaps = cut(disk.free().len(), random);
+    let mut pieces: Vec<(Piece, usize)> =
+        gaps.into_iter().map(|length| (Piece::Gap, length)).collect();
+    let mut files = disk.files.clone();
+    for (place, file) in files.iter_mut().enumerate() {
+        let lengths = cut(file.count(), random);
+        file.runs = lengths.into_iter().map(|length| Run { start: 0, length }).collect();
+        pieces.push((Piece::Descriptor(place), 1));
+        let blocks = file.runs.iter().enumerate();
+        pieces.extend(blocks.map(|(block, run)| (Piece::Block(place, block), run.length)));
+    }
+    random.shuffle(&mut pieces);
+    let mut next = 2;
+    for (piece, length) in pieces {
+        match piece {
+            Piece::Gap => {}
+            Piece::Descriptor(place) => files[place].descriptor = next,
+            Piece::Block(place, block) => files[place].runs[block].start = next,
+        }
+        next += length;
+    }
+    files
+}
+
+/// What some consecutive sectors are for: nothing, or a part of the file at a place.
+enum Piece {
+    Gap,
+    Descriptor(usize),
+    Block(usize, usize),
+}
+
+/// A number of sectors in as many parts as a chain takes at most.
+fn cut(sectors: usize, random: &mut Random) -> Vec<usize> {
+    let most = sectors.min(MOST_BLOCKS);
+    let parts = match random.below(3) {
+        0 => most,
+        1 => most.min(1 + random.below(3)),
+        _ => random.within(most.min(1)..=most),
+    };
+    let mut lengths = vec![1; parts];
+    (parts..sectors).for_each(|_| lengths[random.below(parts)] += 1);
+    lengths
+}
+
+/// What a volume is changed in.
+#[derive(Clone, Copy, Debug, PartialEq, Eq, PartialOrd, Ord)]
+pub(super) enum Difference {
+    Carried,
+    Status,
+    Name,
+    Sector,
+    FileLess,
+    FileMore,
+    Label,
+    DiskName,
+}
+
+impl Difference {
+    pub(super) const ALL: [Difference; 8] = [
+        Difference::Carried,
+        Difference::Status,
+        Difference::Name,
+        Difference::Sector,
+        Difference::FileLess,
+        Difference::FileMore,
+        Difference::Label,
+        Difference::DiskName,
+    ];
+
+    pub(super) fn title(self) -> &'static str {
+        match self {
+            Difference::Carried => "another carried byte of a header",
+            Difference::Status => "another status byte",
+            Difference::Name => "another byte of a file's name",
+            Difference::Sector => "another byte of a file's sector",
+            Difference::FileLess => "a file less",
+            Difference::FileMore => "a file more",
+            Difference::Label => "another carried byte of the label area",
+            Difference::DiskName => "another byte of the disk name",
+        }
+    }
+
+    /// The disk with this changed, and still sound; none where there is nothing to change, or no
+    /// room.
+    pub(super) fn of(self, disk: &Disk, random: &mut Random) -> Option<Disk> {
+        let (sectors, files, image) = (disk.sectors, disk.files.clone(), disk.image.clone());
+        let mut other = Disk { sectors, files, image };
+        match self {
+            Difference::Carried => change_header(&mut other, any_carried, random)?,
+            Difference::Status => change_header(&mut other, any_status, random)?,
+            Difference::Name => change_header(&mut other, any_letter, random)?,
+            Difference::Sector => change_sector(&mut other, random)?,
+            Difference::FileLess => drop(other.files.remove(some_place(&other, random)?)),
+            Difference::FileMore => add_file(&mut other, random)?,
+            Difference::Label => {
+                let at = random.within(15..=LABEL_AREA - 1);
+                other.image[if at == 15 { 12 } else { at }] ^= some_bits(random);
+            }
+            Difference::DiskName => change_disk_name(&mut other, random)?,
+        }
+        other.files.sort_by_key(File::name);
+        other.lay_down();
+        Some(other)
+    }
+}
+
+fn some_place(disk: &Disk, random: &mut Random) -> Option<usize> {
+    (!disk.files.is_empty()).then(|| random.below(disk.files.len()))
+}
+
+/// Some bits, and never none.
+fn some_bits(random: &mut Random) -> u8 {
+    random.within(1..=255) as u8
+}
+
+/// Gives one byte of a file's header another value that the rules allow.
+fn change_header(
+    disk: &mut Disk,
+    any: fn(&mut Random) -> (usize, u8),
+    random: &mut Random,
+) -> Option<()> {
+    let place = some_place(disk, random)?;
+    for _ in 0..TRIES {
+        let (at, value) = any(random);
+        let mut file = disk.files[place].clone();
+        file.header[at] = value;
+        let name = file.name();
+        let is_free = disk.files.iter().all(|other| other.name() != name);
+        let is_new = value != disk.files[place].header[at];
+        if is_new && is_name(&name) && (at > 9 || is_free) && has_status(&file) {
+            disk.files[place] = file;
+            return Some(());
+        }
+    }
+    None
+}
+
+fn has_status(file: &File) -> bool {
+    let is_program = PROGRAM_STATUS.contains(&file.status()) && file.count() > 0;
+    is_program || DATA_STATUS.contains(&file.status())
+}
+
+fn any_carried(random: &mut Random) -> (usize, u8) {
+    let carried: Vec<usize> = [10, 11, 13].into_iter().chain(16..HEADER_BYTES).collect();
+    (random.pick(&carried), random.byte())
+}
+
+fn any_status(random: &mut Random) -> (usize, u8) {
+    (12, random.pick(&[&DATA_STATUS[..], &PROGRAM_STATUS].concat()))
+}
+
+fn any_letter(random: &mut Random) -> (usize, u8) {
+    (random.below(10), random.within(32..=126) as u8)
+}
+
+fn change_sector(disk: &mut Disk, random: &mut Random) -> Option<()> {
+    let sectors: Vec<usize> = disk.files.iter().flat_map(File::sectors).collect();
+    let nth = (!sectors.is_empty()).then(|| random.below(sectors.len()))?;
+    let at = SECTOR_BYTES * sectors[nth] + random.below(SECTOR_BYTES);
+    disk.image[at] ^= some_bits(random);
+    Some(())
+}
+
+/// A new file in the free sectors, with one sector or none.
+fn add_file(disk: &mut Disk, random: &mut Random) -> Option<()> {
+    let mut free = disk.free();
+    random.shuffle(&mut free);
+    let name = names(1, random)[0];
+    let is_present = disk.files.iter().any(|file| file.name() == name);
+    if is_present || disk.files.len() == MOST_FILES {
+        return None;
+    }
+    let descriptor = free.pop()?;
+    let start = if random.once_in(2) { free.pop() } else { None };
+    let runs = start.into_iter().map(|start| Run { start, length: 1 }).collect();
+    disk.files.push(File::new(name, descriptor, runs, random));
+    Some(())
+}
+
+fn change_disk_name(disk: &mut Disk, random: &mut Random) -> Option<()> {
+    for _ in 0..TRIES {
+        let (at, value) = any_letter(random);
+        let mut name = disk.image[..10].try_into().expect("ten bytes");
+        let was: [u8; 10] = name;
+        name[at] = value;
+        if name != was && is_name(&name) {
+            disk.image[..10].copy_from_slice(&name);
+            return Some(());
+        }
+    }
+    None
+}

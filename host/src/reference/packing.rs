@@ -1,0 +1,61 @@
+//! Packing: the label area and the catalogue of a volume, laid down in the one way that the paper
+//! gives. Nothing of the result comes from where the source's files lay or from its free sectors.
+
+use super::judge::judge;
+use super::refusal::{holds, Refusal};
+use super::volume::{Block, Descriptor, Sector, Volume};
+use super::volume::{HEADER_BYTES, MOST_SECTORS, SECTOR_BYTES};
+
+/// Where sector 0's map begins; packing keeps the bytes before it.
+const MAP: usize = 56;
+/// The sector of the first descriptor.
+const FIRST: usize = 2;
+
+/// The bytes of a target that has so many of them, after packing the source into it.
+pub fn pack(source: &[u8], target_bytes: usize) -> Result<Vec<u8>, Refusal> {
+    let volume = judge(source)?;
+    holds(target_bytes == source.len(), Refusal::Argument)?;
+    let files: Vec<Descriptor> = volume.files().map(|(_, descriptor)| descriptor).collect();
+    let (mut descriptors, mut data) = (Vec::new(), Vec::new());
+    let mut next = FIRST + files.len();
+    for file in &files {
+        descriptors.extend(described(*file, next));
+        data.extend(file.chain().places().flat_map(|place| volume.sector(place)));
+        next += file.sectors();
+    }
+    let (label, index) = (label(volume, next), index(files.len()));
+    let mut packed = [&label[..], &index, &descriptors, &data].concat();
+    packed.resize(target_bytes, 0xE5);
+    Ok(packed)
+}
+
+/// Sector 0 of a volume whose sectors below a bound are taken and no others.
+fn label(volume: Volume, bound: usize) -> Sector {
+    let mut label = [0; SECTOR_BYTES];
+    label[..MAP].copy_from_slice(&volume.sector(0)[..MAP]);
+    for taken in (0..bound).chain(volume.sectors()..MOST_SECTORS) {
+        label[MAP + taken / 8] |= 1 << (taken % 8);
+    }
+    label
+}
+
+/// Sector 1 of so many files, whose descriptors lie one after another.
+fn index(files: usize) -> Sector {
+    let mut index = [0; SECTOR_BYTES];
+    for (bytes, number) in index.chunks_exact_mut(2).zip(FIRST..FIRST + files) {
+        bytes.copy_from_slice(&(number as u16).to_be_bytes());
+    }
+    index
+}
+
+/// A file's descriptor with its data from the given sector on: one block, or none where there is no
+/// data.
+fn described(file: Descriptor, start: usize) -> Sector {
+    let mut descriptor = [0; SECTOR_BYTES];
+    descriptor[..HEADER_BYTES].copy_from_slice(file.header());
+    if let Some(last) = file.sectors().checked_sub(1) {
+        let block = Block { start, first: 0, last };
+        descriptor[HEADER_BYTES..][..3].copy_from_slice(&block.bytes());
+    }
+    descriptor
+}
