@@ -1,7 +1,7 @@
 // Packing: the one laid down form of a volume. The call takes any source and any target and answers with its number. With 0 it writes
 // every byte of the target, part behind part and each in one pass; a refusal writes nothing. The source is only read.
 ghost use mathlib.Core.Path.{_≡_};
-ghost use lib.ListN.{length};
+ghost use lib.ListN.{length, replicate};
 ghost use Rattle.rules.specs.Sectors.{sectorCount};
 ghost use Rattle.rules.specs.Volume.{catalogue};
 ghost use Rattle.rules.specs.Sound.{Sound};
@@ -18,6 +18,13 @@ use rules::Answer;
 use sector::buffer::fill;
 use system::lay_system;
 
+// The free sectors, whatever the source has in them: every byte is E5.
+fn fill_free(rest: &mut [u8])
+    ensures { λ _. ⌜ now (rest .exit) ≡ replicate (length (now (rest .entry))) 229 ⌝ }
+{
+    fill(rest, 0xE5);
+}
+
 // The parts one behind the other, up to the end of the target.
 fn write_packed(source: &[u8], target: &mut [u8])
     requires { ⌜ Sound (now source) × (length (now target) ≡ length (now source)) ⌝ }
@@ -30,7 +37,7 @@ fn write_packed(source: &[u8], target: &mut [u8])
     lay_descriptors(source, target, files);
     lay_data(source, target, files);
     let end = 256 * used;
-    fill(&mut target[end..], 0xE5);
+    fill_free(&mut target[end..]);
 }
 
 // Writes the source's packed form over the target: 1 to 6 of the source, then 15 for a target of another length.

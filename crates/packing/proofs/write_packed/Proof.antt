@@ -41,17 +41,17 @@ room c =
     let kept = ap length (d .lay-data .ensures) ∙ splice-length _ _ _ ∙ ap length (s .lay-descriptors .ensures) ∙ splice-length _ _ _ ∙ ap length (y .lay-system .ensures) ∙ splice-length _ _ _ in
     omega (arith, kept, e .extent-of .ensures .1, used-inside _ (start .pre .0), start .pre .0 .whole, start .pre .1)
 
-sub-fill : tie.Need-sub-fill
-sub-fill c = room c
+sub-fill-free : tie.Need-sub-fill-free
+sub-fill-free c = room c
 
-part-fill-start : tie.Need-part-fill-start
-part-fill-start c = room c
+part-fill-free-start : tie.Need-part-fill-free-start
+part-fill-free-start c = room c
 
-part-fill-end : tie.Need-part-fill-end
-part-fill-end c = search needs
+part-fill-free-end : tie.Need-part-fill-free-end
+part-fill-free-end c = search needs
 
-fill-requires : tie.Need-fill-requires
-fill-requires c κs = search needs
+fill-free-requires : tie.Need-fill-free-requires
+fill-free-requires c κs = search needs
 
 same-length : tie.Need-same-length
 same-length c = search needs
@@ -68,7 +68,7 @@ returns c =
     let first = rw (many, used) at (y .lay-system .ensures) in
     let second = rw many at (s .lay-descriptors .ensures) in
     let third = rw many at (d .lay-data .ensures) in
-    let rest = rw used at (c .before .before .fill .ensures) in
+    let rest = rw used at (c .before .before .fill-free .ensures) in
     rw used (laid-packed (start .args .source .now) (start .pre .0) (start .args .target .now) _ _ _ _ (start .pre .1) first second third rest)
 
 pub write-packed-spec : {M : Type 1} → statement M
@@ -80,9 +80,9 @@ write-packed-spec =
     lay-descriptors-requires
     lay-data-requires
     mul-end
-    sub-fill
-    part-fill-start
-    part-fill-end
-    fill-requires
+    sub-fill-free
+    part-fill-free-start
+    part-fill-free-end
+    fill-free-requires
     same-length
     returns)
