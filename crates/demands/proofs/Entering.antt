@@ -8,7 +8,7 @@ use native.Mathlib.Decide.{decLt}
 use lib.ListN.{length, getD}
 use Rattle.rules.specs.Bytes.{byteAt, part}
 use Rattle.rules.specs.Sectors.{sectorOf, sectorCount, written}
-use Rattle.rules.specs.Map.{count, taken, freeCount, markedAll}
+use Rattle.rules.specs.Map.{count, freeCount, markedAll}
 use Rattle.rules.specs.Chain.{placesFrom, places, extendedAll, Linked}
 use Rattle.rules.specs.Kind.{kindOf, IsStatus, IsKind}
 use Rattle.rules.specs.Descriptor.{nameOf, chainOf, IsDescriptor}
@@ -22,7 +22,7 @@ use Rattle.rules.proofs.Sectors.{sector-length}
 use Rattle.rules.proofs.Name.{name-is}
 use Rattle.rules.proofs.Map.{count-here, count-more, count-at}
 use Rattle.rules.proofs.Marking.{all-length, all-label, marked-holders, all-free}
-use Rattle.rules.proofs.Extended.{extended-all-linked, extended-all-places}
+use Rattle.rules.proofs.Extended.{chainWith, extended-all-linked, extended-all-places}
 use Rattle.rules.proofs.Choice.{Chosen}
 use Rattle.rules.proofs.Volume.{file-holders-inside}
 use Rattle.rules.proofs.Indexed.{numbers-index, index-is-index, placed-count, placed-length, placed-all, placed-ascending}
@@ -33,7 +33,7 @@ use Rattle.demands.specs.Catalogue.{putIn}
 use Rattle.demands.specs.Effects.{Kept, Done, newHeader, pieces}
 use Rattle.demands.proofs.Listed.{map-is}
 use Rattle.demands.proofs.Putting.{file-name, placed-files}
-use Rattle.demands.proofs.NewFile.{chainWith, descriptorWith, made-length, made-header, made-name, made-places, made-rules}
+use Rattle.demands.proofs.NewFile.{descriptorWith, made-length, made-header, made-name, made-places, made-rules}
 use Rattle.demands.proofs.Entered.{Entered, entered-is}
 
 -- what is to be known of the new file: its name is not there, there is a place for it, its sectors were free, and its descriptor, in sector k, keeps the rules and names ks

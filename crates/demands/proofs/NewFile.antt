@@ -2,10 +2,10 @@
 use mathlib.Core.Path.{_≡_, sym, ap, _∙_}
 use mathlib.Core.Bool.{true}
 use mathlib.Core.List.{List, [], _∷_, _++_, append-assoc}
-use Prim.Native.Nat.{ℕ, _+_, _*_, _/_, _%_, _≤_}
+use Prim.Native.Nat.{ℕ, _+_, _/_, _%_, _≤_}
 use native.Mathlib.Omega.{arith}
 use native.Mathlib.Nat.{zero-add, suc-add}
-use lib.ListN.{length, take, replicate, length-append, length-replicate}
+use lib.ListN.{length, take, replicate, length-append}
 use lib.Seq.{take-at, drop-at, take-all, getD-append-add}
 use Rattle.rules.specs.Bytes.{byteAt, wordBytes, part, over, splice}
 use Rattle.rules.specs.Name.{nameRule}
@@ -13,9 +13,8 @@ use Rattle.rules.specs.Chain.{blocks, placesFrom, places, blocksBytes, Linked}
 use Rattle.rules.specs.Kind.{kindOf, IsStatus, IsKind}
 use Rattle.rules.specs.Descriptor.{nameOf, statusOf, sectorsOf, chainOf, fileKind, newDescriptor, withChain, IsDescriptor}
 use Rattle.rules.specs.declared.Block.{Block}
-use Rattle.rules.proofs.Splice.{splice-length, splice-above}
 use Rattle.rules.proofs.Name.{name-is}
-use Rattle.rules.proofs.Extended.{blocks-bytes-length, replicate-zero, blocks-over, linked-writable}
+use Rattle.rules.proofs.Extended.{chainWith, chain-with-length, chain-with-past, blocks-over, linked-writable}
 use Rattle.demands.specs.Effects.{newHeader}
 
 -- bytes laid behind the front of a list leave the front
@@ -23,18 +22,6 @@ splice-behind : (front back : List ℕ) (i : ℕ) (bytes : List ℕ) → splice 
 unfolding splice
 splice-behind [] back i bytes = rw (zero-add i)
 splice-behind (b ∷ front) back i bytes = rw (suc-add (length front) i) (ap (λ (l : List ℕ). b ∷ l) (splice-behind front back i bytes))
-
--- a chain of 228 bytes with those blocks at its front
-abbrev pub chainWith : List Block → List ℕ
-chainWith bs = over (replicate 228 0) (blocksBytes bs)
-
-pub chain-with-length : (bs : List Block) → length (chainWith bs) ≡ 228
-unfolding splice
-chain-with-length bs = splice-length (replicate 228 0) 0 (blocksBytes bs) ∙ length-replicate {A = ℕ} 228 0
-
-pub chain-with-past : (bs : List Block) (i : ℕ) → 3 * length bs ≤ i → byteAt (chainWith bs) i ≡ 0
-unfolding splice
-chain-with-past bs i h = splice-above (replicate 228 0) 0 (blocksBytes bs) i (omega (arith, blocks-bytes-length bs)) ∙ replicate-zero 228 i
 
 module _ (name : List ℕ) (status recordsPerSector endOffset recordLength : ℕ) (ten : length name ≡ 10) where
   -- the 18 bytes behind the name, and behind them a chain

@@ -18,8 +18,8 @@ use Rattle.rules.specs.Calls.Load.{joined}
 use Rattle.rules.specs.Packing.{oneBlock, packedDescriptor, packedDescriptors, packedData, dataSectors}
 use Rattle.rules.specs.declared.Block.{Block}
 use Rattle.rules.proofs.Map.{count-append}
-use Rattle.rules.proofs.Extended.{blocks-over, linked-writable}
-use Rattle.demands.proofs.NewFile.{chainWith, chain-with-length, chain-with-past}
+use Rattle.rules.proofs.Extended.{chainWith, chain-with-length, chain-with-past, blocks-over, linked-writable}
+use Rattle.rules.proofs.Packing.{Full, joined-length, Whole, AllWhole, descriptor-length}
 
 -- a run in two parts
 pub count-runs : (k s first second : ℕ) → count k (run s (first + second)) ≡ count k (run s first) + count k (run (s + first) second)
@@ -45,16 +45,7 @@ move-front image front first second rest e = e ∙ ap (λ (l : List ℕ). front 
 moved-front : (image front first second rest : List ℕ) → image ≡ front ++ ((first ++ second) ++ rest) → image ≡ (front ++ first) ++ (second ++ rest)
 moved-front image front first second rest e = move-front image front first second rest e ∙ sym (append-assoc front first (second ++ rest))
 
--- contents of whole sectors
-unfoldable pub Full : List (List ℕ) → Type 0
-Full [] = Unit {0}
-Full (sector ∷ sectors) = (length sector ≡ 256) × Full sectors
-
-joined-length : (sectors : List (List ℕ)) → Full sectors → length (joined sectors) ≡ 256 * length sectors
-unfolding joined Full
-joined-length [] full = refl
-joined-length (sector ∷ sectors) full = length-append sector (joined sectors) ∙ omega (arith, full .0, joined-length sectors (full .1))
-
+-- contents laid behind a front
 contents-behind : (image front : List ℕ) (sectors : List (List ℕ)) (rest : List ℕ) (k : ℕ) → image ≡ front ++ (joined sectors ++ rest) → length front ≡ 256 * k → Full sectors
     → map (sectorOf image) (run k (length sectors)) ≡ sectors
 unfolding joined run Full
@@ -69,16 +60,20 @@ contents-behind image front (sector ∷ sectors) rest k e long full =
 
 -- what the catalogue of a sound volume says of a file
 pub record IsListed (file : File) : Type 0 where
-  pub long : length (file .header) ≡ 28
+  pub whole : Whole file
   pub name : IsName (part (file .header) 0 10)
   pub status : IsStatus (byteAt (file .header) 12)
   pub kind : IsKind (kindOf (byteAt (file .header) 12) (wordAt (file .header) 14) (byteAt (file .header) 16) (byteAt (file .header) 17)) (wordAt (file .header) 14)
   pub sectors : wordAt (file .header) 14 ≡ length (file .contents)
-  pub full : Full (file .contents)
 
 unfoldable pub Each : List File → Type 0
 Each [] = Unit {0}
 Each (file ∷ more) = IsListed file × Each more
+
+pub each-whole : (files : List File) → Each files → AllWhole files
+unfolding Each AllWhole
+each-whole [] each = tt
+each-whole (file ∷ more) each = (each .0 .whole, each-whole more (each .1))
 
 -- one block, of c sectors from s on
 one-linked : (n s c : ℕ) → 2 ≤ s → s + c ≤ n → Linked n c 0 (oneBlock s c)
@@ -100,9 +95,6 @@ one-short s (suc c) = omega arith
 
 -- a header and a chain behind it, over any header of 28 bytes
 module _ (header chain : List ℕ) (long : length header ≡ 28) (size : length chain ≡ 228) where
-  behind-length : length (header ++ chain) ≡ 256
-  behind-length = length-append header chain ∙ omega arith
-
   behind-header : part (header ++ chain) 0 28 ≡ header
   behind-header = take-at header chain 28 long
 
@@ -136,12 +128,12 @@ module _ (n s : ℕ) (file : File) (listed : IsListed file) (small : n ≤ 1600)
   packed-places : places (chainOf (packedDescriptor s file)) ≡ run s (length (file .contents))
   unfolding packedDescriptor places
   packed-places =
-      ap (placesFrom 0) (ap blocks (behind-chain (file .header) (chainWith bs) (listed .long) (chain-with-length bs)) ∙ chain-blocks) ∙ one-places s (length (file .contents))
+      ap (placesFrom 0) (ap blocks (behind-chain (file .header) (chainWith bs) (listed .whole .long) (chain-with-length bs)) ∙ chain-blocks) ∙ one-places s (length (file .contents))
 
   packed-descriptor : IsDescriptor n (packedDescriptor s file)
   unfolding packedDescriptor
   packed-descriptor =
-      let long = listed .long in
+      let long = listed .whole .long in
       let size = chain-with-length bs in
       record {
         name = rw (behind-name (file .header) (chainWith bs) long size) (listed .name);
@@ -154,13 +146,9 @@ module _ (n s : ℕ) (file : File) (listed : IsListed file) (small : n ≤ 1600)
             });
       }
 
-packed-length : (s : ℕ) (file : File) → IsListed file → length (packedDescriptor s file) ≡ 256
-unfolding packedDescriptor
-packed-length s file listed = behind-length (file .header) (chainWith (oneBlock s (length (file .contents)))) (listed .long) (chain-with-length (oneBlock s (length (file .contents))))
-
 packed-header : (s : ℕ) (file : File) → IsListed file → part (packedDescriptor s file) 0 28 ≡ file .header
 unfolding packedDescriptor
-packed-header s file listed = behind-header (file .header) (chainWith (oneBlock s (length (file .contents)))) (listed .long) (chain-with-length (oneBlock s (length (file .contents))))
+packed-header s file listed = behind-header (file .header) (chainWith (oneBlock s (length (file .contents)))) (listed .whole .long) (chain-with-length (oneBlock s (length (file .contents))))
 
 -- Files laid down in an image: descriptors at consecutive sectors from d on, the data of the first from s on and that of the others behind it.
 unfoldable pub Laid : List ℕ → ℕ → ℕ → List File → Type 0
@@ -178,29 +166,15 @@ laid image front rest front′ rest′ d s [] e e′ long long′ each = tt
 laid image front rest front′ rest′ d s (file ∷ more) e e′ long long′ each =
     let c = length (file .contents) in
     let first = packedDescriptor s file in
-    let size = packed-length s file (each .0) in
-    let size′ = joined-length (file .contents) (each .0 .full) in (
+    let size = descriptor-length s file (each .0 .whole) in
+    let size′ = joined-length (file .contents) (each .0 .whole .full) in (
       sector-behind image front first (packedDescriptors (s + c) more ++ rest) d (move-front image front first (packedDescriptors (s + c) more) rest e) long size,
-      contents-behind image front′ (file .contents) (packedData more ++ rest′) s (move-front image front′ (joined (file .contents)) (packedData more) rest′ e′) long′ (each .0 .full),
+      contents-behind image front′ (file .contents) (packedData more ++ rest′) s (move-front image front′ (joined (file .contents)) (packedData more) rest′ e′) long′ (each .0 .whole .full),
       laid image (front ++ first) rest (front′ ++ joined (file .contents)) rest′ (d + 1) (s + c) more
           (moved-front image front first (packedDescriptors (s + c) more) rest e)
           (moved-front image front′ (joined (file .contents)) (packedData more) rest′ e′)
           (length-append front first ∙ omega (arith, long, size)) (length-append front′ (joined (file .contents)) ∙ omega (arith, long′, size′)) (each .1),
     )
-
--- how long they are
-pub descriptors-length : (s : ℕ) (files : List File) → Each files → length (packedDescriptors s files) ≡ 256 * length files
-unfolding Each packedDescriptors
-descriptors-length s [] each = refl
-descriptors-length s (file ∷ more) each =
-    let c = length (file .contents) in
-    length-append (packedDescriptor s file) (packedDescriptors (s + c) more) ∙ omega (arith, packed-length s file (each .0), descriptors-length (s + c) more (each .1))
-
-pub data-length : (files : List File) → Each files → length (packedData files) ≡ 256 * dataSectors files
-unfolding Each packedData dataSectors
-data-length [] each = refl
-data-length (file ∷ more) each =
-    length-append (joined (file .contents)) (packedData more) ∙ omega (arith, joined-length (file .contents) (each .0 .full), data-length more (each .1))
 
 same-file : (header header′ : List ℕ) (contents contents′ : List (List ℕ)) → header ≡ header′ → contents ≡ contents′
     → _≡_ {A = File} (record { header = header; contents = contents }) (record { header = header′; contents = contents′ })

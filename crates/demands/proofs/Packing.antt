@@ -12,32 +12,26 @@ use Rattle.rules.specs.Map.{mapBit, count, taken, mapOf}
 use Rattle.rules.specs.Chain.{run}
 use Rattle.rules.specs.Descriptor.{fileKind, IsDescriptor}
 use Rattle.rules.specs.Index.{indexOf, IsIndex}
-use Rattle.rules.specs.Volume.{File, files, nameIn, placesIn, fileHolders, holders, headerIn, contentsIn, fileIn, catalogue}
+use Rattle.rules.specs.Volume.{File, files, nameIn, placesIn, fileHolders, headerIn, contentsIn, fileIn, catalogue}
 use Rattle.rules.specs.Sound.{Sound}
 use Rattle.rules.specs.Packing.{labelArea, packedDescriptors, packedData, dataSectors, packedSectors, packed}
-use Rattle.rules.proofs.Bytes.{part-length, part-at}
+use Rattle.rules.proofs.Bytes.{part-at}
 use Rattle.rules.proofs.Sectors.{sector-length}
-use Rattle.rules.proofs.Map.{count-none, count-here, count-other, count-more, count-append, map-of-bits}
+use Rattle.rules.proofs.Map.{count-none, count-here, count-other, count-append, map-of-bits}
 use Rattle.rules.proofs.Chain.{run-length, run-at, run-holds}
-use Rattle.rules.proofs.Volume.{places-inside, places-count}
+use Rattle.rules.proofs.Volume.{places-count}
 use Rattle.rules.proofs.Formatted.{map-length}
 use Rattle.rules.proofs.Indexed.{Ascending, index-length, numbers-index, index-is-index}
-use Rattle.rules.proofs.Free.{free-holders}
 use Rattle.rules.proofs.Written.{sound-again}
+use Rattle.rules.proofs.Packing.{descriptors-length, data-length, file-whole, label-length, used-inside}
 use Rattle.demands.specs.Catalogue.{fileName}
 use Rattle.demands.specs.Reading.{noFile}
 use Rattle.demands.proofs.Reading.{get-mapped}
 use Rattle.demands.proofs.Putting.{file-name}
 use Rattle.demands.proofs.Renames.{taken-same}
-use Rattle.demands.proofs.Packed.{count-runs, sector-behind, Full, IsListed, Each, Laid, laid, descriptors-length, data-length, laid-files, laid-descriptor, laid-holders}
+use Rattle.demands.proofs.Packed.{count-runs, sector-behind, IsListed, Each, each-whole, Laid, laid, laid-files, laid-descriptor, laid-holders}
 
 -- A file of a sound volume, as its catalogue lists it.
-full-sectors : (image ks : List ℕ) → ((k : ℕ) → 1 ≤ count k ks → 256 * k + 256 ≤ length image) → Full (map (sectorOf image) ks)
-unfolding Full
-full-sectors image [] inside = tt
-full-sectors image (k ∷ ks) inside =
-    (sector-length image k (inside k (omega (arith, count-here k ks))), full-sectors image ks (λ j h. inside j (omega (arith, h, count-more j k ks))))
-
 module _ (n : ℕ) (image : List ℕ) (whole : length image ≡ 256 * n) where
   is-listed : (k : ℕ) → k < n → IsDescriptor n (sectorOf image k) → IsListed (fileIn image k)
   unfolding fileIn headerIn contentsIn nameIn fileName fileKind
@@ -46,12 +40,11 @@ module _ (n : ℕ) (image : List ℕ) (whole : length image ≡ 256 * n) where
       let long = sector-length image k (omega arith) in
       let byte : (i : ℕ) → i < 28 → byteAt (part d 0 28) i ≡ byteAt d i = λ i h. part-at d 0 28 i h ∙ ap (byteAt d) (omega arith) in
       record {
-        long = part-length d 0 28 (omega arith);
+        whole = file-whole n image whole k inside is;
         name = rw (file-name image k) (is .name);
         status = rw (byte 12 (omega arith)) (is .status);
         kind = rw (byte 12 (omega arith), byte 14 (omega arith), byte 15 (omega arith), byte 16 (omega arith), byte 17 (omega arith)) (is .kind);
         sectors = rw (byte 14 (omega arith), byte 15 (omega arith), length-map (placesIn image k) (sectorOf image)) (sym (places-count n image k is));
-        full = full-sectors image (placesIn image k) (λ p h. omega (arith, whole, places-inside n image k p is h));
       }
 
   each-listed : (ks : List ℕ) → ((p : ℕ) → p < length ks → getD ks p 0 < n) → ((p : ℕ) → p < length ks → IsDescriptor n (sectorOf image (getD ks p 0)))
@@ -60,13 +53,6 @@ module _ (n : ℕ) (image : List ℕ) (whole : length image ≡ 256 * n) where
   each-listed [] inside is = tt
   each-listed (k ∷ ks) inside is =
       (is-listed k (inside 0 (omega arith)) (is 0 (omega arith)), each-listed ks (λ p h. inside (suc p) (omega arith)) (λ p h. is (suc p) (omega arith)))
-
--- the files hold their descriptors and their data
-held-sectors : (image ks : List ℕ) → length (fileHolders image ks) ≡ length ks + dataSectors (map (fileIn image) ks)
-unfolding fileHolders dataSectors fileIn contentsIn
-held-sectors image [] = refl
-held-sectors image (k ∷ ks) =
-    omega (arith, length-append (placesIn image k) (fileHolders image ks), length-map (placesIn image k) (sectorOf image), held-sectors image ks)
 
 -- a run holds each sector once
 run-once : (k s many : ℕ) → count k (run s many) ≤ 1
@@ -144,7 +130,7 @@ module _ (n : ℕ) (label : List ℕ) (listed : List File) (size : length label 
   system-length = length-append (label ++ mapping) indexing ∙ omega (arith, front-length, index-length (run 2 (length listed)))
 
   described-length : length (((label ++ mapping) ++ indexing) ++ described) ≡ 256 * first
-  described-length = length-append ((label ++ mapping) ++ indexing) described ∙ omega (arith, system-length, descriptors-length first listed each)
+  described-length = length-append ((label ++ mapping) ++ indexing) described ∙ omega (arith, system-length, descriptors-length first listed (each-whole listed each))
 
   packed-size : length image ≡ 256 * n
   unfolding packedSectors
@@ -156,8 +142,8 @@ module _ (n : ℕ) (label : List ℕ) (listed : List File) (size : length label 
         fits,
         map-length n (run 0 used),
         index-length (run 2 (length listed)),
-        descriptors-length first listed each,
-        data-length listed each,
+        descriptors-length first listed (each-whole listed each),
+        data-length listed (each-whole listed each),
         length-replicate {A = ℕ} (256 * (n - used)) 0xE5,
       )
 
@@ -264,8 +250,7 @@ module _ (source : List ℕ) (is : Sound source) where
   n = sectorCount source
 
   label-long : length (labelArea source) ≡ 56
-  unfolding labelArea
-  label-long = part-length (sectorOf source 0) 0 56 (omega (arith, sector-length source 0 (omega (arith, is .whole, is .size))))
+  label-long = label-length n source (is .whole) (omega (arith, is .size))
 
   source-listed : Each (catalogue source)
   unfolding catalogue files
@@ -276,8 +261,7 @@ module _ (source : List ℕ) (is : Sound source) where
   source-many = length-map (files source) (fileIn source)
 
   source-fits : packedSectors (catalogue source) ≤ n
-  unfolding packedSectors catalogue holders
-  source-fits = omega (arith, free-holders source is, held-sectors source (files source), source-many)
+  source-fits = used-inside source is
 
   source-few : length (catalogue source) ≤ 127
   unfolding files

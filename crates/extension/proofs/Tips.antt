@@ -77,15 +77,6 @@ pub length-with : (bs : List Block) (k : ℕ) → length (extended 0 bs k) ≡ t
 length-with bs k = sym (tip-used (extended 0 bs k)) ∙ ap (λ (tip : Tip). tip .used) (tip-with bs k)
 
 module _ (tip : Tip) (k : ℕ) where
-  pub used-with : tipWith tip k .used ≡ cond (isNext tip k) (tip .used) (tip .used + 1)
-  unfolding tipWith
-  used-with = go (isNext tip k) refl
-    where
-      go : (t : Bool) → isNext tip k ≡ t → tipWith tip k .used ≡ cond (isNext tip k) (tip .used) (tip .used + 1)
-      go true e = rw e
-      go false e = rw e
-
-  -- its other numbers
   pub next-with : tipWith tip k .next ≡ tip .next + 1
   unfolding tipWith
   next-with = go (isNext tip k) refl

@@ -15,7 +15,8 @@ use Rattle.rules.specs.Packing.{packedDescriptor, packedDescriptors, packedData
 use Rattle.rules.proofs.Bytes.{part-short}
 use Rattle.rules.proofs.Splice.{splice-append, splice-length, splice-none}
 use Rattle.rules.proofs.Indexed.{numbers-read}
-use Rattle.packing.proofs.FileLaws.{Kept, all-kept, first-kept, rest-kept, contents-count, descriptor-length}
+use Rattle.rules.proofs.Packing.{descriptor-length, file-whole}
+use Rattle.packing.proofs.FileLaws.{Kept, all-kept, first-kept, rest-kept, contents-count}
 
 abbrev pub filesFrom : List ℕ → List ℕ → ℕ → List File
 filesFrom image sector1 at = map (fileIn image) (numbers (drop at sector1))
@@ -106,7 +107,7 @@ unfolding packedDescriptors
 described-step {image} {sector1} {before} {after} {later} {laid} {at} {start} {to} {k} {sectors} whole described read is laid-is later-is =
     let more = filesFrom image sector1 (at + 2) in
     let count : length (fileIn image k .contents) ≡ sectors = contents-count image k (read .descriptor) ∙ sym is in
-    let long : length laid ≡ 256 = ap length laid-is ∙ descriptor-length image whole start k (read .inside) in
+    let long : length laid ≡ 256 = ap length laid-is ∙ descriptor-length start (fileIn image k) (file-whole _ image whole k (read .inside) (read .descriptor)) in
     let same = rw (read .ahead, count, ← laid-is) at (described .same) in
     let next = ap (λ (m : ℕ). splice (splice after to laid) (to + m) (packedDescriptors (start + sectors) more)) (sym long) ∙ splice-append after to laid (packedDescriptors (start + sectors) more) in
     record {

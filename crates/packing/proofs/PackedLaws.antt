@@ -10,7 +10,7 @@ use Rattle.rules.specs.Bytes.{part, splice}
 use Rattle.rules.specs.Sectors.{sectorCount}
 use Rattle.rules.specs.Map.{mapOf}
 use Rattle.rules.specs.Chain.{run}
-use Rattle.rules.specs.Index.{numbersBytes, indexOf}
+use Rattle.rules.specs.Index.{indexOf}
 use Rattle.rules.specs.Volume.{files, fileIn, catalogue}
 use Rattle.rules.specs.Verdict.{verdict}
 use Rattle.rules.specs.Sound.{Sound}
@@ -20,15 +20,13 @@ use Rattle.rules.specs.declared.Answer.the-variants.{Done, Refused}
 use Rattle.rules.proofs.Bytes.{part-length}
 use Rattle.rules.proofs.Splice.{splice-length, splice-whole, put-back}
 use Rattle.rules.proofs.Formatted.{laid-next, map-length}
-use Rattle.rules.proofs.Indexed.{laid-index}
-use Rattle.packing.proofs.FileLaws.{all-kept, label-length, descriptors-length, data-ends, used-inside}
+use Rattle.rules.proofs.Indexed.{index-length}
+use Rattle.rules.proofs.Packing.{label-length, descriptors-length, catalogue-whole, used-inside}
+use Rattle.packing.proofs.FileLaws.{data-ends}
 
 -- sectors 0 and 1
 abbrev pub system : List ℕ → ℕ → ℕ → List ℕ
 system image many used = labelArea image ++ (mapOf (sectorCount image) (run 0 used) ++ indexOf (run 2 many))
-
-index-length : (ks : List ℕ) → length (indexOf ks) ≡ 256
-index-length ks = ap length (sym (laid-index ks)) ∙ splice-length (replicate 256 0) 0 (numbersBytes ks)
 
 system-length : (image : List ℕ) (many used : ℕ) → length (labelArea image) ≡ 56 → length (system image many used) ≡ 512
 system-length image many used label =
@@ -48,7 +46,7 @@ module _ (image : List ℕ) (is : Sound image) where
 
   descriptors-all : length descriptors ≡ 256 * many
   unfolding descriptors many catalogue
-  descriptors-all = descriptors-length image (is .whole) (2 + length (files image)) (files image) (all-kept image is)
+  descriptors-all = descriptors-length (2 + length (files image)) (catalogue image) (catalogue-whole image is) ∙ omega (arith, length-map (files image) (fileIn image))
 
   -- the definition, as it is laid
   parts : (rest : List ℕ) → rest ≡ replicate (256 * (sectorCount image - used)) 0xE5
@@ -69,7 +67,7 @@ module _ (image : List ℕ) (is : Sound image) where
       let bytes = packedData (catalogue image) in
       let front = system image many used in
       let inside : used ≤ n = used-inside image is in
-      let front-long : length front ≡ 512 = system-length image many used (label-length image (is .whole) (omega (arith, is .size))) in
+      let front-long : length front ≡ 512 = system-length image many used (label-length n image (is .whole) (omega (arith, is .size))) in
       let descriptors-long : length descriptors ≡ 256 * many = descriptors-all in
       let two-long : length (front ++ descriptors) ≡ 512 + 256 * many = length-append front descriptors ∙ omega arith in
       let three-long : length ((front ++ descriptors) ++ bytes) ≡ 256 * used = length-append (front ++ descriptors) bytes ∙ omega (arith, two-long, data-ends image is) in

@@ -79,9 +79,6 @@ module _ (image : List ℕ) (k : ℕ) (file : IsFile image k) where
   pub in-volume : k < sectorCount image
   in-volume = rw (← file .is) (file-low image (file .place) (file .sound) (file .inside))
 
-  pub in-image : 256 * k + 256 ≤ length image
-  in-image = omega (arith, in-volume, file .sound .whole)
-
   pub has-rules : IsDescriptor (sectorCount image) (sectorOf image k)
   has-rules = rw (← file .is) (file .sound .descriptors (file .place) (file .inside))
 

@@ -76,10 +76,6 @@ lowest-of sector0 many from k low high free =
     ]
 
 -- whatever the map says, what is chosen is never sector 0 or 1
-pub descriptor-choice-range : (sector0 : List ℕ) → (2 ≤ descriptorChoice sector0) × (descriptorChoice sector0 ≤ 1600)
-unfolding descriptorChoice
-descriptor-choice-range sector0 = (lowest-from sector0 1598 2, lowest-to sector0 1598 2)
-
 pub data-choice-range : (sector0 : List ℕ) → (2 ≤ dataChoice sector0) × (dataChoice sector0 ≤ 1600)
 unfolding dataChoice
 data-choice-range sector0 = go (ltb (lowestFree sector0 1566 34) 1600)

@@ -80,6 +80,18 @@ replicate-zero many i =
       | no past ↦ List·getD-eq-default (replicate many 0) 0 {n = i} (omega (arith, length-replicate {A = ℕ} many 0))
     ]
 
+-- a chain of 228 bytes with those blocks at its front
+abbrev pub chainWith : List Block → List ℕ
+chainWith bs = over (replicate 228 0) (blocksBytes bs)
+
+pub chain-with-length : (bs : List Block) → length (chainWith bs) ≡ 228
+unfolding splice
+chain-with-length bs = splice-length (replicate 228 0) 0 (blocksBytes bs) ∙ length-replicate {A = ℕ} 228 0
+
+pub chain-with-past : (bs : List Block) (i : ℕ) → 3 * length bs ≤ i → byteAt (chainWith bs) i ≡ 0
+unfolding splice
+chain-with-past bs i h = splice-above (replicate 228 0) 0 (blocksBytes bs) i (omega (arith, blocks-bytes-length bs)) ∙ replicate-zero 228 i
+
 pub blocks-over : (many : ℕ) (bs : List Block) → Writable bs → 3 * length bs ≤ many → blocks (over (replicate many 0) (blocksBytes bs)) ≡ bs
 unfolding splice
 blocks-over many bs w fits =

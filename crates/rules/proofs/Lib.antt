@@ -23,3 +23,4 @@ pub mod Outcome
 pub mod Changes
 pub mod Formatted
 pub mod Listing
+pub mod Packing

@@ -4,7 +4,8 @@ use Prim.Native.Nat.{_*_, _≤_}
 use native.Mathlib.Omega.{arith}
 use lib.ListN.{length}
 use Rattle.rules.proofs.Splice.{splice-length}
-use Rattle.packing.proofs.FileLaws.{files-few, label-length, used-inside}
+use Rattle.rules.proofs.Packing.{label-length, used-inside}
+use Rattle.packing.proofs.FileLaws.{files-few}
 use Rattle.packing.proofs.PackedLaws.{laid-packed}
 use borrow.Author.Needs.{needs}
 use Rattle.packing.proofs.write_packed.Statement.{statement}
@@ -16,7 +17,7 @@ extent-of-requires c κs = search needs
 lay-system-requires : tie.Need-lay-system-requires
 lay-system-requires c κs =
     let is = c .before .before .before .before .pre .0 in
-    (omega (arith, c .before .extent-of .ensures .0, files-few _ is), label-length _ (is .whole) (omega (arith, is .size)))
+    (omega (arith, c .before .extent-of .ensures .0, files-few _ is), label-length _ _ (is .whole) (omega (arith, is .size)))
 
 lay-descriptors-requires : tie.Need-lay-descriptors-requires
 lay-descriptors-requires c κs = search needs

@@ -7,7 +7,8 @@ use lib.ListN.{length}
 use Rattle.rules.specs.Bytes.{splice}
 use Rattle.rules.specs.Calls.Load.{joined}
 use Rattle.rules.proofs.Index.{numbers-end, numbers-short}
-use Rattle.packing.proofs.FileLaws.{contents-read, files-few, used-inside, data-ends}
+use Rattle.rules.proofs.Packing.{used-inside}
+use Rattle.packing.proofs.FileLaws.{contents-read, files-few, data-ends}
 use Rattle.packing.proofs.FileSteps.{Read, Joined, rest-read, joined-start, joined-ahead, joined-step, joined-end}
 use borrow.Author.Needs.{needs}
 use Rattle.packing.proofs.files.lay_data.Statement.{statement}

@@ -8,7 +8,8 @@ use Rattle.rules.specs.Bytes.{wordAt}
 use Rattle.rules.specs.Sectors.{sectorOf}
 use Rattle.rules.specs.Descriptor.{sectorsOf}
 use Rattle.rules.proofs.Index.{numbers-end, numbers-short}
-use Rattle.packing.proofs.FileLaws.{header-read, header-length, contents-count, descriptor-packed, files-few, used-inside}
+use Rattle.rules.proofs.Packing.{header-length, used-inside}
+use Rattle.packing.proofs.FileLaws.{header-read, contents-count, descriptor-packed, files-few}
 use Rattle.packing.proofs.FileSteps.{Read, Described, rest-read, described-start, described-ahead, described-step, described-end}
 use borrow.Author.Needs.{needs}
 use Rattle.packing.proofs.files.lay_descriptors.Statement.{statement}
@@ -77,7 +78,7 @@ packed-descriptor-requires c κs =
     let w = c .before in
     let start = w .before .before .before .before .before .before .before .before .before in
     let header = header-read (start .args .source .now) _ _ (w .before .sector-of2 .ensures) _ (c .part .ensures) in
-    (ap length header ∙ header-length _ (start .pre .0 .whole) _ (read w .inside), omega (arith, few w), omega (arith, few w))
+    (ap length header ∙ header-length _ _ (start .pre .0 .whole) _ (read w .inside), omega (arith, few w), omega (arith, few w))
 
 slice-aggregate-lay : tie.Need-slice-aggregate-lay Inv-loop μ-loop
 slice-aggregate-lay c = search needs
