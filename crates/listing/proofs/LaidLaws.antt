@@ -1,12 +1,11 @@
--- Pieces of text laid over a buffer: two that follow each other are one, a piece by another name or under another limit, and what stands at the front.
+-- Pieces of text laid over a buffer: two that follow each other are one, and a piece by another name or under another limit.
 use mathlib.Core.Path.{_≡_, ap, _∙_}
 use mathlib.Core.List.{List, _++_}
 use Prim.Native.Nat.{ℕ, _+_, _≤_}
 use native.Mathlib.Omega.{arith}
-use native.Mathlib.Nat.{zero-add}
-use lib.ListN.{length, take, length-append}
+use lib.ListN.{length, length-append}
 use Rattle.rules.specs.Bytes.{splice}
-use Rattle.rules.proofs.Splice.{splice-append, splice-front}
+use Rattle.rules.proofs.Splice.{splice-append}
 use Rattle.listing.specs.Laid.{Laid}
 
 pub laid-then : {m k : ℕ} {a b c : List ℕ} {at next end : ℕ} {first second : List ℕ} → Laid m a b at next first → Laid k b c next end second
@@ -25,9 +24,3 @@ laid-as {a = a} {at = at} e h f =
       ends = f .ends ∙ ap (λ (l : List ℕ). at + length l) e;
       short = rw e at h;
     }
-
--- what stands at the front of a buffer that is long enough
-pub laid-front : {limit : ℕ} {before after : List ℕ} {next : ℕ} {bytes : List ℕ} → Laid limit before after 0 next bytes → length bytes ≤ length before → take next after ≡ bytes
-laid-front {before = before} {after = after} {bytes = bytes} f h =
-    let size : _ ≡ length bytes = f .ends ∙ zero-add (length bytes) in
-    ap (λ (n : ℕ). take n after) size ∙ ap (take (length bytes)) (f .left) ∙ splice-front before bytes h

@@ -11,13 +11,10 @@ mod text;
 use judge::judge;
 use lines::put_listing;
 use rules::Amount;
-use sector::buffer::lay;
-use sector::bytes::part;
 use text::put;
 use text::put_number;
 
-// The text goes into a local buffer first, since nothing is written where it does not fit. The buffer holds the longest:
-// a line of 21 bytes and 127 of 36.
+// The text is laid down twice, first where there is no room, which gives its length: nothing is written where it does not fit.
 pub fn listing(image: &[u8], out: &mut [u8]) -> Amount
     ensures { λ r. ⌜ (r ≡ amountOf (listingOf (now (image .entry)) (length (now (out .entry))))) × (now (out .exit) ≡ splice (now (out .entry)) 0 (listingOf (now (image .entry)) (length (now (out .entry))) .bytes)) ⌝ }
 {
@@ -25,12 +22,12 @@ pub fn listing(image: &[u8], out: &mut [u8]) -> Amount
     if number != 0 {
         return Amount::Refused(number);
     }
-    let mut text = [0u8; 4608];
-    let size = put_listing(&mut text, image);
+    let mut nothing = [0u8; 0];
+    let size = put_listing(&mut nothing, image);
     if size > out.len() {
         return Amount::Refused(15);
     }
-    lay(out, 0, part(&text, 0, size));
+    put_listing(out, image);
     Amount::Given(size)
 }
 
