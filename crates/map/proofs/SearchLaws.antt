@@ -1,21 +1,48 @@
--- The search for data goes on where it came to: what lies behind it is taken, and stays so when more sectors are marked.
+-- The search for a free sector passes over those that are taken. The search for data goes on where it came to: what lies behind it is taken, and stays so when
+-- more sectors are marked.
 use mathlib.Core.Path.{_≡_, sym, ap, _∙_}
 use mathlib.Core.List.{List}
-use Prim.Native.Nat.{ℕ, zero, suc, _+_, _-_, _≤_, _<_}
+use Prim.Native.Nat.{ℕ, zero, suc, _+_, _-_, _*_, _/_, _%_, _≤_, _<_}
 use native.Mathlib.Omega.{arith}
-use native.Mathlib.Decide.{ℕ-discrete}
+use native.Mathlib.Nat.{mod-lt}
+use native.Mathlib.Decide.{decLt, ℕ-discrete}
 use lib.ListN.{length}
 use borrow.Author.Tests.{lt-ltb, le-ltb}
+use Rattle.rules.specs.Bytes.{byteAt, bitOf}
 use Rattle.rules.specs.Map.{mapBit, marked}
 use Rattle.rules.specs.Choice.{lowestFree, dataChoice}
+use Rattle.rules.proofs.Map.{by-eight}
 use Rattle.rules.proofs.Marking.{marked-here, marked-other}
 use Rattle.rules.proofs.Choice.{lowest-step, lowest-from, lowest-to, lowest-first}
 use Rattle.map.specs.Search.{Searched}
 use Rattle.map.specs.declared.choice.Search.{Search}
 
+-- all sectors from `from` up to `to` are taken
+abbrev pub Full : List ℕ → ℕ → ℕ → Type 0
+Full sector0 from to = (i : ℕ) → from ≤ i → i < to → mapBit sector0 i ≡ 0 → ⊥
+
+pub full-on : (sector0 : List ℕ) (from at to : ℕ) → Full sector0 from at → Full sector0 at to → Full sector0 from to
+full-on sector0 from at to first second i low high =
+    elim (decLt i at) [
+      | yes before ↦ first i low before
+      | no behind ↦ second i (omega arith) high
+    ]
+
+-- one sector, and those from it to the end of a full byte
+pub full-sector : (sector0 : List ℕ) (k : ℕ) → mapBit sector0 k ≡ 1 → Full sector0 k (k + 1)
+full-sector sector0 k one i low high free =
+    let same : i ≡ k = omega arith in
+    omega (arith, one, ap (mapBit sector0) same, free)
+
+pub full-byte : (sector0 : List ℕ) (k : ℕ) → byteAt sector0 (56 + k / 8) ≡ 255 → Full sector0 k (8 * (k / 8) + 8)
+unfolding mapBit
+full-byte sector0 k full i low high =
+    let same : i / 8 ≡ k / 8 = omega arith in
+    rw (same, full)
+    (by-eight (λ (j : ℕ). bitOf 255 j ≡ 0 → ⊥) (λ z. omega arith) (λ z. omega arith) (λ z. omega arith) (λ z. omega arith) (λ z. omega arith) (λ z. omega arith) (λ z. omega arith) (λ z. omega arith) (i % 8) (mod-lt i (omega arith)))
+
 -- `past` taken sectors from k on are passed over
-pub lowest-past : (sector0 : List ℕ) (past many k : ℕ) → ((i : ℕ) → k ≤ i → i < k + past → mapBit sector0 i ≡ 0 → ⊥)
-    → lowestFree sector0 (past + many) k ≡ lowestFree sector0 many (k + past)
+lowest-past : (sector0 : List ℕ) (past many k : ℕ) → Full sector0 k (k + past) → lowestFree sector0 (past + many) k ≡ lowestFree sector0 many (k + past)
 lowest-past sector0 zero many k full =
     let e : 0 + many ≡ many = omega arith in
     let f : k + 0 ≡ k = omega arith in
@@ -26,8 +53,7 @@ lowest-past sector0 (suc past) many k full =
     rw (e, f) (lowest-step sector0 (past + many) k (full k (omega arith) (omega arith)) ∙ lowest-past sector0 past many (k + 1) (λ i low high. full i (omega arith) (omega arith)))
 
 -- from sector `from` up to `end`, all being taken up to `at`
-pub lowest-on : (sector0 : List ℕ) (from at end : ℕ) → from ≤ at → at ≤ end → ((i : ℕ) → from ≤ i → i < at → mapBit sector0 i ≡ 0 → ⊥)
-    → lowestFree sector0 (end - at) at ≡ lowestFree sector0 (end - from) from
+pub lowest-on : (sector0 : List ℕ) (from at end : ℕ) → from ≤ at → at ≤ end → Full sector0 from at → lowestFree sector0 (end - at) at ≡ lowestFree sector0 (end - from) from
 lowest-on sector0 from at end low high full =
     let e : end - from ≡ (at - from) + (end - at) = omega arith in
     let f : from + (at - from) ≡ at = omega arith in

@@ -5,19 +5,23 @@ ghost use Rattle.rules.specs.Choice.{lowestFree, descriptorChoice, dataChoice};
 ghost use Rattle.map.specs.Search.{Searched};
 use sector::bytes::byte;
 
-// The lowest free sector from `from` on, or `end` where all before it are taken.
+// The lowest free sector from `from` on, or `end` where all before it are taken. A full byte of the map is passed at once.
 fn lowest_free(sector0: &[u8], from: usize, end: usize) -> usize
     requires { ⌜ (from ≤ end) × (end ≤ 1600) ⌝ }
     ensures { λ r. ⌜ (r ≡ lowestFree (now (sector0 .entry)) (end - from) from) × (r ≤ end) ⌝ }
 {
     let mut k = from;
     while k < end {
-        if (byte(sector0, 56 + k / 8) >> (k % 8)) % 2 == 0 {
+        let value = byte(sector0, 56 + k / 8);
+        if value == 255 {
+            k = 8 * (k / 8) + 8;
+        } else if (value >> (k % 8)) % 2 == 1 {
+            k += 1;
+        } else {
             return k;
         }
-        k += 1;
     }
-    k
+    end
 }
 
 // The sector for a new descriptor: the lowest free one from 2 up.

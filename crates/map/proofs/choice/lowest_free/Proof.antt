@@ -1,23 +1,24 @@
--- `map::choice::lowest_free` meets its contract. The loop's invariant: the lowest free sector from k on is the lowest from `from` on. The measure is what is left.
+-- `map::choice::lowest_free` meets its contract. The loop's invariant: all sectors from `from` up to k are taken. The measure is what is left.
 -- Assumes nothing.
-use mathlib.Core.Path.{_≡_, refl, sym, ap, _∙_}
-use Prim.Native.Nat.{ℕ, suc, _+_, _-_, _≤_}
+use mathlib.Core.Path.{_≡_, sym, _∙_}
+use Prim.Native.Nat.{suc, _+_, _-_, _/_, _≤_}
 use native.Mathlib.Omega.{arith}
+use Rattle.rules.specs.Bytes.{byteAt}
 use Rattle.rules.specs.Map.{mapBit}
-use Rattle.rules.specs.Choice.{lowestFree}
-use Rattle.rules.proofs.Choice.{lowest-end, lowest-here, lowest-step}
+use Rattle.rules.proofs.Choice.{lowest-end, lowest-here}
+use Rattle.map.proofs.SearchLaws.{Full, full-on, full-sector, full-byte, lowest-on}
 use borrow.Author.Needs.{needs}
 use Rattle.map.proofs.choice.lowest_free.Statement.{statement}
 use Rattle.map.proofs.choice.lowest_free.Tie as tie
 
 abbrev Inv-loop : tie.InvT-loop
-Inv-loop sector0 from end k₀ k = (k ≤ end) × (lowestFree sector0 (end - k) k ≡ lowestFree sector0 (end - from) from)
+Inv-loop sector0 from end k₀ k = (from ≤ k) × Full sector0 from k
 
 abbrev μ-loop : tie.MeasureT-loop
 μ-loop sector0 from end k₀ k = end - k
 
 loop-holds : tie.Need-loop-holds Inv-loop μ-loop
-loop-holds c = (search needs, refl)
+loop-holds c = (omega arith, λ i low high free. omega arith)
 
 add-byte : tie.Need-add-byte Inv-loop μ-loop
 add-byte c = search needs
@@ -25,16 +26,8 @@ add-byte c = search needs
 byte-requires : tie.Need-byte-requires Inv-loop μ-loop
 byte-requires c κs = search needs
 
-shr-if1 : tie.Need-shr-if1 Inv-loop μ-loop
-shr-if1 c = search needs
-
-returns : tie.Need-returns Inv-loop μ-loop
-unfolding mapBit
-returns c =
-    let l = c .before .before .before .loop in
-    let a = c .before .before .before .before .before .args in
-    let e : a .end - l .k ≡ suc (a .end - (l .k + 1)) = omega arith in
-    (sym (lowest-here (a .sector0 .now) _ (l .k) (rw (← c .before .byte .ensures .0) (c .if1 .taken))) ∙ sym (ap (λ (m : ℕ). lowestFree (a .sector0 .now) m (l .k)) e) ∙ l .inv .1, search needs)
+mul-k : tie.Need-mul-k Inv-loop μ-loop
+mul-k c = search needs
 
 add-k : tie.Need-add-k Inv-loop μ-loop
 add-k c = search needs
@@ -43,19 +36,44 @@ loop-less : tie.Need-loop-less Inv-loop μ-loop
 loop-less c = search needs
 
 loop-again : tie.Need-loop-again Inv-loop μ-loop
-unfolding mapBit
 loop-again c =
     let l = c .before .before .before .loop in
     let a = c .before .before .before .before .before .args in
+    let full : byteAt (a .sector0 .now) (56 + l .k / 8) ≡ 255 = omega (arith, c .before .byte .ensures .0, c .if1 .taken) in
+    (omega arith, full-on (a .sector0 .now) (a .from) (l .k) _ (l .inv .1) (full-byte (a .sector0 .now) (l .k) full))
+
+shr-if2 : tie.Need-shr-if2 Inv-loop μ-loop
+shr-if2 c = search needs
+
+add-k-2 : tie.Need-add-k-2 Inv-loop μ-loop
+add-k-2 c = search needs
+
+loop-less-2 : tie.Need-loop-less-2 Inv-loop μ-loop
+loop-less-2 c = search needs
+
+loop-again-2 : tie.Need-loop-again-2 Inv-loop μ-loop
+unfolding mapBit
+loop-again-2 c =
+    let l = c .before .before .before .before .loop in
+    let a = c .before .before .before .before .before .before .args in
+    (omega arith, full-on (a .sector0 .now) (a .from) (l .k) _ (l .inv .1) (full-sector (a .sector0 .now) (l .k) (rw (← c .before .before .byte .ensures .0) (c .if2 .taken))))
+
+returns : tie.Need-returns Inv-loop μ-loop
+unfolding mapBit
+returns c =
+    let l = c .before .before .before .before .loop in
+    let a = c .before .before .before .before .before .before .args in
     let e : a .end - l .k ≡ suc (a .end - (l .k + 1)) = omega arith in
-    (search needs, sym (lowest-step (a .sector0 .now) _ (l .k) (λ z. c .if1 .left (rw (c .before .byte .ensures .0) z))) ∙ sym (ap (λ (m : ℕ). lowestFree (a .sector0 .now) m (l .k)) e) ∙ l .inv .1)
+    let free : mapBit (a .sector0 .now) (l .k) ≡ 0 = rw (← c .before .before .byte .ensures .0) (omega (arith, c .if2 .left)) in
+    (sym (rw e (lowest-here (a .sector0 .now) _ (l .k) free)) ∙ lowest-on (a .sector0 .now) (a .from) (l .k) (a .end) (l .inv .0) (omega arith) (l .inv .1), omega arith)
 
 returns-2 : tie.Need-returns-2 Inv-loop μ-loop
 returns-2 c =
     let l = c .before .loop in
     let a = c .before .before .before .args in
-    let e : a .end - l .k ≡ 0 = omega arith in
-    (sym (lowest-end (a .sector0 .now) (l .k)) ∙ sym (ap (λ (m : ℕ). lowestFree (a .sector0 .now) m (l .k)) e) ∙ l .inv .1, l .inv .0)
+    let e : a .end - a .end ≡ 0 = omega arith in
+    let whole = lowest-on (a .sector0 .now) (a .from) (a .end) (a .end) (c .before .before .before .pre .0) (omega arith) (λ i low high. l .inv .1 i low (omega arith)) in
+    (sym (rw e (lowest-end (a .sector0 .now) (a .end))) ∙ whole, omega arith)
 
 pub lowest-free-spec : {M : Type 1} → statement M
 lowest-free-spec =
@@ -66,9 +84,13 @@ lowest-free-spec =
     loop-holds
     add-byte
     byte-requires
-    shr-if1
-    returns
+    mul-k
     add-k
     loop-less
     loop-again
+    shr-if2
+    add-k-2
+    loop-less-2
+    loop-again-2
+    returns
     returns-2)

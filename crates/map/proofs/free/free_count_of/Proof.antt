@@ -1,36 +1,44 @@
--- `map::free::free_count_of` meets its contract. The loop's invariant: the zero bits counted and those from byte i of the map on are the free count.
--- The measure is what is left of the map. Assumes nothing.
-use mathlib.Core.Path.{_≡_, ap, _∙_}
-use Prim.Native.Nat.{ℕ, _+_, _-_, _*_, _≤_}
+-- `map::free::free_count_of` meets its contract. The loop's invariant: the free count and the one bits of the map's first i bytes are all the bits of these
+-- bytes and the zero bits of the others. The measure is what is left of the map. Assumes nothing.
+use mathlib.Core.Path.{_≡_}
+use Prim.Native.Nat.{_+_, _-_, _*_, _≤_, _<_}
 use native.Mathlib.Omega.{arith}
-use Rattle.rules.specs.Map.{zeroBits, freeCount}
-use Rattle.map.specs.Zeros.{zerosIn}
-use Rattle.map.proofs.FreeSteps.{zeros-step, zeros-end}
+use lib.ListN.{length}
+use lib.Count.{ones, ones-le}
+use Rattle.rules.specs.Bytes.{byteAt}
+use Rattle.rules.specs.Map.{freeCount}
+use Rattle.rules.proofs.Bytes.{part-short}
+use Rattle.map.proofs.FreeSteps.{zerosFrom, zeros-step, zeros-end}
 use borrow.Author.Needs.{needs}
 use Rattle.map.proofs.free.free_count_of.Statement.{statement}
 use Rattle.map.proofs.free.free_count_of.Tie as tie
 
 abbrev Inv-loop : tie.InvT-loop
-Inv-loop sector0 free₀ i₀ free i = (i ≤ 200) × (free ≤ 8 * i) × (free + zeroBits sector0 (8 * (200 - i)) (8 * i) ≡ freeCount sector0)
+Inv-loop sector0 map taken₀ i₀ taken i = (i ≤ length map) × (length map ≤ 200) × (taken ≤ 8 * i) × (freeCount sector0 + taken ≡ 8 * i + zerosFrom sector0 i)
 
 abbrev μ-loop : tie.MeasureT-loop
-μ-loop sector0 free₀ i₀ free i = 200 - i
+μ-loop sector0 map taken₀ i₀ taken i = length map - i
+
+-- byte i of the map
+module _ (c : tie.After-shared-slice-known2 Inv-loop μ-loop) where
+  small : byteAt (c .before .before .before .part .result .now) (c .before .before .loop .i) < 256
+  small = omega (arith, c .shared-slice-known2 .given (c .before .before .loop .i))
+
+  few : ones (byteAt (c .before .before .before .part .result .now) (c .before .before .loop .i)) ≤ 8
+  few = ones-le 8 _ small
+
+part-requires : tie.Need-part-requires Inv-loop μ-loop
+part-requires c κs = search needs
 
 loop-holds : tie.Need-loop-holds Inv-loop μ-loop
 unfolding freeCount
-loop-holds c = (omega arith, omega arith, omega arith)
+loop-holds c = (omega arith, rw (c .part .ensures) (part-short (c .before .before .args .sector0 .now) 56 200), omega arith, omega arith)
 
-add-byte : tie.Need-add-byte Inv-loop μ-loop
-add-byte c = search needs
+shared-slice-read-taken : tie.Need-shared-slice-read-taken Inv-loop μ-loop
+shared-slice-read-taken c = search needs
 
-byte-requires : tie.Need-byte-requires Inv-loop μ-loop
-byte-requires c κs = search needs
-
-zeros-in-requires : tie.Need-zeros-in-requires Inv-loop μ-loop
-zeros-in-requires c κs = search needs
-
-add-free : tie.Need-add-free Inv-loop μ-loop
-add-free c = search needs
+add-taken : tie.Need-add-taken Inv-loop μ-loop
+add-taken c = record { fits = omega (arith, few c) }
 
 add-i : tie.Need-add-i Inv-loop μ-loop
 add-i c = search needs
@@ -40,21 +48,21 @@ loop-less c = search needs
 
 loop-again : tie.Need-loop-again Inv-loop μ-loop
 loop-again c =
-    let l = c .before .before .before .loop in
-    let sector0 = c .before .before .before .before .before .args .sector0 .now in
-    let many = ap (λ (k : ℕ). zeroBits sector0 k (8 * l .i)) {x = 8 * (200 - l .i)} {y = 8 + 8 * (200 - (l .i + 1))} (omega arith) in
-    let place = ap (zeroBits sector0 (8 * (200 - (l .i + 1)))) {x = 8 * (l .i + 1)} {y = 8 * l .i + 8} (omega arith) in
-    let step = zeros-step sector0 (l .i) (8 * (200 - (l .i + 1))) in
-    let here = c .before .byte .ensures .0 in
-    let zeros = c .zeros-in .ensures .0 ∙ ap zerosIn here in
-    (omega arith, omega arith, omega arith)
+    let l = c .before .before .loop in
+    let map = c .before .before .before .part .ensures in
+    let step = zeros-step (c .before .before .before .before .before .args .sector0 .now) (l .i) (omega arith) (rw map at (small c)) in
+    (omega arith, omega arith, omega (arith, few c), omega (arith, rw (← map) at step))
+
+cast-result : tie.Need-cast-result Inv-loop μ-loop
+cast-result c = search needs
+
+sub-result : tie.Need-sub-result Inv-loop μ-loop
+sub-result c = search needs
 
 returns : tie.Need-returns Inv-loop μ-loop
 returns c =
-    let l = c .before .loop in
-    let sector0 = c .before .before .before .args .sector0 .now in
-    let none = zeros-end sector0 (8 * (200 - l .i)) (8 * l .i) (omega arith) in
-    (omega arith, omega arith)
+    let whole = zeros-end (c .before .before .before .before .args .sector0 .now) (c .before .loop .i) (rw (← c .before .before .part .ensures) (omega arith)) in
+    (omega (arith, whole), omega arith)
 
 pub free-count-of-spec : {M : Type 1} → statement M
 free-count-of-spec =
@@ -62,12 +70,13 @@ free-count-of-spec =
     (tie.spec
     Inv-loop
     μ-loop
+    part-requires
     loop-holds
-    add-byte
-    byte-requires
-    zeros-in-requires
-    add-free
+    shared-slice-read-taken
+    add-taken
     add-i
     loop-less
     loop-again
+    cast-result
+    sub-result
     returns)
