@@ -4,9 +4,9 @@
 //
 // A case is a function that makes its volume in an array of its own, so no case leans on another. Its
 // answer is whether its lines could be written.
-use changing::append;
+use appending::append;
+use creating::create;
 use descriptor::chain::place_at;
-use filing::create;
 use filing::delete;
 use formatting::format::Geometry;
 use formatting::format::format;

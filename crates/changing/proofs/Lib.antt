@@ -1,3 +1,2 @@
--- The laws that the proofs share: which test of a call gives which number.
+-- The laws that the proofs share: which test of overwriting gives which number.
 mod OverwriteLaws
-mod AppendLaws

@@ -5,7 +5,7 @@ ghost use Rattle.rules.specs.Sound.{IsFile};
 ghost use Rattle.rules.specs.Outcome.{answerOf};
 ghost use Rattle.rules.specs.Calls.Overwrite.{overwriting, overwriteOf};
 use descriptor::chain::place_at;
-use reading::find;
+use opening::find;
 use rules::Answer;
 use rules::Opened;
 use sector::buffer::copy;

@@ -5,7 +5,7 @@ ghost use Rattle.rules.specs.Outcome.{answerOf};
 ghost use Rattle.rules.specs.Calls.Protect.{protectOf, unprotectOf};
 use map::bits::with_one;
 use map::bits::with_zero;
-use reading::find;
+use opening::find;
 use rules::Answer;
 use rules::Opened;
 use sector::buffer::sector_copy;

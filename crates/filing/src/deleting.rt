@@ -9,7 +9,7 @@ ghost use Rattle.rules.specs.Outcome.{answerOf};
 ghost use Rattle.rules.specs.Calls.Delete.{deleting, deleteOf};
 use index::index_without;
 use map::bits::clear_file;
-use reading::find;
+use opening::find;
 use rules::Answer;
 use rules::Opened;
 use sector::buffer::sector_copy;

@@ -1,9 +1,7 @@
-// The files of a volume: one more, one less, one under another name. Each call takes any image and any arguments, answers with its
+// The files of a volume: one less, one under another name. Each call takes any image and any arguments, answers with its
 // number, and leaves the image with the writes of the rules' definition laid over it; a refusal has none.
-mod creating;
 mod deleting;
 mod renaming;
 
-pub use creating::create;
 pub use deleting::delete;
 pub use renaming::rename;

@@ -13,7 +13,7 @@ ghost use Rattle.rules.specs.Calls.Rename.{renaming, renameOf};
 use descriptor::name::name_rule;
 use index::index_with;
 use index::index_without;
-use reading::find_in;
+use opening::find_in;
 use rules::Answer;
 use rules::Opened;
 use sector::buffer::lay;

@@ -73,7 +73,7 @@ pub extern "C" fn pno_format(
 pub extern "C" fn pno_free_count(image: &[u8], free: &mut usize) -> u32
     ensures { λ r. ⌜ (r ≡ freeCountOf (now (image .entry)) .number) × (now (free .exit) ≡ behind r (freeCountOf (now (image .entry)) .value) (now (free .entry))) ⌝ }
 {
-    amount_number(reading::free_count(image), free)
+    amount_number(volume::free_count(image), free)
 }
 
 // Disk name, number of sectors, of files, and of free sectors.
@@ -91,7 +91,7 @@ pub extern "C" fn pno_summary(
     ensures count { λ r. ⌜ now (count .exit) ≡ behind r (length (files (now (image .entry)))) (now (count .entry)) ⌝ }
     ensures free { λ r. ⌜ now (free .exit) ≡ behind r (freeCount (sectorOf (now (image .entry)) 0)) (now (free .entry)) ⌝ }
 {
-    let summary = reading::summary(image, name);
+    let summary = volume::summary(image, name);
     match summary {
         Summary::Refused(number) => number,
         Summary::Given {
@@ -125,7 +125,7 @@ pub extern "C" fn pno_entry(
     ensures sectors { λ r. ⌜ now (sectors .exit) ≡ behind r (sectorsOf (sectorOf (now (image .entry)) (fileAt (now (image .entry)) place))) (now (sectors .entry)) ⌝ }
     ensures protection { λ r. ⌜ now («is_protected» .exit) ≡ behind r (flag (isProtected (statusOf (sectorOf (now (image .entry)) (fileAt (now (image .entry)) place))))) (now («is_protected» .entry)) ⌝ }
 {
-    let entry = reading::entry(image, place, header);
+    let entry = volume::entry(image, place, header);
     let answer = entry.answer;
     let row = entry.row;
     match answer {
@@ -176,7 +176,7 @@ pub extern "C" fn pno_create(
 ) -> u32
     ensures { λ r. ⌜ (r ≡ createOf (now (image .entry)) (now (name .entry)) status «record_length» «records_per_sector» .number) × (now (image .exit) ≡ written (now (image .entry)) (createOf (now (image .entry)) (now (name .entry)) status «record_length» «records_per_sector» .writes)) ⌝ }
 {
-    answer_number(filing::create(image, name, status, record_length, records_per_sector))
+    answer_number(creating::create(image, name, status, record_length, records_per_sector))
 }
 
 // One sector more of a file.
@@ -184,7 +184,7 @@ pub extern "C" fn pno_create(
 pub extern "C" fn pno_append(image: &mut [u8], name: &[u8], bytes: &[u8]) -> u32
     ensures { λ r. ⌜ (r ≡ appendOf (now (image .entry)) (now (name .entry)) (now (bytes .entry)) .number) × (now (image .exit) ≡ written (now (image .entry)) (appendOf (now (image .entry)) (now (name .entry)) (now (bytes .entry)) .writes)) ⌝ }
 {
-    answer_number(changing::append(image, name, bytes))
+    answer_number(appending::append(image, name, bytes))
 }
 
 // Another 256 bytes in a sector of a file.

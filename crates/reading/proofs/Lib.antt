@@ -1,5 +1,3 @@
--- The laws that the reading calls share.
+-- The laws of a sector read and of a load.
 mod Pieces
-mod EntryLaws
 mod ReadLaws
-mod VolumeLaws

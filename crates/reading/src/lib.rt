@@ -1,16 +1,7 @@
-// The reading calls. Each takes any image and any arguments, and gives what the rules' definition of it says: its number
-// first, in the table's order, and with 0 its values and bytes. A refusal writes nothing.
-mod entries;
-mod opener;
+// What a file holds: a sector of it, and a program's bytes. Each call takes any image and any arguments, and gives what the rules'
+// definition of it says: its number first, in the table's order, and with 0 its bytes. A refusal writes nothing.
 mod programs;
-mod row;
 mod sectors;
-mod volumes;
 
-pub use entries::entry;
-pub use opener::find;
-pub use opener::find_in;
 pub use programs::load;
 pub use sectors::read;
-pub use volumes::free_count;
-pub use volumes::summary;

@@ -25,7 +25,7 @@ use map::bits::mark;
 use map::choice::Search;
 use map::choice::descriptor_choice;
 use map::free::free_count_of;
-use reading::find;
+use opening::find;
 use rules::Answer;
 use rules::Opened;
 use sector::buffer::lay;

@@ -1,0 +1,2 @@
+-- The laws that the proofs share: which test of appending gives which number.
+mod AppendLaws

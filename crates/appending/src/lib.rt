@@ -1,0 +1,102 @@
+// Appending: one sector more of a file. The call takes any image and any arguments, answers with its number, and leaves the image with the
+// writes of the rules' definition laid over it; a refusal has none.
+ghost use mathlib.Core.Path.{_≡_};
+ghost use Prim.Native.Nat.{_+_};
+ghost use lib.ListN.{length};
+ghost use Rattle.rules.specs.Sectors.{written};
+ghost use Rattle.rules.specs.Chain.{blocks, extended};
+ghost use Rattle.rules.specs.Descriptor.{sectorsOf, chainOf, withChain};
+ghost use Rattle.rules.specs.Map.{marked};
+ghost use Rattle.rules.specs.Sectors.{sectorOf};
+ghost use Rattle.rules.specs.Sound.{IsFile};
+ghost use Rattle.rules.specs.Outcome.{answerOf};
+ghost use Rattle.rules.specs.Calls.Append.{appending, appendOf};
+ghost use Rattle.extension.specs.Built.{Extendable};
+use extension::Tip;
+use extension::extend;
+use extension::tip_of;
+use extension::tip_with;
+use map::bits::mark;
+use map::choice::Search;
+use map::free::free_count_of;
+use opening::find;
+use rules::Answer;
+use rules::Opened;
+use sector::buffer::lay;
+use sector::buffer::sector_copy;
+use sector::buffer::write_sector;
+use sector::bytes::byte;
+use sector::bytes::part;
+use sector::bytes::sector_of;
+
+// The descriptor of the file with the sector `new` behind its chain.
+fn longer(descriptor: &[u8], tip: Tip, new: usize) -> [u8; 256]
+    requires { ⌜ (length (now descriptor) ≡ 256) × Extendable (chainOf (now descriptor)) tip new × (sectorsOf (now descriptor) ≡ tip .next) ⌝ }
+    ensures { λ r. ⌜ r ≡ withChain (now (descriptor .entry)) (sectorsOf (now (descriptor .entry)) + 1) (extended 0 (blocks (chainOf (now (descriptor .entry)))) new) ⌝ }
+{
+    let c = tip.next + 1;
+    let high = (c / 256) as u8;
+    let low = (c % 256) as u8;
+    let count = [high, low];
+    let mut longer = [0u8; 256];
+    lay(&mut longer, 0, descriptor);
+    lay(&mut longer, 14, &count);
+    extend(&mut longer[28..256], tip, new);
+    longer
+}
+
+// Sector 0 with the sector `new` taken.
+fn map_with(image: &[u8], new: usize) -> [u8; 256]
+    requires { ⌜ length (sectorOf (now image) 0) ≡ 256 ⌝ }
+    ensures { λ r. ⌜ r ≡ marked 1 (sectorOf (now (image .entry)) 0) new ⌝ }
+{
+    let mut sector0 = sector_copy(image, 0);
+    mark(&mut sector0, new);
+    sector0
+}
+
+// Of the file whose descriptor is in sector k.
+fn append_at(image: &mut [u8], k: usize, bytes: &[u8]) -> Answer
+    requires { ⌜ IsFile (now image) k ⌝ }
+    ensures { λ r. ⌜ r ≡ answerOf (appending (now (image .entry)) (now (bytes .entry)) k .number) ⌝ }
+    ensures { λ _. ⌜ now (image .exit) ≡ written (now (image .entry)) (appending (now (image .entry)) (now (bytes .entry)) k .writes) ⌝ }
+{
+    let status = byte(sector_of(image, k), 12);
+    if status / 8 % 2 == 1 {
+        return Answer::Refused(10);
+    }
+    if status % 2 == 1 {
+        return Answer::Refused(14);
+    }
+    if bytes.len() != 256 {
+        return Answer::Refused(15);
+    }
+    if free_count_of(sector_of(image, 0)) == 0 {
+        return Answer::Refused(12);
+    }
+    let search = Search::first();
+    let found = search.next(sector_of(image, 0));
+    let new = found.sector;
+    let tip = tip_of(part(sector_of(image, k), 28, 228));
+    let with = tip_with(tip, new);
+    if with.used > 76 {
+        return Answer::Refused(13);
+    }
+    let descriptor = longer(sector_of(image, k), tip, new);
+    let sector0 = map_with(image, new);
+    write_sector(image, new, bytes);
+    write_sector(image, 0, &sector0);
+    write_sector(image, k, &descriptor);
+    Answer::Done
+}
+
+pub fn append(image: &mut [u8], name: &[u8], bytes: &[u8]) -> Answer
+    ensures { λ r. ⌜ r ≡ answerOf (appendOf (now (image .entry)) (now (name .entry)) (now (bytes .entry)) .number) ⌝ }
+    ensures { λ _. ⌜ now (image .exit) ≡ written (now (image .entry)) (appendOf (now (image .entry)) (now (name .entry)) (now (bytes .entry)) .writes) ⌝ }
+{
+    let opened = find(image, name);
+    match opened {
+        Opened::Refused(number) => Answer::Refused(number),
+        Opened::At(_, k) => append_at(image, k, bytes),
+    }
+}

@@ -1,0 +1,195 @@
+-- `creating::create_new` meets its contract: each refusal gives the number of the first test that failed, the tests before it having passed.
+-- Assumes nothing.
+use mathlib.Core.Path.{_≡_, sym, _∙_}
+use mathlib.Core.Bool.{true, false}
+use mathlib.Core.List.{List}
+use Prim.Native.Nat.{ℕ, _<_}
+use native.Mathlib.Omega.{arith}
+use lib.ListN.{length}
+use borrow.Author.Tests.{le-ltb, lt-ltb, le-leb, lt-leb, not-true, not-false}
+use Rattle.rules.specs.Bytes.{wordAt}
+use Rattle.rules.specs.Sectors.{sectorOf}
+use Rattle.rules.specs.Map.{freeCount, marked}
+use Rattle.rules.specs.Descriptor.{newDescriptor}
+use Rattle.rules.specs.Volume.{files}
+use Rattle.rules.specs.Choice.{descriptorChoice}
+use Rattle.rules.specs.Sound.{Sound}
+use Rattle.rules.specs.Outcome.{done, refusal}
+use Rattle.rules.specs.Calls.Create.{createStatus, entered, creating}
+use Rattle.rules.proofs.Name.{name-is}
+use Rattle.rules.proofs.Outcome.{place-none, place-some, file-long}
+use Rattle.rules.proofs.Changes.{refusal-meets, done-meets}
+use borrow.Author.Needs.{needs}
+use Rattle.creating.proofs.create_new.Statement.{statement}
+use Rattle.creating.proofs.create_new.Tie as tie
+
+-- which test gives which number; place 126, the last but one, is that of a 127th file
+module _ (image name : List ℕ) (status recordLength recordsPerSector : ℕ) where
+  misasked : createStatus status ≡ false → creating image name status recordLength recordsPerSector ≡ refusal 15
+  unfolding creating
+  misasked e = rw e
+
+  module _ (whole : Sound image) (asked : createStatus status ≡ true) where
+    full : (wordAt (sectorOf image 1) 252 ≡ 0 → ⊥) → creating image name status recordLength recordsPerSector ≡ refusal 11
+    unfolding creating
+    full some = rw (asked, le-ltb (length (files image)) 127 (place-some image 126 whole some .0))
+
+    module _ (room : wordAt (sectorOf image 1) 252 ≡ 0) where
+      few : length (files image) < 127
+      few = omega (arith, place-none image 126 whole room)
+
+      taken : freeCount (sectorOf image 0) ≡ 0 → creating image name status recordLength recordsPerSector ≡ refusal 12
+      unfolding creating
+      taken none = rw (asked, lt-ltb (length (files image)) 127 few, lt-leb 1 (freeCount (sectorOf image 0)) (omega arith))
+
+      passed : (freeCount (sectorOf image 0) ≡ 0 → ⊥) → creating image name status recordLength recordsPerSector
+          ≡ done (entered image name (descriptorChoice (sectorOf image 0)) (newDescriptor name status recordsPerSector 0 recordLength) (marked 1 (sectorOf image 0) (descriptorChoice (sectorOf image 0))))
+      unfolding creating
+      passed some = rw (asked, lt-ltb (length (files image)) 127 few, le-leb 1 (freeCount (sectorOf image 0)) (omega (arith, some)))
+
+asked : (c : tie.Else1) → createStatus (c .before .before .before .before .args .status) ≡ true
+asked c = sym (c .before .create-status .ensures) ∙ not-false (c .before .create-status .result) (c .if1 .left)
+
+last-is : (c : tie.After-word) → c .word .result ≡ wordAt (sectorOf (c .before .before .before .before .before .before .before .args .image .now) 1) 252
+last-is c = rw (c .word .ensures .0, c .before .sector-of .ensures)
+
+free-is : (c : tie.After-free-count-of) → c .free-count-of .result
+    ≡ freeCount (sectorOf (c .before .before .before .before .before .before .before .before .before .before .before .args .image .now) 0)
+free-is c = rw (c .free-count-of .ensures .0, c .before .sector-of2 .ensures)
+
+create-status-requires : tie.Need-create-status-requires
+create-status-requires c κs = search needs
+
+returns : tie.Need-returns
+returns c =
+    let a = c .before .before .before .before .args in
+    let s = c .before .create-status in
+    refusal-meets (a .image .now) (creating (a .image .now) (a .name .now) (a .status) (a .record-length) (a .records-per-sector)) 15 (λ z. omega arith)
+    (misasked _ _ _ _ _ (sym (s .ensures) ∙ not-true (s .result) (c .if1 .taken)))
+
+sector-of-requires : tie.Need-sector-of-requires
+sector-of-requires c κs = search needs
+
+word-requires : tie.Need-word-requires
+word-requires c κs = search needs
+
+same-length : tie.Need-same-length
+same-length c = search needs
+
+returns-2 : tie.Need-returns-2
+returns-2 c =
+    let start = c .before .before .before .before .before .before .before .before in
+    let a = start .args in
+    refusal-meets (a .image .now) (creating (a .image .now) (a .name .now) (a .status) (a .record-length) (a .records-per-sector)) 11 (λ z. omega arith)
+    (full _ _ _ _ _ (start .pre .0) (asked (c .before .before .before .before)) (λ z. c .if2 .taken (last-is (c .before) ∙ z)))
+
+sector-of-requires-2 : tie.Need-sector-of-requires-2
+sector-of-requires-2 c κs = search needs
+
+free-count-of-requires : tie.Need-free-count-of-requires
+free-count-of-requires c κs = search needs
+
+same-length-2 : tie.Need-same-length-2
+same-length-2 c = search needs
+
+returns-3 : tie.Need-returns-3
+returns-3 c =
+    let room = c .before .before .before .before in
+    let start = room .before .before .before .before .before .before .before .before in
+    let a = start .args in
+    refusal-meets (a .image .now) (creating (a .image .now) (a .name .now) (a .status) (a .record-length) (a .records-per-sector)) 12 (λ z. omega arith)
+    (taken _ _ _ _ _ (start .pre .0) (asked (room .before .before .before .before)) (sym (last-is (room .before)) ∙ room .if2 .left) (sym (free-is (c .before)) ∙ c .if3 .taken))
+
+sector-of-requires-3 : tie.Need-sector-of-requires-3
+sector-of-requires-3 c κs = search needs
+
+descriptor-choice-requires : tie.Need-descriptor-choice-requires
+descriptor-choice-requires c κs = search needs
+
+new-descriptor-requires : tie.Need-new-descriptor-requires
+new-descriptor-requires c κs = name-is _ (c .before .before .before .before .before .before .before .before .before .before .before .before .before .before .before .pre .1) .ten
+
+sector-copy-requires : tie.Need-sector-copy-requires
+sector-copy-requires c κs =
+    let whole = c .before .before .before .before .before .before .before .before .before .before .before .before .before .before .before .before .before .pre .0 in
+    (omega arith, file-long _ 0 whole (omega (arith, whole .size)))
+
+slice-aggregate-mark : tie.Need-slice-aggregate-mark
+slice-aggregate-mark c = search needs
+
+mark-requires : tie.Need-mark-requires
+mark-requires c κs = search needs
+
+sector-of-requires-4 : tie.Need-sector-of-requires-4
+sector-of-requires-4 c κs = search needs
+
+index-with-requires : tie.Need-index-with-requires
+index-with-requires c κs = search needs
+
+slice-aggregate-enter : tie.Need-slice-aggregate-enter
+slice-aggregate-enter c = search needs
+
+slice-aggregate-enter-2 : tie.Need-slice-aggregate-enter-2
+slice-aggregate-enter-2 c = search needs
+
+slice-aggregate-enter-3 : tie.Need-slice-aggregate-enter-3
+slice-aggregate-enter-3 c = search needs
+
+enter-requires : tie.Need-enter-requires
+enter-requires c κs = search needs
+
+same-length-3 : tie.Need-same-length-3
+same-length-3 c = search needs
+
+returns-4 : tie.Need-returns-4
+unfolding entered files
+returns-4 c =
+    let entering = c .before .before in
+    let index = entering .before .before .before .before .before in
+    let sector1 = index .before in
+    let marking = sector1 .before .before .before in
+    let copied = marking .before .before in
+    let descriptor = copied .before .before in
+    let choice = descriptor .before in
+    let sector0 = choice .before in
+    let some = sector0 .before .before in
+    let room = some .before .before .before .before in
+    let start = room .before .before .before .before .before .before .before .before in
+    let a = start .args in
+    let met =
+    done-meets (a .image .now) (creating (a .image .now) (a .name .now) (a .status) (a .record-length) (a .records-per-sector)) _
+    (passed _ _ _ _ _ (start .pre .0) (asked (room .before .before .before .before)) (sym (last-is (room .before)) ∙ room .if2 .left) (λ z. some .if3 .left (free-is (some .before) ∙ z)))
+    in (
+      met .0,
+      rw (entering .enter .ensures, index .index-with .ensures, sector1 .sector-of4 .ensures, marking .mark .ensures, copied .sector-copy .ensures, descriptor .new-descriptor .ensures, choice .descriptor-choice .ensures .0, sector0 .sector-of3 .ensures)
+          (met .1),
+    )
+
+pub create-new-spec : {M : Type 1} → statement M
+create-new-spec =
+    tie.close
+    (tie.spec
+    create-status-requires
+    returns
+    sector-of-requires
+    word-requires
+    same-length
+    returns-2
+    sector-of-requires-2
+    free-count-of-requires
+    same-length-2
+    returns-3
+    sector-of-requires-3
+    descriptor-choice-requires
+    new-descriptor-requires
+    sector-copy-requires
+    slice-aggregate-mark
+    mark-requires
+    sector-of-requires-4
+    index-with-requires
+    slice-aggregate-enter
+    slice-aggregate-enter-2
+    slice-aggregate-enter-3
+    enter-requires
+    same-length-3
+    returns-4)

@@ -1,0 +1,89 @@
+// Creating: a file without sectors. The call takes any image and any arguments, answers with its number, and leaves the image with the
+// writes of the rules' definition laid over it; a refusal has none.
+ghost use mathlib.Core.Path.{_≡_};
+ghost use mathlib.Core.Bool.{true};
+ghost use Rattle.rules.specs.Sectors.{written};
+ghost use Rattle.rules.specs.Name.{nameRule};
+ghost use Rattle.rules.specs.Sound.{Sound};
+ghost use Rattle.rules.specs.Outcome.{answerOf};
+ghost use Rattle.rules.specs.Calls.Create.{createStatus, creating, createOf};
+use descriptor::header::new_descriptor;
+use index::enter;
+use index::index_with;
+use map::bits::mark;
+use map::choice::descriptor_choice;
+use map::free::free_count_of;
+use opening::find;
+use rules::Answer;
+use rules::Opened;
+use sector::buffer::sector_copy;
+use sector::bytes::sector_of;
+use sector::bytes::word;
+
+// The four that a file can be created with.
+fn create_status(status: u8) -> bool
+    ensures { λ r. ⌜ r ≡ createStatus status ⌝ }
+{
+    if status == 0 {
+        return true;
+    }
+    if status == 0x02 {
+        return true;
+    }
+    if status == 0x80 {
+        return true;
+    }
+    status == 0x82
+}
+
+// On a sound volume, under a name that keeps the rule and is not there.
+fn create_new(
+    image: &mut [u8],
+    name: &[u8],
+    status: u8,
+    record_length: u8,
+    records_per_sector: u8,
+) -> Answer
+    requires { ⌜ Sound (now image) × (nameRule (now name) ≡ true) ⌝ }
+    ensures { λ r. ⌜ r ≡ answerOf (creating (now (image .entry)) (now (name .entry)) status «record_length» «records_per_sector» .number) ⌝ }
+    ensures { λ _. ⌜ now (image .exit) ≡ written (now (image .entry)) (creating (now (image .entry)) (now (name .entry)) status «record_length» «records_per_sector» .writes) ⌝ }
+{
+    if !create_status(status) {
+        return Answer::Refused(15);
+    }
+    if word(sector_of(image, 1), 252) != 0 {
+        return Answer::Refused(11);
+    }
+    if free_count_of(sector_of(image, 0)) == 0 {
+        return Answer::Refused(12);
+    }
+    let k = descriptor_choice(sector_of(image, 0));
+    let descriptor = new_descriptor(name, status, records_per_sector, 0, record_length);
+    let mut sector0 = sector_copy(image, 0);
+    mark(&mut sector0, k);
+    let index = index_with(image, sector_of(image, 1), name, k);
+    enter(image, k, &descriptor, &sector0, &index);
+    Answer::Done
+}
+
+pub fn create(
+    image: &mut [u8],
+    name: &[u8],
+    status: u8,
+    record_length: u8,
+    records_per_sector: u8,
+) -> Answer
+    ensures { λ r. ⌜ r ≡ answerOf (createOf (now (image .entry)) (now (name .entry)) status «record_length» «records_per_sector» .number) ⌝ }
+    ensures { λ _. ⌜ now (image .exit) ≡ written (now (image .entry)) (createOf (now (image .entry)) (now (name .entry)) status «record_length» «records_per_sector» .writes) ⌝ }
+{
+    let opened = find(image, name);
+    match opened {
+        Opened::At(_, _) => Answer::Refused(9),
+        Opened::Refused(number) => {
+            if number != 8 {
+                return Answer::Refused(number);
+            }
+            create_new(image, name, status, record_length, records_per_sector)
+        }
+    }
+}

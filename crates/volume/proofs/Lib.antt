@@ -1,0 +1,3 @@
+-- The laws of the counts and of an entry.
+mod CountLaws
+mod EntryLaws
