@@ -8,6 +8,7 @@ pub mod packing;
 pub mod random;
 pub mod reference;
 pub mod sequences;
+pub mod speed;
 pub mod suites;
 pub mod tuned;
 pub mod volumes;
