@@ -1,43 +1,25 @@
-//! Measures the library's judge beside the two judges of this folder, on disks of 1,440 sectors.
+//! Measures the library beside the reference, in tables of rows and sides (`host::speed`).
 //!
-//! `bench calls` names what is to be counted, a judge and a row to a line; `bench repeat JUDGE ROW
-//! TIMES` is the program to count; `bench table` reads the instructions of one call for each of
-//! those lines, writes the table and holds the library to its bound; `bench time` writes the same
-//! table in nanoseconds.
+//! `bench check` makes every call once and compares the answers. `bench runs` names the runs whose
+//! instructions are to be counted, a table, row and side to a line; `bench repeat TABLE ROW SIDE` is
+//! such a run. `bench tables` reads those lines, each with its count, writes the tables and holds
+//! the library to its bounds; `bench time` writes the judges' table in nanoseconds.
 
-use host::random::Random;
-use host::volumes::{
-    block, word, Disk, Order, Shape, HEADER_BYTES, MOST_BLOCKS, MOST_FILES, SECTOR_BYTES,
-};
-use host::{library, reference, tuned};
+use host::speed::{write_times, Table, NOBODY, TABLES, TIMES};
+use std::collections::HashMap;
 use std::io::Read;
 use std::process::ExitCode;
-use std::time::Instant;
-
-const SECTORS: usize = 1440;
-/// What the library may take, as a multiple of the reference.
-const BOUND: f64 = 1.5;
-const BOUND_EMPTY: f64 = 2.5;
-/// A row that the reference settles in fewer instructions is shown and not held.
-const LEAST_HELD: f64 = 1000.0;
-const ROUNDS: usize = 300;
-const CALLS_A_ROUND: usize = 20;
-
-type Judge = fn(&[u8]) -> u32;
-
-/// In the order of the table's columns.
-const JUDGES: [(&str, Judge); 3] =
-    [("library", library::number), ("reference", reference::number), ("tuned", tuned::number)];
 
 fn main() -> ExitCode {
     let words: Vec<String> = std::env::args().skip(1).collect();
     let words: Vec<&str> = words.iter().map(String::as_str).collect();
     let done = match words[..] {
-        ["calls"] => name_calls(),
-        ["repeat", judge, row, times] => repeat_by_name(judge, row, times),
-        ["table"] => write_counted(),
-        ["time"] => write_timed(),
-        _ => Err("calls, repeat JUDGE ROW TIMES, table or time?".to_string()),
+        ["check"] => TABLES.iter().try_for_each(|table| (table.check)()),
+        ["runs"] => name_runs(),
+        ["repeat", table, row, side] => repeat(table, row, side),
+        ["tables"] => write_tables(),
+        ["time"] => write_times(),
+        _ => Err("check, runs, repeat TABLE ROW SIDE, tables or time?".to_string()),
     };
     match done {
         Ok(()) => ExitCode::SUCCESS,
@@ -48,104 +30,36 @@ fn main() -> ExitCode {
     }
 }
 
-struct Row {
-    what: &'static str,
-    image: Vec<u8>,
-    /// The paper's number for the image.
-    number: u32,
-    bound: f64,
-}
-
-fn rows() -> Vec<Row> {
-    let random = &mut Random::new(1);
-    let shape = |files: usize, blocks: usize| {
-        let runs = (files * blocks).max(1);
-        let (scattered, even, order) = (false, true, Order::Shuffled);
-        let blocks = blocks..=blocks;
-        Shape { sectors: SECTORS, files, scattered, runs, even, order, blocks }
-    };
-    let twenty = Shape { runs: 80, blocks: 1..=3, ..shape(20, 3) };
-    let fragmented = shape(MOST_FILES, 10).build(random);
-    let mut rows = vec![
-        sound("full, 127 files, a block each", &shape(MOST_FILES, 1).build(random)),
-        sound("full, 127 files of 10 blocks", &fragmented),
-        sound("full, 18 files of 76 blocks", &shape(18, MOST_BLOCKS).build(random)),
-        sound("one file in one block", &shape(1, 1).build(random)),
-        sound("one file of 75 blocks", &shape(1, 75).build(random)),
-        sound("20 files of 1 to 3 blocks", &twenty.build(random)),
-        Row { bound: BOUND_EMPTY, ..sound("empty", &shape(0, 0).build(random)) },
-    ];
-    rows.extend(damaged_rows(&fragmented));
-    rows
-}
-
-fn sound(what: &'static str, disk: &Disk) -> Row {
-    Row { what, image: disk.image.clone(), number: 0, bound: BOUND }
-}
-
-/// The disk with each fault early and late, where that can be told apart.
-fn damaged_rows(disk: &Disk) -> Vec<Row> {
-    let damaged = |what, number, at: usize, bytes: &[u8]| {
-        let mut image = disk.image.clone();
-        image[at..][..bytes.len()].copy_from_slice(bytes);
-        Row { what, image, number, bound: BOUND }
-    };
-    let last = disk.files.len() - 1;
-    let status = |file: usize| SECTOR_BYTES * disk.files[file].descriptor + 12;
-    let second_block = |file: usize| SECTOR_BYTES * disk.files[file].descriptor + HEADER_BYTES + 3;
-    let on_the_first = |file: usize| {
-        let file = &disk.files[file];
-        block(file.runs[0].start, file.last_offset(1))
-    };
-    vec![
-        damaged("2: disk name", 2, 0, b"."),
-        damaged("3: last number out of range", 3, SECTOR_BYTES + 2 * last, &word(SECTORS)),
-        damaged("4: status of the first file", 4, status(0), &[0x04]),
-        damaged("4: status of the last file", 4, status(last), &[0x04]),
-        damaged("5: in the first file", 5, second_block(0), &on_the_first(0)),
-        damaged("5: in the last file", 5, second_block(last), &on_the_first(last)),
-        damaged("6: first byte of the map", 6, 56, &[disk.image[56] ^ 0x80]),
-        damaged("6: last byte of the map", 6, 255, &[disk.image[255] ^ 0x80]),
-    ]
-}
-
-fn name_calls() -> Result<(), String> {
-    for row in 0..rows().len() {
-        JUDGES.iter().for_each(|(judge, _)| println!("{} {}", judge, row));
+fn name_runs() -> Result<(), String> {
+    for table in &TABLES {
+        for row in 0..(table.rows)() {
+            let sides = table.sides.iter().chain([&NOBODY]);
+            sides.for_each(|side| println!("{}", run(table, row, side)));
+        }
     }
     Ok(())
 }
 
-fn repeat_by_name(judge: &str, row: &str, times: &str) -> Result<(), String> {
-    let number = |word: &str| word.parse::<usize>().map_err(|error| format!("{}: {}", word, error));
-    let (_, judge) = JUDGES.iter().find(|(name, _)| *name == judge).ok_or("no such judge")?;
-    let rows = rows();
-    let row = rows.get(number(row)?).ok_or("no such row")?;
-    repeat(*judge, &row.image, number(times)?);
-    Ok(())
+fn run(table: &Table, row: usize, side: &str) -> String {
+    format!("{} {} {}", table.name, row, side)
 }
 
-fn repeat(judge: Judge, image: &[u8], times: usize) {
-    for _ in 0..times {
-        // The compiler cannot tell which judge this reads, so it leaves no call out.
-        let judge = unsafe { std::ptr::read_volatile(&judge) };
-        judge(image);
+fn repeat(table: &str, row: &str, side: &str) -> Result<(), String> {
+    let table = TABLES.iter().find(|known| known.name == table).ok_or("no such table")?;
+    let row = row.parse().map_err(|error| format!("{}: {}", row, error))?;
+    (table.repeat)(row, side)
+}
+
+fn write_tables() -> Result<(), String> {
+    let counts = read_counts()?;
+    let mut missed = Vec::new();
+    for table in &TABLES {
+        let rows = 0..(table.rows)();
+        let figures: Result<Vec<Vec<f64>>, String> =
+            rows.map(|row| instructions_of_a_call(table, row, &counts)).collect();
+        missed.extend((table.write)(&figures?));
+        println!();
     }
-}
-
-/// One figure for each judge.
-type Figures = [f64; 3];
-
-fn write_counted() -> Result<(), String> {
-    let rows = checked_rows()?;
-    let figures = read_counts(rows.len())?;
-    write_table("instructions", &rows, &figures, is_held);
-    let missed: Vec<&str> = rows
-        .iter()
-        .zip(&figures)
-        .filter(|(row, figures)| is_held(figures) && ratio(figures, 1) > row.bound)
-        .map(|(row, _)| row.what)
-        .collect();
     if missed.is_empty() {
         Ok(())
     } else {
@@ -153,74 +67,25 @@ fn write_counted() -> Result<(), String> {
     }
 }
 
-/// A figure for a wrong answer would say nothing.
-fn checked_rows() -> Result<Vec<Row>, String> {
-    let rows = rows();
-    for row in &rows {
-        if let Some((judge, _)) = JUDGES.iter().find(|(_, judge)| judge(&row.image) != row.number) {
-            return Err(format!("{}: wrong number from {}", row.what, judge));
-        }
-    }
-    Ok(rows)
-}
+/// The count of each run.
+type Counts = HashMap<String, f64>;
 
-fn read_counts(rows: usize) -> Result<Vec<Figures>, String> {
+fn read_counts() -> Result<Counts, String> {
     let mut input = String::new();
     std::io::stdin().read_to_string(&mut input).map_err(|error| error.to_string())?;
-    let counts: Result<Vec<f64>, _> = input.split_whitespace().map(str::parse).collect();
-    let counts = counts.map_err(|error| error.to_string())?;
-    if counts.len() != JUDGES.len() * rows {
-        return Err(format!("{} counts for {} rows", counts.len(), rows));
-    }
-    Ok(counts.chunks(JUDGES.len()).map(|three| [three[0], three[1], three[2]]).collect())
+    let counts = input.lines().map(|line| {
+        let (run, count) = line.rsplit_once(' ')?;
+        Some((run.to_string(), count.parse().ok()?))
+    });
+    counts.collect::<Option<Counts>>().ok_or("a run without its count".to_string())
 }
 
-fn is_held(counted: &Figures) -> bool {
-    counted[1] >= LEAST_HELD
-}
-
-fn ratio(figures: &Figures, judge: usize) -> f64 {
-    figures[0] / figures[judge]
-}
-
-fn write_timed() -> Result<(), String> {
-    let rows = checked_rows()?;
-    let figures: Vec<Figures> = rows.iter().map(least_times).collect();
-    write_table("nanoseconds", &rows, &figures, |_| true);
-    Ok(())
-}
-
-/// The least time of a call over all rounds, the judges taking turns.
-fn least_times(row: &Row) -> Figures {
-    let mut least = [f64::INFINITY; 3];
-    for _ in 0..ROUNDS {
-        for (least, (_, judge)) in least.iter_mut().zip(JUDGES) {
-            let start = Instant::now();
-            repeat(judge, &row.image, CALLS_A_ROUND);
-            let taken = start.elapsed().as_nanos() as f64 / CALLS_A_ROUND as f64;
-            *least = least.min(taken);
-        }
-    }
-    least
-}
-
-/// Ratios stand in brackets where `plain` says no.
-fn write_table(unit: &str, rows: &[Row], figures: &[Figures], plain: fn(&Figures) -> bool) {
-    println!("| Image ({} a call) | Library | Reference | Ratio | Tuned | Ratio |", unit);
-    println!("|---|---:|---:|---:|---:|---:|");
-    for (row, figures) in rows.iter().zip(figures) {
-        let [library, reference, tuned] = figures;
-        let [to_reference, to_tuned] = [1, 2].map(|judge| {
-            let ratio = format!("{:.2}", ratio(figures, judge));
-            if plain(figures) {
-                ratio
-            } else {
-                format!("({})", ratio)
-            }
-        });
-        println!(
-            "| {} | {:.0} | {:.0} | {} | {:.0} | {} |",
-            row.what, library, reference, to_reference, tuned, to_tuned
-        );
-    }
+/// For each side. What a run does beside the calls falls out.
+fn instructions_of_a_call(table: &Table, row: usize, counts: &Counts) -> Result<Vec<f64>, String> {
+    let count = |side| {
+        let run = run(table, row, side);
+        counts.get(&run).copied().ok_or(format!("{}: not counted", run))
+    };
+    let beside = count(NOBODY)?;
+    table.sides.iter().map(|side| Ok((count(side)? - beside) / TIMES as f64)).collect()
 }

@@ -12,7 +12,7 @@ pub(crate) use comparison::compared;
 pub use comparison::Comparison;
 pub use planned::lines;
 
-use crate::reference::{self, Form, Geometry, Kind, Refusal};
+use crate::reference::{self, Entry, Form, Geometry, Kind, Refusal, Row, Summary};
 
 /// `room` is the length of the buffer that is lent for the answer.
 #[derive(Clone, Debug)]
@@ -57,17 +57,28 @@ impl std::fmt::Debug for Given {
 #[derive(Debug, Default, PartialEq, Eq)]
 pub struct Written {
     pub bytes: Vec<u8>,
-    numbers: Vec<usize>,
+    pub numbers: Vec<usize>,
 }
 
 impl Written {
-    fn new(bytes: &[u8], numbers: &[usize]) -> Self {
+    pub fn new(bytes: &[u8], numbers: &[usize]) -> Self {
         Written { bytes: bytes.to_vec(), numbers: numbers.to_vec() }
     }
 
     /// Bytes and how many there are.
-    fn counted(bytes: &[u8]) -> Self {
+    pub fn counted(bytes: &[u8]) -> Self {
         Written::new(bytes, &[bytes.len()])
+    }
+
+    pub fn of_summary(summary: &Summary) -> Self {
+        let numbers = [summary.sectors, summary.files, summary.free_sectors];
+        Written::new(&summary.disk_name, &numbers)
+    }
+
+    pub fn of_entry(entry: &Entry) -> Self {
+        let Row { kind, sectors, protected, .. } = entry.row;
+        let numbers = [number_of_kind(kind), kind.length(), sectors, protected.into()];
+        Written::new(&entry.header, &numbers)
     }
 }
 
@@ -121,15 +132,10 @@ impl Call {
                     .map(|formatted| Written::new(&formatted, &[]))
             }
             Call::FreeCount => reference::free_count(image).map(|free| Written::new(&[], &[free])),
-            Call::Summary => reference::summary(image).map(|summary| {
-                let numbers = [summary.sectors, summary.files, summary.free_sectors];
-                Written::new(&summary.disk_name, &numbers)
-            }),
-            Call::Entry { place, room } => reference::entry(image, *place, *room).map(|entry| {
-                let reference::Row { kind, sectors, protected, .. } = entry.row;
-                let numbers = [number_of_kind(kind), kind.length(), sectors, protected.into()];
-                Written::new(&entry.header, &numbers)
-            }),
+            Call::Summary => reference::summary(image).map(|summary| Written::of_summary(&summary)),
+            Call::Entry { place, room } => {
+                reference::entry(image, *place, *room).map(|entry| Written::of_entry(&entry))
+            }
             Call::Read { name, offset, room } => {
                 reference::read(image, name.lent(), *offset, *room)
                     .map(|sector| Written::new(sector, &[]))

@@ -1,12 +1,12 @@
-//! The calls that are measured, each once by the library and once by the reference over the same
-//! memory.
+//! The calls that are measured, each by the library and by the reference over the same memory.
 
+use crate::calls::Written;
 use crate::library;
-use crate::reference::{self, Entry, Form, Kind, Name, Refusal, Sector, Summary};
+use crate::reference::{self, Entry, Name, Refusal, Sector, Summary};
 
 /// All that any call is lent. The image is that before the call, or packing's source.
 #[derive(Clone, PartialEq, Eq)]
-pub struct Lent {
+pub(super) struct Lent {
     pub image: Vec<u8>,
     pub name: Name,
     pub new_name: Name,
@@ -14,16 +14,15 @@ pub struct Lent {
     pub place: usize,
     /// A sector in the file.
     pub offset: usize,
-    /// What is written: a sector, or a program's bytes.
-    pub data: Vec<u8>,
-    /// What is filled: with bytes from its start on, and the numbers behind pointers.
+    pub sector: Vec<u8>,
+    pub program: Vec<u8>,
+    /// What is filled from its start on, and the numbers behind pointers.
     pub buffer: Vec<u8>,
     pub numbers: [usize; 4],
 }
 
-/// What the reference gives for a call that is done. Nothing of it is copied into the buffer while
-/// it is measured.
-pub enum Answer<'lent> {
+/// What the reference gives where a call is done, as it gives it.
+pub(super) enum Answer<'lent> {
     Done,
     Free(usize),
     Summary(Summary),
@@ -36,19 +35,19 @@ pub enum Answer<'lent> {
 
 type Answered<'lent> = Result<Answer<'lent>, Refusal>;
 
-pub struct Call {
+pub(super) struct Call {
     pub title: &'static str,
     pub by_library: fn(&mut Lent) -> u32,
     pub by_reference: for<'lent> fn(&'lent mut Lent) -> Answered<'lent>,
 }
 
-pub const JUDGE: Call = Call {
+pub(super) const JUDGE: Call = Call {
     title: "judge",
     by_library: |lent| library::judge(&mut lent.image),
     by_reference: |lent| reference::judge(&lent.image).map(|_| Answer::Done),
 };
 
-pub const SUMMARY: Call = Call {
+pub(super) const SUMMARY: Call = Call {
     title: "summary",
     by_library: |lent| {
         let disk_name = (&mut lent.buffer[..10]).try_into().expect("ten bytes");
@@ -58,13 +57,13 @@ pub const SUMMARY: Call = Call {
     by_reference: |lent| reference::summary(&lent.image).map(Answer::Summary),
 };
 
-pub const FREE_COUNT: Call = Call {
+pub(super) const FREE_COUNT: Call = Call {
     title: "free count",
     by_library: |lent| library::free_count(&mut lent.image, &mut lent.numbers[0]),
     by_reference: |lent| reference::free_count(&lent.image).map(Answer::Free),
 };
 
-pub const ENTRY: Call = Call {
+pub(super) const ENTRY: Call = Call {
     title: "entry",
     by_library: |lent| {
         let [kind, length, sectors, is_protected] = &mut lent.numbers;
@@ -76,15 +75,13 @@ pub const ENTRY: Call = Call {
     },
 };
 
-pub const LISTING: Call = Call {
+pub(super) const LISTING: Call = Call {
     title: "listing",
-    by_library: |lent| {
-        library::listing(&mut lent.image, &mut lent.buffer, &mut lent.numbers[0])
-    },
+    by_library: |lent| library::listing(&mut lent.image, &mut lent.buffer, &mut lent.numbers[0]),
     by_reference: |lent| reference::listing(&lent.image, lent.buffer.len()).map(Answer::Text),
 };
 
-pub const READ: Call = Call {
+pub(super) const READ: Call = Call {
     title: "read",
     by_library: |lent| {
         library::read(&mut lent.image, &mut lent.name, lent.offset, &mut lent.buffer)
@@ -94,7 +91,7 @@ pub const READ: Call = Call {
     },
 };
 
-pub const LOAD: Call = Call {
+pub(super) const LOAD: Call = Call {
     title: "load",
     by_library: |lent| {
         let length = &mut lent.numbers[0];
@@ -106,53 +103,53 @@ pub const LOAD: Call = Call {
 };
 
 /// Display, variable, with records of 80 bytes.
-pub const CREATE: Call = Call {
+pub(super) const CREATE: Call = Call {
     title: "create",
     by_library: |lent| library::create(&mut lent.image, &mut lent.name, 0x80, 80, 3),
     by_reference: |lent| done(reference::create(&mut lent.image, &lent.name, 0x80, 80, 3)),
 };
 
-pub const APPEND: Call = Call {
+pub(super) const APPEND: Call = Call {
     title: "append",
-    by_library: |lent| library::append(&mut lent.image, &mut lent.name, &mut lent.data),
-    by_reference: |lent| done(reference::append(&mut lent.image, &lent.name, &lent.data)),
+    by_library: |lent| library::append(&mut lent.image, &mut lent.name, &mut lent.sector),
+    by_reference: |lent| done(reference::append(&mut lent.image, &lent.name, &lent.sector)),
 };
 
-pub const OVERWRITE: Call = Call {
+pub(super) const OVERWRITE: Call = Call {
     title: "overwrite",
     by_library: |lent| {
-        library::overwrite(&mut lent.image, &mut lent.name, lent.offset, &mut lent.data)
+        library::overwrite(&mut lent.image, &mut lent.name, lent.offset, &mut lent.sector)
     },
     by_reference: |lent| {
-        done(reference::overwrite(&mut lent.image, &lent.name, lent.offset, &lent.data))
+        done(reference::overwrite(&mut lent.image, &lent.name, lent.offset, &lent.sector))
     },
 };
 
-pub const STORE: Call = Call {
+pub(super) const STORE: Call = Call {
     title: "store",
-    by_library: |lent| library::store(&mut lent.image, &mut lent.name, &mut lent.data),
-    by_reference: |lent| done(reference::store(&mut lent.image, &lent.name, &lent.data)),
+    by_library: |lent| library::store(&mut lent.image, &mut lent.name, &mut lent.program),
+    by_reference: |lent| done(reference::store(&mut lent.image, &lent.name, &lent.program)),
 };
 
-pub const DELETE: Call = Call {
+pub(super) const DELETE: Call = Call {
     title: "delete",
     by_library: |lent| library::delete(&mut lent.image, &mut lent.name),
     by_reference: |lent| done(reference::delete(&mut lent.image, &lent.name)),
 };
 
-pub const RENAME: Call = Call {
+pub(super) const RENAME: Call = Call {
     title: "rename",
     by_library: |lent| library::rename(&mut lent.image, &mut lent.name, &mut lent.new_name),
     by_reference: |lent| done(reference::rename(&mut lent.image, &lent.name, &lent.new_name)),
 };
 
-pub const PROTECT: Call = Call {
+pub(super) const PROTECT: Call = Call {
     title: "protect",
     by_library: |lent| library::protect(&mut lent.image, &mut lent.name),
     by_reference: |lent| done(reference::protect(&mut lent.image, &lent.name)),
 };
 
-pub const PACK: Call = Call {
+pub(super) const PACK: Call = Call {
     title: "pack",
     by_library: |lent| library::pack(&mut lent.image, &mut lent.buffer),
     by_reference: |lent| reference::pack(&lent.image, lent.buffer.len()).map(Answer::Packed),
@@ -163,34 +160,16 @@ fn done<'lent>(answer: Result<(), Refusal>) -> Answered<'lent> {
 }
 
 impl Answer<'_> {
-    /// The bytes and numbers that go where the C interface puts them.
-    pub fn laid_out(&self) -> (&[u8], Vec<usize>) {
+    pub(super) fn written(&self) -> Written {
         match self {
-            Answer::Done => (&[], vec![]),
-            Answer::Free(free) => (&[], vec![*free]),
-            Answer::Summary(summary) => {
-                let numbers = vec![summary.sectors, summary.files, summary.free_sectors];
-                (&summary.disk_name, numbers)
-            }
-            Answer::Entry(entry) => {
-                let reference::Row { kind, sectors, protected, .. } = entry.row;
-                let numbers = vec![number_of_kind(kind), kind.length(), sectors, protected.into()];
-                (&entry.header, numbers)
-            }
-            Answer::Sector(sector) => (*sector, vec![]),
-            Answer::Program(bytes) => (bytes, vec![bytes.len()]),
-            Answer::Text(text) => (text.as_bytes(), vec![text.len()]),
-            Answer::Packed(bytes) => (bytes, vec![]),
+            Answer::Done => Written::default(),
+            Answer::Free(free) => Written::new(&[], &[*free]),
+            Answer::Summary(summary) => Written::of_summary(summary),
+            Answer::Entry(entry) => Written::of_entry(entry),
+            Answer::Sector(sector) => Written::new(*sector, &[]),
+            Answer::Program(bytes) => Written::counted(bytes),
+            Answer::Text(text) => Written::counted(text.as_bytes()),
+            Answer::Packed(bytes) => Written::new(bytes, &[]),
         }
-    }
-}
-
-fn number_of_kind(kind: Kind) -> usize {
-    match kind {
-        Kind::Program { .. } => 0,
-        Kind::Fixed { form: Form::Display, .. } => 1,
-        Kind::Variable { form: Form::Display, .. } => 2,
-        Kind::Fixed { form: Form::Internal, .. } => 3,
-        Kind::Variable { form: Form::Internal, .. } => 4,
     }
 }

@@ -1,117 +1,93 @@
-//! A call on a volume, as it is measured.
+//! A call on a volume, by the library or by the reference.
 
-use super::call::{Answer, Call, Lent};
-use super::disks::{full, Extent, Full};
+use super::call::{Call, Lent};
+use super::volume::{Built, Volume};
+use super::{NOBODY, TIMES};
 use crate::random::Random;
-use crate::volumes::{Disk, SECTOR_BYTES};
+use crate::reference;
+use crate::volumes::SECTOR_BYTES;
 
-/// How often a call is made while its instructions are counted.
-pub const TIMES: usize = 10;
-
-#[derive(Clone, Copy, Debug, PartialEq, Eq)]
-pub enum Side {
-    /// All but the call.
-    Nobody,
-    Library,
-    Reference,
-}
-
-pub struct Row {
+pub(super) struct Row {
     pub call: &'static Call,
-    pub volume: String,
-    pub sectors: usize,
-    /// The files beside the one that is called, and the blocks of each.
-    pub files: usize,
-    pub blocks: usize,
-    /// The file that is called, the last in the order of names.
-    pub last: Extent,
-    /// Makes the volume ready for the call.
-    pub ready: fn(&mut Disk),
-    /// How many bytes the call is to write.
-    pub data: usize,
+    pub volume: Volume,
 }
 
 impl Row {
+    pub(super) fn title(&self) -> String {
+        let Volume { what, sectors, .. } = self.volume;
+        format!("{} on {} sectors, {}", self.call.title, sectors, what)
+    }
+
     fn lent(&self) -> Lent {
-        let Full { mut disk, spare } = full(self.sectors, self.files, self.blocks, &[self.last]);
-        let name = disk.files[self.files].name();
-        let place = self.files;
-        let last = disk.files.last_mut().unwrap();
-        last.header[12] = 0;
-        (self.ready)(&mut disk);
-        disk.lay_down();
-        let count = disk.files.last().map_or(0, |file| file.count());
+        let random = &mut Random::new(2);
+        let Built { disk, called, unused } = self.volume.build();
+        let sectors = disk.files.last().map_or(0, |file| file.count());
+        // A program to store takes as many sectors as the volume has for it.
+        let whole_sectors = self.volume.called.sectors.saturating_sub(1);
         Lent {
-            buffer: vec![0; disk.image.len()],
+            name: called,
+            new_name: unused,
+            place: disk.files.len().saturating_sub(1),
+            offset: sectors.saturating_sub(1),
+            sector: random.bytes(SECTOR_BYTES),
+            program: random.bytes(SECTOR_BYTES * whole_sectors),
+            buffer: random.bytes(disk.image.len()),
+            numbers: [(); 4].map(|()| random.number() as usize),
             image: disk.image,
-            name,
-            new_name: spare,
-            place,
-            offset: count.saturating_sub(1),
-            data: Random::new(3).bytes(self.data),
-            numbers: [0; 4],
         }
     }
 
-    /// Makes the call many times, each time on the volume as it was, once both have given the same.
-    pub fn repeat(&self, side: Side) -> Result<(), String> {
+    /// Makes the call again and again, each time on a fresh copy of the image.
+    pub(super) fn repeat(&self, side: &str) -> Result<(), String> {
+        let call = match side {
+            NOBODY => |_: &Call, _: &mut Lent| {},
+            "library" => |call: &Call, lent: &mut Lent| {
+                (call.by_library)(lent);
+            },
+            "reference" => |call: &Call, lent: &mut Lent| drop((call.by_reference)(lent)),
+            _ => return Err(format!("no such side: {}", side)),
+        };
         let before = self.lent();
-        self.check(&before)?;
+        self.check_with(&before)?;
         let mut lent = before.clone();
         for _ in 0..TIMES {
             lent.image.copy_from_slice(&before.image);
-            match side {
-                Side::Nobody => {}
-                Side::Library => {
-                    (self.call.by_library)(&mut lent);
-                }
-                Side::Reference => drop((self.call.by_reference)(&mut lent)),
-            }
+            call(self.call, &mut lent);
         }
         Ok(())
     }
 
-    fn check(&self, before: &Lent) -> Result<(), String> {
-        let wrong = |what: &str| format!("{}, {}: {}", self.call.title, self.volume, what);
-        let mut by_library = before.clone();
-        let number = (self.call.by_library)(&mut by_library);
-        let mut by_reference = before.clone();
-        let (bytes, numbers) = match (self.call.by_reference)(&mut by_reference) {
-            Ok(answer) => written(&answer),
-            Err(refusal) => return Err(wrong(&format!("refused, {}", refusal.number()))),
+    /// That both are done with the call and leave the same bytes, on a volume that is full before
+    /// the call or after it.
+    pub(super) fn check(&self) -> Result<(), String> {
+        self.check_with(&self.lent())
+    }
+
+    fn check_with(&self, before: &Lent) -> Result<(), String> {
+        let wrong = |what: &str| Err(format!("{}: {}", self.title(), what));
+        let (mut lent, mut expected) = (before.clone(), before.clone());
+        let written = match (self.call.by_reference)(&mut expected) {
+            Ok(answer) => answer.written(),
+            Err(_) => return wrong("refused by the reference"),
         };
-        by_reference.buffer[..bytes.len()].copy_from_slice(&bytes);
-        by_reference.numbers[..numbers.len()].copy_from_slice(&numbers);
-        if number != 0 || by_library != by_reference {
-            return Err(wrong(&format!("difference {}", number)));
+        expected.buffer[..written.bytes.len()].copy_from_slice(&written.bytes);
+        expected.numbers[..written.numbers.len()].copy_from_slice(&written.numbers);
+        if (self.call.by_library)(&mut lent) != 0 {
+            return wrong("refused by the library");
         }
-        Ok(())
+        if lent != expected {
+            return wrong("the library leaves other bytes than the reference");
+        }
+        let is_full = |image: &[u8]| reference::free_count(image) == Ok(0);
+        if is_full(&before.image) || is_full(&lent.image) {
+            Ok(())
+        } else {
+            wrong("the volume is not full")
+        }
     }
 }
 
-fn written(answer: &Answer) -> (Vec<u8>, Vec<usize>) {
-    let (bytes, numbers) = answer.laid_out();
-    (bytes.to_vec(), numbers)
+/// A row by its number.
+pub(super) fn repeat(rows: &[Row], row: usize, side: &str) -> Result<(), String> {
+    rows.get(row).ok_or("no such row")?.repeat(side)
 }
-
-pub fn as_it_is(_: &mut Disk) {}
-
-pub fn as_a_program(disk: &mut Disk) {
-    disk.files.last_mut().expect("a file").header[12] = 0x01;
-}
-
-pub fn without_last(disk: &mut Disk) {
-    disk.files.pop();
-}
-
-pub fn less_a_sector(disk: &mut Disk) {
-    let file = disk.files.last_mut().expect("a file");
-    let run = file.runs.last_mut().expect("a run");
-    run.start += 1;
-    run.length -= 1;
-    file.runs.retain(|run| run.length > 0);
-    file.set_count(file.sectors().count());
-}
-
-#[allow(dead_code)]
-const _: usize = SECTOR_BYTES;

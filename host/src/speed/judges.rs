@@ -1,0 +1,172 @@
+//! The judges on sound and damaged disks of 1,440 sectors: the library's, the reference's and the
+//! tuned one.
+
+use super::{is_held, ratio, Table, NOBODY, TIMES};
+use crate::random::Random;
+use crate::volumes::{
+    block, word, Disk, Order, Shape, HEADER_BYTES, MOST_BLOCKS, MOST_FILES, SECTOR_BYTES,
+};
+use crate::{library, reference, tuned};
+use std::time::Instant;
+
+const SECTORS: usize = 1440;
+/// What the library may take, as a multiple of the reference.
+const BOUND: f64 = 1.5;
+const BOUND_EMPTY: f64 = 2.5;
+const ROUNDS: usize = 300;
+const CALLS_A_ROUND: usize = 20;
+
+type Judge = fn(&[u8]) -> u32;
+
+/// In the order of the table's columns.
+const JUDGES: [(&str, Judge); 3] =
+    [("library", library::number), ("reference", reference::number), ("tuned", tuned::number)];
+
+pub(super) const TABLE: Table = Table {
+    name: "judges",
+    sides: &["library", "reference", "tuned"],
+    rows: || rows().len(),
+    check: || rows().iter().try_for_each(Row::check),
+    repeat: repeat_by_name,
+    write,
+};
+
+struct Row {
+    what: &'static str,
+    image: Vec<u8>,
+    /// The paper's number for the image.
+    number: u32,
+    bound: f64,
+}
+
+fn rows() -> Vec<Row> {
+    let random = &mut Random::new(1);
+    let shape = |files: usize, blocks: usize| {
+        let runs = (files * blocks).max(1);
+        let (scattered, even, order) = (false, true, Order::Shuffled);
+        let blocks = blocks..=blocks;
+        Shape { sectors: SECTORS, files, scattered, runs, even, order, blocks }
+    };
+    let twenty = Shape { runs: 80, blocks: 1..=3, ..shape(20, 3) };
+    let fragmented = shape(MOST_FILES, 10).build(random);
+    let mut rows = vec![
+        sound("full, 127 files, a block each", &shape(MOST_FILES, 1).build(random)),
+        sound("full, 127 files of 10 blocks", &fragmented),
+        sound("full, 18 files of 76 blocks", &shape(18, MOST_BLOCKS).build(random)),
+        sound("one file in one block", &shape(1, 1).build(random)),
+        sound("one file of 75 blocks", &shape(1, 75).build(random)),
+        sound("20 files of 1 to 3 blocks", &twenty.build(random)),
+        Row { bound: BOUND_EMPTY, ..sound("empty", &shape(0, 0).build(random)) },
+    ];
+    rows.extend(damaged_rows(&fragmented));
+    rows
+}
+
+fn sound(what: &'static str, disk: &Disk) -> Row {
+    Row { what, image: disk.image.clone(), number: 0, bound: BOUND }
+}
+
+/// The disk with each fault early and late, where that can be told apart.
+fn damaged_rows(disk: &Disk) -> Vec<Row> {
+    let damaged = |what, number, at: usize, bytes: &[u8]| {
+        let mut image = disk.image.clone();
+        image[at..][..bytes.len()].copy_from_slice(bytes);
+        Row { what, image, number, bound: BOUND }
+    };
+    let last = disk.files.len() - 1;
+    let status = |file: usize| SECTOR_BYTES * disk.files[file].descriptor + 12;
+    let second_block = |file: usize| SECTOR_BYTES * disk.files[file].descriptor + HEADER_BYTES + 3;
+    let on_the_first = |file: usize| {
+        let file = &disk.files[file];
+        block(file.runs[0].start, file.last_offset(1))
+    };
+    vec![
+        damaged("2: disk name", 2, 0, b"."),
+        damaged("3: last number out of range", 3, SECTOR_BYTES + 2 * last, &word(SECTORS)),
+        damaged("4: status of the first file", 4, status(0), &[0x04]),
+        damaged("4: status of the last file", 4, status(last), &[0x04]),
+        damaged("5: in the first file", 5, second_block(0), &on_the_first(0)),
+        damaged("5: in the last file", 5, second_block(last), &on_the_first(last)),
+        damaged("6: first byte of the map", 6, 56, &[disk.image[56] ^ 0x80]),
+        damaged("6: last byte of the map", 6, 255, &[disk.image[255] ^ 0x80]),
+    ]
+}
+
+impl Row {
+    fn check(&self) -> Result<(), String> {
+        match JUDGES.iter().find(|(_, judge)| judge(&self.image) != self.number) {
+            Some((judge, _)) => Err(format!("{}: wrong number from {}", self.what, judge)),
+            None => Ok(()),
+        }
+    }
+}
+
+fn repeat_by_name(row: usize, side: &str) -> Result<(), String> {
+    let nobody: (&str, Judge) = (NOBODY, |_| 0);
+    let mut judges = JUDGES.into_iter().chain([nobody]);
+    let (_, judge) = judges.find(|(name, _)| *name == side).ok_or("no such judge")?;
+    let rows = rows();
+    let row = rows.get(row).ok_or("no such row")?;
+    row.check()?;
+    repeat(judge, &row.image, TIMES);
+    Ok(())
+}
+
+fn repeat(judge: Judge, image: &[u8], times: usize) {
+    for _ in 0..times {
+        // The compiler cannot tell which judge this reads, so it leaves no call out.
+        let judge = unsafe { std::ptr::read_volatile(&judge) };
+        judge(image);
+    }
+}
+
+fn write(figures: &[Vec<f64>]) -> Vec<String> {
+    let rows = rows();
+    write_table("instructions", &rows, figures, is_held);
+    let misses = |(row, figures): &(&Row, &Vec<f64>)| {
+        is_held(figures[1]) && figures[0] > row.bound * figures[1]
+    };
+    rows.iter().zip(figures).filter(misses).map(|(row, _)| row.what.to_string()).collect()
+}
+
+/// The same table in nanoseconds.
+pub fn write_times() -> Result<(), String> {
+    let rows = rows();
+    rows.iter().try_for_each(Row::check)?;
+    let figures: Vec<Vec<f64>> = rows.iter().map(least_times).collect();
+    write_table("nanoseconds", &rows, &figures, |_| true);
+    Ok(())
+}
+
+/// The least time of a call over all rounds, the judges taking turns.
+fn least_times(row: &Row) -> Vec<f64> {
+    let mut least = vec![f64::INFINITY; JUDGES.len()];
+    for _ in 0..ROUNDS {
+        for (least, (_, judge)) in least.iter_mut().zip(JUDGES) {
+            let start = Instant::now();
+            repeat(judge, &row.image, CALLS_A_ROUND);
+            let taken = start.elapsed().as_nanos() as f64 / CALLS_A_ROUND as f64;
+            *least = least.min(taken);
+        }
+    }
+    least
+}
+
+/// `held` says of the reference's figure whether the row is held to its bound.
+fn write_table(unit: &str, rows: &[Row], figures: &[Vec<f64>], held: fn(f64) -> bool) {
+    println!("| Image ({} a call) | Library | Reference | Ratio | Tuned | Ratio |", unit);
+    println!("|---|---:|---:|---:|---:|---:|");
+    for (row, figures) in rows.iter().zip(figures) {
+        let (library, reference, tuned) = (figures[0], figures[1], figures[2]);
+        let to = |other| ratio(library, other, held(reference));
+        println!(
+            "| {} | {:.0} | {:.0} | {} | {:.0} | {} |",
+            row.what,
+            library,
+            reference,
+            to(reference),
+            tuned,
+            to(tuned)
+        );
+    }
+}

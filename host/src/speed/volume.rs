@@ -1,0 +1,123 @@
+//! Full volumes, and such as a call makes full.
+
+use crate::random::Random;
+use crate::volumes::{names, Disk, File, Name, Run};
+
+/// A volume with a file that is called, the last in the order of names.
+#[derive(Clone, Copy)]
+pub(super) struct Volume {
+    pub what: &'static str,
+    pub sectors: usize,
+    /// The other files, which share what the called one leaves, and the blocks of each.
+    pub files: usize,
+    pub blocks: usize,
+    pub called: Extent,
+    pub before: Before,
+}
+
+#[derive(Clone, Copy)]
+pub(super) struct Extent {
+    pub sectors: usize,
+    pub blocks: usize,
+}
+
+/// What the call finds of its file.
+#[derive(Clone, Copy)]
+pub(super) enum Before {
+    /// A data file that is not protected.
+    Data,
+    /// A program of whole sectors and an empty last one, as the longest is.
+    Program,
+    Absent,
+    /// A data file without the sector that the call is to add.
+    LacksHighest,
+    LacksLowest,
+}
+
+pub(super) struct Built {
+    pub disk: Disk,
+    pub called: Name,
+    /// A name before those of all files.
+    pub unused: Name,
+}
+
+impl Volume {
+    /// Descriptors lie from sector 2 on and blocks behind them in any order. At the end of the disk
+    /// lie the called file's first block and its descriptor, so that a search for what it leaves
+    /// free passes the map.
+    pub(super) fn build(&self) -> Built {
+        let random = &mut Random::new(1);
+        let mut named = names(self.files + 2, random).into_iter();
+        let unused = named.next().expect("the first name");
+        let descriptors = (2..2 + self.files).chain([self.sectors - 1]);
+        let runs = self.runs(random);
+        let parts = named.zip(descriptors).zip(runs);
+        let mut files: Vec<File> =
+            parts.map(|((name, at), runs)| File::new(name, at, runs, random)).collect();
+        let file = files.pop().expect("the called file");
+        let called = file.name();
+        files.extend(self.before.of(file));
+        Built { disk: Disk::of_files(self.sectors, files, random), called, unused }
+    }
+
+    /// The runs of each file, the called one last.
+    fn runs(&self, random: &mut Random) -> Vec<Vec<Run>> {
+        let shared = self.sectors - 2 - self.files - 1 - self.called.sectors;
+        let others = shares(shared, self.files).map(|sectors| (sectors, self.blocks));
+        let mut runs: Vec<Vec<Run>> = others
+            .chain([(self.called.sectors, self.called.blocks)])
+            .map(|(sectors, blocks)| shares(sectors, blocks))
+            .map(|lengths| lengths.map(|length| Run { start: 0, length }).collect())
+            .collect();
+        let mut next = 2 + self.files;
+        for (file, block) in order(&runs, random) {
+            let run = &mut runs[file][block];
+            run.start = next;
+            next += run.length;
+        }
+        runs
+    }
+}
+
+/// Every block as its file and its number there, in any order but for the last file's first one.
+fn order(runs: &[Vec<Run>], random: &mut Random) -> Vec<(usize, usize)> {
+    let blocks = runs.iter().enumerate();
+    let mut order: Vec<(usize, usize)> =
+        blocks.flat_map(|(file, runs)| (0..runs.len()).map(move |block| (file, block))).collect();
+    random.shuffle(&mut order);
+    let at_the_end = (runs.len() - 1, 0);
+    order.sort_by_key(|block| *block == at_the_end);
+    order
+}
+
+/// A number in parts that differ by one at most.
+fn shares(whole: usize, parts: usize) -> impl Iterator<Item = usize> {
+    (0..parts).map(move |part| (part + 1) * whole / parts - part * whole / parts)
+}
+
+impl Before {
+    /// What is there of the called file before the call.
+    fn of(self, mut file: File) -> Option<File> {
+        file.header[12] = 0x00;
+        let start = |run: &&mut Run| run.start;
+        match self {
+            Before::Data => {}
+            Before::Program => {
+                file.header[12] = 0x01;
+                file.header[16] = 0;
+            }
+            Before::Absent => return None,
+            Before::LacksHighest => {
+                file.runs.iter_mut().max_by_key(start)?.length -= 1;
+            }
+            Before::LacksLowest => {
+                let run = file.runs.iter_mut().min_by_key(start)?;
+                run.start += 1;
+                run.length -= 1;
+            }
+        }
+        file.runs.retain(|run| run.length > 0);
+        file.set_count(file.sectors().count());
+        Some(file)
+    }
+}
