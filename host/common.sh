@@ -18,6 +18,7 @@ prepare() {
     if [ "$(uname -m)" = x86_64 ]; then
         need rustc rustc
         rustc=rustc
+        objdump=objdump
         flags=()
         emulator=()
         return
@@ -30,6 +31,7 @@ prepare() {
     need qemu-x86_64 qemu-user
     # Debian's compiler, whichever one comes first in the path: it has the library for x86-64.
     rustc=$(dpkg -L rustc | grep 'bin/rustc$')
+    objdump=x86_64-linux-gnu-objdump
     flags=(--target x86_64-unknown-linux-gnu -C relocation-model=static
         -C linker=x86_64-linux-gnu-gcc)
     emulator=(qemu-x86_64)

@@ -14,6 +14,9 @@
  *   - Counts, places and offsets are size_t; a value goes back through a pointer.
  *   - The result is one of the numbers below. With any number but 0 the call has written nothing: no byte of
  *     a buffer, and nothing behind a pointer.
+ *   - The stack that is said of a call is all that it takes at most, from its return address down; arguments
+ *     past the sixth lie above that. It is that of the archive, and memcpy and memset, which the archive takes
+ *     from the host, count with their return address alone.
  */
 #ifndef PNOELITHE_H
 #define PNOELITHE_H
@@ -61,6 +64,8 @@ enum pno_number {
 /*
  * Judges an image: 0 where it is a sound volume, else the first of 1 to 6 that is due. The whole image is
  * tested for 1, then for 2, and so on.
+ *
+ * Stack: at most 1,784 bytes.
  */
 uint32_t pno_judge(const uint8_t *image, size_t image_len);
 
@@ -69,6 +74,7 @@ uint32_t pno_judge(const uint8_t *image, size_t image_len);
  * drive's numbers, the map, an empty catalogue, and E5 hex in every byte from sector 2 on.
  *
  * Numbers: 1 where image_len is not 256 x n, or n is not from 3 to 1,600; 7.
+ * Stack: at most 264 bytes.
  */
 uint32_t pno_format(uint8_t *image, size_t image_len, size_t n, const uint8_t *name, size_t name_len,
                     uint8_t sectors_per_track, uint8_t tracks, uint8_t sides, uint8_t density);
@@ -78,6 +84,7 @@ uint32_t pno_format(uint8_t *image, size_t image_len, size_t n, const uint8_t *n
  * the system and the files hold.
  *
  * Numbers: 1 to 6.
+ * Stack: at most 1,800 bytes.
  */
 uint32_t pno_free_count(const uint8_t *image, size_t image_len, size_t *free_sectors);
 
@@ -85,6 +92,7 @@ uint32_t pno_free_count(const uint8_t *image, size_t image_len, size_t *free_sec
  * A volume's summary: its name with the padding, its number of sectors n, of files, and of free sectors.
  *
  * Numbers: 1 to 6.
+ * Stack: at most 1,832 bytes.
  */
 uint32_t pno_summary(const uint8_t *image, size_t image_len, uint8_t name[10], size_t *n, size_t *files,
                      size_t *free_sectors);
@@ -107,6 +115,7 @@ enum pno_kind {
  *   is_protected  1 or 0
  *
  * Numbers: 1 to 6; 8 past the last file; 15 where header_len is below 28.
+ * Stack: at most 1,832 bytes.
  */
 uint32_t pno_entry(const uint8_t *image, size_t image_len, size_t place, uint8_t *header, size_t header_len,
                    size_t *kind, size_t *length, size_t *sectors, size_t *is_protected);
@@ -115,6 +124,7 @@ uint32_t pno_entry(const uint8_t *image, size_t image_len, size_t place, uint8_t
  * Reads a sector of a file of any kind, protected or not: its 256 bytes. Offsets count from 0.
  *
  * Numbers: 1 to 6; 7; 8; 15 for an offset past the last sector, or where out_len is below 256.
+ * Stack: at most 1,912 bytes.
  */
 uint32_t pno_read(const uint8_t *image, size_t image_len, const uint8_t *name, size_t name_len, size_t offset,
                   uint8_t *out, size_t out_len);
@@ -123,6 +133,7 @@ uint32_t pno_read(const uint8_t *image, size_t image_len, const uint8_t *name, s
  * Loads a program: its bytes, and their number behind length.
  *
  * Numbers: 1 to 6; 7; 8; 14; 15 where out_len is below the program's length (below 409,600).
+ * Stack: at most 1,992 bytes.
  */
 uint32_t pno_load(const uint8_t *image, size_t image_len, const uint8_t *name, size_t name_len, uint8_t *out,
                   size_t out_len, size_t *length);
@@ -134,6 +145,7 @@ uint32_t pno_load(const uint8_t *image, size_t image_len, const uint8_t *name, s
  * newline at the end of each line; no byte of zero ends the text.
  *
  * Numbers: 1 to 6; 15 where out_len is below the length of the text. 4,593 bytes are always enough.
+ * Stack: at most 6,568 bytes.
  */
 uint32_t pno_listing(const uint8_t *image, size_t image_len, uint8_t *out, size_t out_len, size_t *length);
 
@@ -156,6 +168,7 @@ uint32_t pno_listing(const uint8_t *image, size_t image_len, uint8_t *out, size_
  * other two are any byte.
  *
  * Numbers: 1 to 6; 7; 9; 15 for another status; 11; 12.
+ * Stack: at most 2,792 bytes.
  */
 uint32_t pno_create(uint8_t *image, size_t image_len, const uint8_t *name, size_t name_len, uint8_t status,
                     uint8_t record_length, uint8_t records_per_sector);
@@ -166,6 +179,7 @@ uint32_t pno_create(uint8_t *image, size_t image_len, const uint8_t *name, size_
  *
  * Numbers: 1 to 6; 7; 8; 10; 14 for a program; 15 where data_len is not 256; 12; 13, which is not due where
  * the sector that is taken follows the file's last one.
+ * Stack: at most 2,776 bytes.
  */
 uint32_t pno_append(uint8_t *image, size_t image_len, const uint8_t *name, size_t name_len,
                     const uint8_t *data, size_t data_len);
@@ -175,6 +189,7 @@ uint32_t pno_append(uint8_t *image, size_t image_len, const uint8_t *name, size_
  *
  * Numbers: 1 to 6; 7; 8; 10; 14 for a program; 15 for an offset past the last sector, or where data_len is
  * not 256.
+ * Stack: at most 1,912 bytes.
  */
 uint32_t pno_overwrite(uint8_t *image, size_t image_len, const uint8_t *name, size_t name_len, size_t offset,
                        const uint8_t *data, size_t data_len);
@@ -186,6 +201,7 @@ uint32_t pno_overwrite(uint8_t *image, size_t image_len, const uint8_t *name, si
  *
  * Numbers: 1 to 6; 7; 9; 15 where bytes_len is above 32,768; 11; 12, the descriptor's sector being counted;
  * 13.
+ * Stack: at most 3,848 bytes.
  */
 uint32_t pno_store(uint8_t *image, size_t image_len, const uint8_t *name, size_t name_len,
                    const uint8_t *bytes, size_t bytes_len);
@@ -195,6 +211,7 @@ uint32_t pno_store(uint8_t *image, size_t image_len, const uint8_t *name, size_t
  * themselves keep their bytes.
  *
  * Numbers: 1 to 6; 7; 8; 10.
+ * Stack: at most 2,712 bytes.
  */
 uint32_t pno_delete(uint8_t *image, size_t image_len, const uint8_t *name, size_t name_len);
 
@@ -202,6 +219,7 @@ uint32_t pno_delete(uint8_t *image, size_t image_len, const uint8_t *name, size_
  * Renames a file: the ten bytes of its name, and its place in sector 1.
  *
  * Numbers: 1 to 6; 7 for either name; 8 for the old one; 9 for the new one, also where it is the old one; 10.
+ * Stack: at most 2,968 bytes.
  */
 uint32_t pno_rename(uint8_t *image, size_t image_len, const uint8_t *old, size_t old_len,
                     const uint8_t *new_name, size_t new_len);
@@ -210,6 +228,7 @@ uint32_t pno_rename(uint8_t *image, size_t image_len, const uint8_t *old, size_t
  * Protects a file, and unprotects it: one bit of its status. Either may be done again.
  *
  * Numbers: 1 to 6; 7; 8.
+ * Stack: at most 2,440 bytes.
  */
 uint32_t pno_protect(uint8_t *image, size_t image_len, const uint8_t *name, size_t name_len);
 uint32_t pno_unprotect(uint8_t *image, size_t image_len, const uint8_t *name, size_t name_len);
@@ -223,6 +242,7 @@ uint32_t pno_unprotect(uint8_t *image, size_t image_len, const uint8_t *name, si
  * and packing what was packed changes nothing. The source is read and never changed.
  *
  * Numbers: 1 to 6 for the source; 15 where target_len is not source_len.
+ * Stack: at most 2,456 bytes.
  */
 uint32_t pno_pack(const uint8_t *source, size_t source_len, uint8_t *target, size_t target_len);
 

@@ -3,6 +3,7 @@
 
 pub mod calls;
 pub mod damage;
+pub mod frames;
 pub mod library;
 pub mod packing;
 pub mod random;
