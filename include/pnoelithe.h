@@ -14,9 +14,8 @@
  *   - Counts, places and offsets are size_t; a value goes back through a pointer.
  *   - The result is one of the numbers below. With any number but 0 the call has written nothing: no byte of
  *     a buffer, and nothing behind a pointer.
- *   - The stack that is said of a call is all that it takes at most, from its return address down; arguments
- *     past the sixth lie above that. It is that of the archive, and memcpy and memset, which the archive takes
- *     from the host, count with their return address alone.
+ *   - Stack is what a call takes of it at most, in the archive as it is built: all below the call's arguments,
+ *     so with the return address. memcpy and memset, which the host provides, count with theirs alone.
  */
 #ifndef PNOELITHE_H
 #define PNOELITHE_H

@@ -1,5 +1,6 @@
 //! How much stack the archive's code can take, from its disassembly by `objdump -dr -M intel
-//! --no-show-raw-insn`. What this does not know how to count is an error.
+//! --no-show-raw-insn`. An instruction that may move the stack pointer otherwise than it is counted
+//! here is an error, and so is a call whose target is not known.
 
 use std::collections::{BTreeMap, BTreeSet};
 
@@ -9,17 +10,6 @@ const WORD: usize = 8;
 /// What the archive takes from the host's C library. Of these only the return address counts.
 const OUTSIDE: [&str; 4] = ["memcpy", "memmove", "memset", "memcmp"];
 
-/// What a function does to the stack.
-#[derive(Default)]
-struct Frame {
-    /// All that it takes, wherever it does. At each instruction the compiler knows how far the
-    /// stack pointer has moved, so it is never further than by all of these once.
-    taken: usize,
-    /// How far it reaches below the stack pointer.
-    below: usize,
-    called: BTreeSet<String>,
-}
-
 /// The functions of the archive, by their names.
 pub struct Frames {
     frames: BTreeMap<String, Frame>,
@@ -27,21 +17,24 @@ pub struct Frames {
 
 impl Frames {
     pub fn of(disassembly: &str) -> Result<Self, String> {
-        let mut frames = BTreeMap::new();
-        let mut name = String::new();
-        for line in disassembly.lines() {
+        let mut frames: BTreeMap<String, Frame> = BTreeMap::new();
+        let mut name = "";
+        let lines: Vec<&str> = disassembly.lines().collect();
+        for (place, line) in lines.iter().enumerate() {
             if let Some(begun) = function(line) {
-                name = begun.to_string();
-                frames.insert(name.clone(), Frame::default());
-            } else if let Some(frame) = frames.get_mut(&name) {
-                frame.read(line).map_err(|wrong| format!("{}: {}: {}", name, wrong, line))?;
+                name = begun;
+                frames.insert(name.to_string(), Frame::default());
+            } else if let (Some(frame), None) = (frames.get_mut(name), relocation(line)) {
+                let relocation = lines.get(place + 1).and_then(|next| relocation(next));
+                let read = frame.read(line, relocation.or_else(|| leads_to(line)), name);
+                read.map_err(|wrong| format!("{}, {}: {}", name, wrong, line))?;
             }
         }
         Ok(Frames { frames })
     }
 
-    /// The bytes from where the stack pointer was before a call of the function, its return address
-    /// among them.
+    /// The bytes from where the stack pointer was before a call of the function on, so its return
+    /// address is among them.
     pub fn depth(&self, name: &str) -> Result<usize, String> {
         self.depth_after(name, &[])
     }
@@ -54,7 +47,7 @@ impl Frames {
         if path.contains(&name) {
             return Err(format!("{} calls itself", name));
         }
-        let frame = self.frames.get(name).ok_or_else(|| format!("no function {}", name))?;
+        let frame = self.frames.get(name).ok_or_else(|| format!("no code for {}", name))?;
         let path = [path, &[name]].concat();
         let mut below = frame.below;
         for called in &frame.called {
@@ -69,47 +62,76 @@ fn function(line: &str) -> Option<&str> {
     line.strip_suffix(">:")?.split_once(" <").map(|(_, name)| name)
 }
 
+/// The function that the linker is to put into the instruction before, where the line says that: by
+/// its name or by that of its section.
+fn relocation(line: &str) -> Option<&str> {
+    let (_, symbol) = line.split_once("R_X86_64_")?.1.split_once('\t')?;
+    let name = symbol.rsplit_once("-0x").map_or(symbol, |(name, _)| name);
+    Some(name.strip_prefix(".text.").unwrap_or(name))
+}
+
+/// The function that a jump or a call leads into as it stands.
+fn leads_to(line: &str) -> Option<&str> {
+    let (_, place) = line.strip_suffix('>')?.rsplit_once(" <")?;
+    Some(place.rsplit_once("+0x").map_or(place, |(name, _)| name))
+}
+
+/// What a function does to the stack.
+#[derive(Default)]
+struct Frame {
+    /// All that it takes, wherever in its code. The stack pointer is as deep at an instruction
+    /// whichever way led there, so no way takes more than each of these once.
+    taken: usize,
+    /// How far it reaches below the stack pointer.
+    below: usize,
+    called: BTreeSet<String>,
+}
+
 impl Frame {
-    fn read(&mut self, line: &str) -> Result<(), &'static str> {
-        let words: Vec<&str> = line.split_whitespace().collect();
+    /// An instruction of the function with that name, with the function that it leads to.
+    fn read(&mut self, line: &str, target: Option<&str>, name: &str) -> Result<(), &'static str> {
+        let words: Vec<&str> = line.split_whitespace().skip(1).collect();
         match words[..] {
-            [_, "R_X86_64_PLT32", symbol] => self.call(symbol),
-            [_, "push", ..] => self.taken += WORD,
-            [_, "sub", operands, ..] if operands.starts_with("rsp,") => {
-                self.taken += hexadecimal(&operands[4..]).ok_or("no number")?;
+            ["push", ..] => self.taken += WORD,
+            ["sub" | "add", operands] if operands.starts_with("rsp,") => {
+                let number = hexadecimal(&operands[4..]).ok_or("not a number")?;
+                let taken = if words[0] == "sub" { number } else { -number };
+                self.taken += taken.max(0) as usize;
             }
-            [_, "add", operands, ..] if operands.starts_with("rsp,0x") => {}
-            [_, "call" | "jmp", target, ..] if !target.starts_with(is_hexadecimal) => {
-                return Err("the target is not known");
+            ["call", to, ..] => {
+                let called = target.filter(|_| is_known(to)).ok_or("target not known")?;
+                self.called.insert(called.to_string());
             }
-            [_, "enter" | "leave" | "bnd" | "notrack", ..] => return Err("not known"),
-            [_, _, operands, ..] if operands.starts_with("rsp,") => return Err("not known"),
+            [jump, to, ..] if jump.starts_with('j') => {
+                let other = target.filter(|_| is_known(to)).ok_or("target not known")?;
+                if other != name {
+                    self.called.insert(other.to_string());
+                }
+            }
+            ["enter" | "leave" | "bnd" | "notrack", ..] => return Err("not counted"),
+            [_, operands, ..] if operands.starts_with("rsp,") => return Err("not counted"),
             _ => {}
         }
-        self.below = self.below.max(reach(line).ok_or("no number")?);
+        self.below = self.below.max(reach(line)?);
         Ok(())
     }
+}
 
-    /// The symbol is another function's or its section's, with what the instruction adds to it.
-    fn call(&mut self, symbol: &str) {
-        let name = symbol.rsplit_once('-').map_or(symbol, |(name, _)| name);
-        self.called.insert(name.trim_start_matches(".text.").to_string());
-    }
+/// Whether a jump or a call has its target in it; others take it from a register or from memory.
+fn is_known(to: &str) -> bool {
+    to.chars().all(|letter| letter.is_ascii_hexdigit())
 }
 
 /// How far below the stack pointer an instruction reads or writes.
-fn reach(line: &str) -> Option<usize> {
+fn reach(line: &str) -> Result<usize, &'static str> {
     let address = line.split_once("[rsp").and_then(|(_, rest)| rest.split_once(']'));
     match address.and_then(|(address, _)| address.rsplit_once('-')) {
-        Some((_, number)) => hexadecimal(number),
-        None => Some(0),
+        Some((_, number)) => Ok(hexadecimal(number).ok_or("not a number")? as usize),
+        None => Ok(0),
     }
 }
 
-fn hexadecimal(number: &str) -> Option<usize> {
-    usize::from_str_radix(number.strip_prefix("0x")?, 16).ok()
-}
-
-fn is_hexadecimal(letter: char) -> bool {
-    letter.is_ascii_hexdigit()
+/// A number of 64 bits, which may be a negative one.
+fn hexadecimal(number: &str) -> Option<i64> {
+    u64::from_str_radix(number.strip_prefix("0x")?, 16).map(|number| number as i64).ok()
 }

@@ -20,6 +20,8 @@ const SEED: u64 = 1;
 const CALLS: u64 = 200_000;
 const CALLS_IN_SEQUENCES: u64 = 200_000;
 const PACKS: u64 = 5_000;
+/// How often each function must at least have been called.
+const LEAST_CALLS: usize = 1000;
 
 fn main() -> ExitCode {
     let header = std::env::args().nth(1).ok_or_else(|| "HEADER?".to_string());
@@ -37,13 +39,13 @@ fn run(path: &str) -> Result<(), String> {
     let mut disassembly = String::new();
     std::io::stdin().read_to_string(&mut disassembly).map_err(|error| error.to_string())?;
     let frames = Frames::of(&disassembly)?;
+    let rows: Result<Vec<Row>, String> =
+        said(&header).into_iter().map(|(call, said)| Row::of(call, said, &frames)).collect();
+    let rows = rows?;
     make_calls()?;
     println!();
     println!("| Call | Calls | Bytes measured | By its code | By the header |");
     println!("|---|---:|---:|---:|---:|");
-    let rows: Result<Vec<Row>, String> =
-        said(&header).into_iter().map(|(call, said)| Row::of(call, said, &frames)).collect();
-    let rows = rows?;
     rows.iter().for_each(Row::write);
     rows.iter().try_for_each(Row::hold)
 }
@@ -84,38 +86,34 @@ fn make_calls() -> Result<(), String> {
     packs.report()
 }
 
-/// All are bytes, counted from where the stack pointer was before the call.
+/// A call, and the bytes from where the stack pointer was before it.
 struct Row<'header> {
     call: &'header str,
-    measured: Measured,
     by_code: usize,
     by_header: Option<usize>,
 }
 
 impl<'header> Row<'header> {
     fn of(call: &'header str, by_header: Option<usize>, frames: &Frames) -> Result<Self, String> {
-        let measured = MEASURED.with(|measured| measured.borrow().get(call).copied());
-        let measured = measured.ok_or_else(|| format!("{} was not called", call))?;
-        Ok(Row { call, measured, by_code: frames.depth(call)?, by_header })
+        Ok(Row { call, by_code: frames.depth(call)?, by_header })
+    }
+
+    fn measured(&self) -> Measured {
+        MEASURED.with(|measured| measured.borrow().get(self.call).copied().unwrap_or_default())
     }
 
     fn write(&self) {
-        let Row { call, measured, by_code, by_header } = self;
-        let Measured { calls, deepest: [first, second] } = measured;
+        let Row { call, by_code, by_header } = self;
+        let Measured { calls, deepest: [first, second] } = self.measured();
+        let most = first.max(second);
         let by_header = by_header.map_or("none".to_string(), |bytes| bytes.to_string());
-        println!(
-            "| `{}` | {} | {} | {} | {} |",
-            call,
-            calls,
-            first.max(second),
-            by_code,
-            by_header
-        );
+        println!("| `{}` | {} | {} | {} | {} |", call, calls, most, by_code, by_header);
     }
 
     fn hold(&self) -> Result<(), String> {
-        let [first, second] = self.measured.deepest;
+        let Measured { calls, deepest: [first, second] } = self.measured();
         let rules = [
+            (calls >= LEAST_CALLS, "was called too rarely"),
             (first == second, "was measured otherwise with the other pattern"),
             (first <= self.by_code, "takes more than its code can take"),
             (Some(self.by_code) <= self.by_header, "can take more than the header says"),
