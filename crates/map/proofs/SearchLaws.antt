@@ -68,15 +68,6 @@ pub found-low : (sector0 : List ℕ) → 1600 ≤ lowestFree sector0 1566 34 →
 unfolding dataChoice
 found-low sector0 h = rw (le-ltb (lowestFree sector0 1566 34) 1600 h)
 
-pub searched-first : (sector0 : List ℕ) (sector : ℕ) → Searched sector0 (record { sector = sector; high = 34; low = 2 })
-searched-first sector0 sector =
-    record {
-      high = (omega arith, omega arith);
-      low = (omega arith, omega arith);
-      above = λ k l h free. omega arith;
-      below = λ k l h free. omega arith;
-    }
-
 pub searched-marked : (sector0 : List ℕ) (search : Search) (k : ℕ) → length sector0 ≡ 256 → Searched sector0 search → Searched (marked 1 sector0 k) search
 searched-marked sector0 search k long is =
     let kept : (i : ℕ) → i < 1600 → mapBit (marked 1 sector0 k) i ≡ 0 → mapBit sector0 i ≡ 0 = still in

@@ -1,6 +1,7 @@
 // Where a descriptor and data go.
 ghost use mathlib.Core.Path.{_≡_};
-ghost use Prim.Native.Nat.{_-_, _≤_};
+ghost use mathlib.Core.List.{List};
+ghost use Prim.Native.Nat.{ℕ, _-_, _≤_};
 ghost use Rattle.rules.specs.Choice.{lowestFree, descriptorChoice, dataChoice};
 ghost use Rattle.map.specs.Search.{Searched};
 use sector::bytes::byte;
@@ -39,8 +40,9 @@ pub struct Search {
 }
 
 impl Search {
+    // Nothing is passed yet, whatever the map says.
     pub fn first() -> Search
-        ensures { λ r. ⌜ r ≡ record { sector = 0; high = 34; low = 2 } ⌝ }
+        ensures { λ r. ⌜ ((sector0 : List ℕ) → Searched sector0 r) ⌝ }
     {
         Search {
             sector: 0,

@@ -17,7 +17,7 @@ use Rattle.rules.proofs.Marking.{marked-length}
 use Rattle.rules.proofs.Extended.{extended-all-places, extended-all-length}
 use Rattle.map.specs.Search.{Searched}
 use Rattle.map.specs.declared.choice.Search.{Search}
-use Rattle.map.proofs.SearchLaws.{searched-first, searched-marked}
+use Rattle.map.proofs.SearchLaws.{searched-marked}
 use Rattle.extension.specs.declared.Tip.{Tip}
 use Rattle.extension.specs.Tip.{noTip, tipWith}
 use Rattle.extension.specs.Built.{Built, Extendable, Extends}
@@ -36,13 +36,13 @@ pub record Spreading (many : ℕ) (sector0₀ sector0 chain : List ℕ) (search 
   pub blocks-are : extendedAll (blocks chain) (dataChoices left sector0) ≡ extendedAll [] (dataChoices many sector0₀)
 
 pub spreading-first : (many : ℕ) (sector0 chain : List ℕ) (search : Search) → length sector0 ≡ 256 → ((i : ℕ) → byteAt chain i < 256) → chain ≡ replicate 228 0
-    → search ≡ record { sector = 0; high = 34; low = 2 } → Spreading many sector0 sector0 chain search noTip many
+    → Searched sector0 search → Spreading many sector0 sector0 chain search noTip many
 spreading-first many sector0 chain search size small zeros first =
     record {
       size = size;
       small = small;
       built = rw zeros (built-none 228 refl);
-      searched = rw first (searched-first sector0 0);
+      searched = first;
       number = omega arith;
       map = refl;
       blocks-are = ap (λ (bs : List Block). extendedAll bs (dataChoices many sector0)) (ap blocks zeros ∙ no-blocks 228);

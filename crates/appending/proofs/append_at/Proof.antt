@@ -18,7 +18,6 @@ use Rattle.rules.proofs.Outcome.{file-long}
 use Rattle.rules.proofs.Choice.{data-choice-range}
 use Rattle.rules.proofs.Extended.{sectors-few}
 use Rattle.rules.proofs.Changes.{refusal-meets, done-meets, in-volume, is-sector, has-rules, protected, unprotected, program, no-program}
-use Rattle.map.proofs.SearchLaws.{searched-first}
 use Rattle.extension.specs.Tip.{IsTip}
 use Rattle.extension.specs.Built.{Extendable}
 use Rattle.extension.proofs.Building.{built-chain, longer-used}
@@ -135,7 +134,7 @@ sector-of-requires-3 : tie.Need-sector-of-requires-3
 sector-of-requires-3 c κs = search needs
 
 next-requires : tie.Need-next-requires
-next-requires c κs = rw (c .before .before .first .ensures) (searched-first _ 0)
+next-requires c κs = c .before .before .first .ensures _
 
 sector-of-requires-4 : tie.Need-sector-of-requires-4
 sector-of-requires-4 c κs = small (c .before .before .before .before .before .before .before .before .before .before .before .before .before .before .before .before .before)

@@ -20,7 +20,7 @@ first-requires c κs = search needs
 loop-holds : tie.Need-loop-holds Inv-loop μ-loop
 loop-holds c =
     let pre = c .before .before .before .pre in
-    spreading-first _ _ _ _ (pre .0) (λ i. omega (arith, c .before .slice-known2 .given i)) (pre .1) (c .first .ensures)
+    spreading-first _ _ _ _ (pre .0) (λ i. omega (arith, c .before .slice-known2 .given i)) (pre .1) (c .first .ensures _)
 
 next-requires : tie.Need-next-requires Inv-loop μ-loop
 next-requires c κs = c .before .before .loop .inv .searched
