@@ -5,7 +5,7 @@ use Rattle.pnoelithe.proofs.pno_append.Statement.{statement}
 use Rattle.pnoelithe.proofs.pno_append.Tie as tie
 use Rattle.pnoelithe.proofs.pno_append.Reads as reads
 use Rattle.pnoelithe.proofs.pno_append.Lts as lts
-use Rattle.changing.proofs.append.Reads as append-reads
+use Rattle.appending.proofs.append.Reads as append-reads
 use Rattle.pnoelithe.proofs.crossing.answer_number.Reads as answer-number-reads
 
 append-requires : tie.Need-append-requires

@@ -5,7 +5,7 @@ use Rattle.pnoelithe.proofs.pno_create.Statement.{statement}
 use Rattle.pnoelithe.proofs.pno_create.Tie as tie
 use Rattle.pnoelithe.proofs.pno_create.Reads as reads
 use Rattle.pnoelithe.proofs.pno_create.Lts as lts
-use Rattle.filing.proofs.create.Reads as create-reads
+use Rattle.creating.proofs.create.Reads as create-reads
 use Rattle.pnoelithe.proofs.crossing.answer_number.Reads as answer-number-reads
 
 create-requires : tie.Need-create-requires
