@@ -1,4 +1,5 @@
 -- The proofs of what specs/ states.
+mod Computed
 pub mod Bench
 pub mod Formatting
 pub mod Reading

@@ -1,38 +1,28 @@
 -- Demand 2 shuts out the wrong versions that the paper names. First what it asks of any version on three calls: create and the free count on a volume just formatted,
 -- and an append on case M's volume; then each wrong version departs from one of these.
 use mathlib.Core.Path.{_≡_, refl, ap, _∙_}
-use mathlib.Core.Bool.{true, false}
+use mathlib.Core.Bool.{true}
 use mathlib.Core.List.{List, [], _∷_, _++_, map}
 use mathlib.Core.Logic.{_⊎_, inl, inr}
 use Prim.Native.Nat.{ℕ, _+_, _-_, _≤_}
 use native.Mathlib.Omega.{arith}
-use lib.Dec.{eqb}
-use lib.ListN.{length, replicate}
-use Rattle.rules.specs.Bytes.{allAre, same, over, splice, withBit}
-use Rattle.rules.specs.Sectors.{sectorOf, sectorCount, written}
-use Rattle.rules.specs.Name.{nameByte, padded, nameRule, precedes}
-use Rattle.rules.specs.Label.{labelRule}
-use Rattle.rules.specs.Map.{mapBit, count, taken, bitsRule, mapRule, byteOf, bytesOf, mapOf, zeroBits, freeCount, marked, markedAll}
-use Rattle.rules.specs.Chain.{blockBytes, blockOf, endsChain, blocks, blocksRule, chainRule, run, placesFrom, places, extended, extendedAll, blocksBytes}
-use Rattle.rules.specs.Kind.{statusRule, programLength, kindOf, kindRule}
-use Rattle.rules.specs.Descriptor.{nameOf, chainOf, fileKind, descriptorRule, newDescriptor, withChain}
-use Rattle.rules.specs.Index.{numbers, rangeRule, indexRule, numbersBytes, indexOf, without}
-use Rattle.rules.specs.Volume.{files, nameIn, placesIn, fileHolders, holders, placed, headerIn, contentsIn, fileIn, catalogue}
-use Rattle.rules.specs.Verdict.{sizeRule, descriptorsRule, heldTwice, verdict}
+use lib.ListN.{length}
+use Rattle.rules.specs.Bytes.{allAre}
+use Rattle.rules.specs.Sectors.{sectorOf, sectorCount}
+use Rattle.rules.specs.Name.{nameByte, padded, nameRule}
+use Rattle.rules.specs.Map.{count, freeCount, marked}
+use Rattle.rules.specs.Volume.{files, fileHolders, holders, fileIn, catalogue}
 use Rattle.rules.specs.Sound.{Sound}
-use Rattle.rules.specs.Choice.{lowestFree, descriptorChoice, dataChoice, dataChoices}
-use Rattle.rules.specs.Outcome.{gives, answerNumber, judged, findIn, openOf, changing, adding}
-use Rattle.rules.specs.Calls.Format.{newLabel, formatted}
-use Rattle.rules.specs.Calls.Create.{createStatus, entered, creating, createOf}
-use Rattle.rules.specs.Calls.Append.{appending, appendOf}
-use Rattle.rules.specs.Calls.Store.{dataWrites, storing, storeOf}
+use Rattle.rules.specs.Outcome.{gives, answerNumber, judged}
+use Rattle.rules.specs.Calls.Format.{formatted}
+use Rattle.rules.specs.Calls.Append.{appendOf}
 use Rattle.rules.specs.declared.Amount.the-variants as amount
 use Rattle.rules.proofs.Name.{name-is}
 use Rattle.rules.proofs.Verdict.{sound, passes}
 use Rattle.rules.proofs.Free.{free-holders}
 use Rattle.rules.proofs.Formatted.{formatted-length}
 use Rattle.rules.proofs.Outcome.{answer-number, amount-value}
-use Rattle.demands.specs.Catalogue.{fileName, named}
+use Rattle.demands.specs.Catalogue.{named}
 use Rattle.demands.specs.Call as call
 use Rattle.demands.specs.Call.{Version, number}
 use Rattle.demands.specs.Ours.{ours}
@@ -43,6 +33,7 @@ use Rattle.demands.specs.Formatting.{EmptyVolume, Formatting}
 use Rattle.demands.specs.Demand2.{FreeIs, Means, Demand2}
 use Rattle.demands.specs.Wrong.{fixed, refusesAlways, answersSame, doesNothing, oursBut, inventsFree, marksFirst}
 use Rattle.demands.proofs.Formatting.{formatting}
+use Rattle.demands.proofs.Computed.{secondSector, computed}
 
 -- a ground that is not there is passed, and one that is there gives its number
 passed : {There Is More : Type 0} → (There × Is) ⊎ ((There → ⊥) × More) → (There → ⊥) → More
@@ -175,16 +166,9 @@ invents-free free all =
     omega (arith, first, second)
 
 -- case M's volume, and a second sector for NOTES
-abbrev bytes : List ℕ
-bytes = replicate 256 0x43
-
-computed : (verdict caseM ≡ 0) × (appendOf caseM notes bytes .number ≡ 0) × (eqb (length (named notes (catalogue caseM) .contents)) 0 ≡ false)
-unfolding same caseM over splice allAre withBit sectorOf written nameByte padded nameRule precedes labelRule mapBit count taken bitsRule mapRule byteOf bytesOf mapOf zeroBits freeCount marked markedAll blockBytes blockOf endsChain blocks blocksRule chainRule run placesFrom places extended extendedAll blocksBytes statusRule programLength kindOf kindRule nameOf chainOf fileKind descriptorRule newDescriptor withChain numbers rangeRule indexRule numbersBytes indexOf without files nameIn placesIn fileHolders holders placed sizeRule descriptorsRule heldTwice verdict lowestFree descriptorChoice dataChoice dataChoices findIn openOf changing adding newLabel formatted createStatus entered creating createOf appending appendOf dataWrites storing storeOf headerIn contentsIn fileIn catalogue fileName named
-computed = (refl, refl, refl)
-
 pub marks-first : Demand2 marksFirst → ⊥
 unfolding marksFirst oursBut ours
 marks-first all =
-    append-marks marksFirst all caseM notes bytes (sound caseM (computed .0))
-    (answer-number (appendOf caseM notes bytes .number) ∙ computed .1)
-    (rw (computed .2))
+    append-marks marksFirst all caseM notes secondSector (sound caseM (computed .judged))
+    (answer-number (appendOf caseM notes secondSector .number) ∙ computed .appended)
+    (rw (computed .held))

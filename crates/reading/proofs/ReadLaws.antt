@@ -78,6 +78,12 @@ other-case status c endOffset recordLength kind e none = go (isProgram status) r
     go true is e = absurd (none (programLength c endOffset) (sym e))
     go false is e = is
 
+pub fixed-apart : (recordLength : ℕ) (internal : Bool) (size : ℕ) → Fixed recordLength internal ≡ Program size → ⊥
+fixed-apart recordLength internal size q = let z : _≡_ {A = ℕ} 0 1 = cc in omega arith
+
+pub variable-apart : (recordLength : ℕ) (internal : Bool) (size : ℕ) → Variable recordLength internal ≡ Program size → ⊥
+variable-apart recordLength internal size q = let z : _≡_ {A = ℕ} 0 1 = cc in omega arith
+
 module _ (image : List ℕ) (room k : ℕ) where
   pub load-data : (kind : Kind) → fileKind (sectorOf image k) ≡ kind → ((size : ℕ) → kind ≡ Program size → ⊥) → loading image room k ≡ refuses 14
   unfolding loading fileKind

@@ -9,7 +9,7 @@ use Rattle.rules.specs.Descriptor.{chainOf, fileKind}
 use Rattle.rules.specs.Volume.{placesIn, contentsIn}
 use Rattle.rules.specs.Outcome.{Reading}
 use Rattle.rules.specs.Calls.Load.{programIn}
-use Rattle.reading.proofs.ReadLaws.{amount-refused, amount-given, load-data, load-size, load-short, load-given}
+use Rattle.reading.proofs.ReadLaws.{amount-refused, amount-given, fixed-apart, variable-apart, load-data, load-size, load-short, load-given}
 use borrow.Author.Needs.{needs}
 use Rattle.reading.proofs.programs.load_at.Statement.{statement}
 use Rattle.reading.proofs.programs.load_at.Tie as tie
@@ -89,13 +89,13 @@ returns-3 : tie.Need-returns-3
 returns-3 c =
     let k = c .before .before in
     let a = k .before .before .before .before .before .before .before .before .args in
-    amount-refused _ 14 (load-data (a .image .now) (length (a .out .now)) (a .k) _ (kind-is k ∙ c .enum-told .given .1) (λ size q. let z : _≡_ {A = ℕ} 0 1 = cc in omega arith)) (λ z. omega (arith, z)) (a .out .now)
+    amount-refused _ 14 (load-data (a .image .now) (length (a .out .now)) (a .k) _ (kind-is k ∙ c .enum-told .given .1) (fixed-apart _ _)) (λ z. omega (arith, z)) (a .out .now)
 
 returns-4 : tie.Need-returns-4
 returns-4 c =
     let k = c .before .before in
     let a = k .before .before .before .before .before .before .before .before .args in
-    amount-refused _ 14 (load-data (a .image .now) (length (a .out .now)) (a .k) _ (kind-is k ∙ c .enum-told2 .given .1) (λ size q. let z : _≡_ {A = ℕ} 0 1 = cc in omega arith)) (λ z. omega (arith, z)) (a .out .now)
+    amount-refused _ 14 (load-data (a .image .now) (length (a .out .now)) (a .k) _ (kind-is k ∙ c .enum-told2 .given .1) (variable-apart _ _)) (λ z. omega (arith, z)) (a .out .now)
 
 pub load-at-spec : {M : Type 1} → statement M
 load-at-spec =

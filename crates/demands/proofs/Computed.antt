@@ -1,0 +1,83 @@
+-- What is computed of case M, in one test, so that its image is built once: the bench table holds, the listing is what the paper prints, the volume is sound, and
+-- NOTES, which has a sector, can be appended to.
+use mathlib.Core.Path.{_≡_, refl}
+use mathlib.Core.Bool.{Bool, true, false, _&&_}
+use mathlib.Core.List.{List, [], _∷_, _++_}
+use Prim.Native.Nat.{ℕ}
+use native.Mathlib.Omega.{arith}
+use lib.Dec.{eqb, ltb}
+use lib.ListN.{length, replicate}
+use borrow.Author.Tests.{eqb-true, ltb-true, ne-eqb}
+use Rattle.rules.specs.Bytes.{allAre, same, over, splice, withBit}
+use Rattle.rules.specs.Sectors.{sectorOf, written}
+use Rattle.rules.specs.Name.{nameByte, padded, nameRule, precedes}
+use Rattle.rules.specs.Label.{labelRule}
+use Rattle.rules.specs.Map.{mapBit, count, taken, bitsRule, mapRule, byteOf, bytesOf, mapOf, zeroBits, freeCount, marked, markedAll}
+use Rattle.rules.specs.Chain.{blockBytes, blockOf, endsChain, blocks, blocksRule, chainRule, run, placesFrom, places, extended, extendedAll, blocksBytes}
+use Rattle.rules.specs.Kind.{statusRule, programLength, kindOf, kindRule}
+use Rattle.rules.specs.Descriptor.{nameOf, chainOf, fileKind, descriptorRule, newDescriptor, withChain}
+use Rattle.rules.specs.Index.{numbers, rangeRule, indexRule, numbersBytes, indexOf, without}
+use Rattle.rules.specs.Volume.{files, nameIn, placesIn, fileHolders, holders, placed, headerIn, contentsIn, fileIn, catalogue}
+use Rattle.rules.specs.Packing.{labelArea, oneBlock, packedDescriptor, packedDescriptors, packedData, dataSectors, packedSectors, packed}
+use Rattle.rules.specs.Calls.Load.{joined}
+use Rattle.rules.specs.Verdict.{sizeRule, descriptorsRule, heldTwice, verdict}
+use Rattle.rules.specs.Choice.{lowestFree, descriptorChoice, dataChoice, dataChoices}
+use Rattle.rules.specs.Outcome.{findIn, openOf, changing, adding}
+use Rattle.rules.specs.Calls.Format.{newLabel, formatted}
+use Rattle.rules.specs.Calls.Create.{createStatus, entered, creating, createOf}
+use Rattle.rules.specs.Calls.Append.{appending, appendOf}
+use Rattle.rules.specs.Calls.Store.{dataWrites, storing, storeOf}
+use Rattle.rules.specs.Calls.Listing.{digits, decimal, unpadded, kindWord, kindLength, diskLine, fileLine, fileLines, listingText}
+use Rattle.rules.proofs.Tests.{both}
+use Rattle.demands.specs.Catalogue.{fileName, named}
+use Rattle.demands.specs.CaseM.{notes, caseM, printed}
+use Rattle.demands.specs.Bench.{Case, diskX, geometry, tableOf}
+
+unfoldable pub holds : List Case → Bool
+holds [] = true
+holds (row ∷ rows) = same (row .computed) (row .printed) && holds rows
+
+-- the bytes of a second sector for NOTES
+abbrev pub secondSector : List ℕ
+secondSector = replicate 256 0x43
+
+-- the table with the sectors 0 of the empty volumes as they are known to be
+abbrev pub rows : List ℕ → List Case
+rows m = tableOf (newLabel 35 diskX geometry ++ mapOf 35 (0 ∷ (1 ∷ []))) (newLabel 360 diskX geometry ++ mapOf 360 (0 ∷ (1 ∷ []))) m
+
+unfoldable ready : List ℕ → Bool
+ready m = eqb (verdict m) 0 && (eqb (appendOf m notes secondSector .number) 0 && ltb 0 (length (named notes (catalogue m) .contents)))
+
+unfoldable tests : List ℕ → Bool
+tests m = holds (rows m) && (same (listingText m) printed && ready m)
+
+-- what the tests say of an image that passes them
+pub record Passed (m : List ℕ) : Type 0 where
+  pub tabled : holds (rows m) ≡ true
+  pub listed : same (listingText m) printed ≡ true
+  pub judged : verdict m ≡ 0
+  pub appended : appendOf m notes secondSector .number ≡ 0
+  pub held : eqb (length (named notes (catalogue m) .contents)) 0 ≡ false
+
+passed : (m : List ℕ) → tests m ≡ true → Passed m
+unfolding tests ready
+passed m e =
+    let first = both (holds (rows m)) (same (listingText m) printed && ready m) e in
+    let next = both (same (listingText m) printed) (ready m) (first .1) in
+    let sound = both (eqb (verdict m) 0) (eqb (appendOf m notes secondSector .number) 0 && ltb 0 (length (named notes (catalogue m) .contents))) (next .1) in
+    let last = both (eqb (appendOf m notes secondSector .number) 0) (ltb 0 (length (named notes (catalogue m) .contents))) (sound .1) in
+    let some = ltb-true 0 (length (named notes (catalogue m) .contents)) (last .1) in
+    record {
+      tabled = first .0;
+      listed = next .0;
+      judged = eqb-true (verdict m) 0 (sound .0);
+      appended = eqb-true (appendOf m notes secondSector .number) 0 (last .0);
+      held = ne-eqb (length (named notes (catalogue m) .contents)) 0 (λ z. omega (arith, z, some));
+    }
+
+all-pass : tests caseM ≡ true
+unfolding headerIn contentsIn fileIn catalogue joined labelArea oneBlock packedDescriptor packedDescriptors packedData dataSectors packedSectors packed same holds tableOf caseM over splice allAre withBit sectorOf written nameByte padded nameRule precedes labelRule mapBit count taken bitsRule mapRule byteOf bytesOf mapOf zeroBits freeCount marked markedAll blockBytes blockOf endsChain blocks blocksRule chainRule run placesFrom places extended extendedAll blocksBytes statusRule programLength kindOf kindRule nameOf chainOf fileKind descriptorRule newDescriptor withChain numbers rangeRule indexRule numbersBytes indexOf without files nameIn placesIn fileHolders holders placed sizeRule descriptorsRule heldTwice verdict lowestFree descriptorChoice dataChoice dataChoices findIn openOf changing adding newLabel formatted createStatus entered creating createOf appending appendOf dataWrites storing storeOf digits decimal unpadded kindWord kindLength diskLine fileLine fileLines listingText fileName named tests ready
+all-pass = refl
+
+pub computed : Passed caseM
+computed = passed caseM all-pass
