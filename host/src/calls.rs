@@ -4,12 +4,13 @@
 pub(crate) mod arguments;
 mod comparison;
 pub(crate) mod lent;
+mod outside;
 mod paper;
 pub(crate) mod planned;
-pub(crate) mod tally;
+mod tally;
 
 pub(crate) use comparison::compared;
-pub use comparison::Comparison;
+pub use comparison::{Calls, Comparison};
 pub use planned::lines;
 
 use crate::reference::{self, Entry, Form, Geometry, Kind, Refusal, Row, Summary};
@@ -151,13 +152,9 @@ impl Call {
     }
 }
 
-/// How a kind crosses the C interface.
-fn number_of_kind(kind: Kind) -> usize {
-    match kind {
-        Kind::Program { .. } => 0,
-        Kind::Fixed { form: Form::Display, .. } => 1,
-        Kind::Variable { form: Form::Display, .. } => 2,
-        Kind::Fixed { form: Form::Internal, .. } => 3,
-        Kind::Variable { form: Form::Internal, .. } => 4,
-    }
+/// How a kind crosses the C interface: the place of its word among these.
+fn number_of_kind(kind: impl std::fmt::Display) -> usize {
+    const WORDS: [&str; 5] = ["PROGRAM", "DIS/FIX", "DIS/VAR", "INT/FIX", "INT/VAR"];
+    let word = kind.to_string();
+    WORDS.iter().position(|other| *other == word).expect("a word for each kind")
 }

@@ -2,14 +2,19 @@
 //! images that all of them are held to.
 
 pub mod calls;
+pub mod comparison;
 pub mod damage;
 pub mod frames;
+pub mod images;
 pub mod library;
+pub mod outside;
 pub mod packing;
+pub mod pnoelithe;
 pub mod random;
 pub mod reference;
 pub mod sequences;
 pub mod speed;
 pub mod suites;
+pub mod tally;
 pub mod tuned;
 pub mod volumes;

@@ -9,4 +9,4 @@ mod planned;
 mod tally;
 mod twins;
 
-pub use comparison::Comparison;
+pub use comparison::{Comparison, Packs};

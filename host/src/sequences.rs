@@ -12,8 +12,8 @@ mod shelf;
 mod starts;
 mod tally;
 
-pub use comparison::Comparison;
 pub(crate) use comparison::{built, left_by_calls};
+pub use comparison::{Comparison, Sequences};
 pub(crate) use plan::of_image;
 pub(crate) use shelf::Shelf;
 pub(crate) use starts::damaged;

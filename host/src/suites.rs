@@ -2,6 +2,7 @@
 //! value of a field once; the others build disks of every size and take changes by chance.
 
 use crate::damage::{Change, Damage};
+use crate::outside::Outside;
 use crate::random::Random;
 use crate::volumes::{is_name, names, Disk, File, Order, Run, Shape, SECTOR_BYTES};
 use crate::volumes::{DATA_STATUS, MOST_BLOCKS, MOST_FILES, MOST_SECTORS, PROGRAM_STATUS};
@@ -24,7 +25,17 @@ pub struct Image<'batch> {
     pub planned: Option<&'batch Disk>,
 }
 
-impl Image<'_> {
+impl<'batch> Image<'batch> {
+    /// A disk as it was built.
+    pub fn as_planned(what: &'batch str, disk: &'batch Disk) -> Self {
+        Image { what, bytes: &disk.image, number: Some(0), planned: Some(disk) }
+    }
+
+    pub fn of_outside(outside: &'batch Outside) -> Self {
+        let Outside { name, image, number, .. } = outside;
+        Image { what: name, bytes: image, number: *number, planned: None }
+    }
+
     /// Writes the image beside this program and says where.
     pub fn keep(&self) -> String {
         let kept = std::env::current_exe().and_then(|program| {

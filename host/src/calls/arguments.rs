@@ -23,20 +23,25 @@ impl Call {
         }
     }
 
-    /// All that can be read of a volume whose files have these names and numbers of sectors, and at
-    /// each end one step further.
+    /// All that can be read of a volume whose files have these names and numbers of sectors; at
+    /// each end one step further; under names that no file has; and buffers that are too short.
     pub(super) fn all(files: &[(Name, usize)]) -> Vec<Call> {
         let room = SECTOR_BYTES * MOST_SECTORS;
-        let mut calls = vec![Call::Judge, Call::FreeCount, Call::Summary, Call::Listing { room }];
+        let mut calls = vec![Call::Judge, Call::FreeCount, Call::Summary];
+        calls.extend([0, room].map(|room| Call::Listing { room }));
         for place in 0..=files.len() {
-            calls.push(Call::Entry { place, room: HEADER_BYTES + 2 });
+            let rooms = [HEADER_BYTES - 1, HEADER_BYTES, HEADER_BYTES + 2];
+            calls.extend(rooms.map(|room| Call::Entry { place, room }));
         }
-        for (name, sectors) in files {
+        let no_files = [(*b"~~~~~~~~~~", 0), ([b' '; 10], 0)];
+        for (name, sectors) in files.iter().chain(&no_files) {
             let name = Given::whole(name);
             for offset in 0..=*sectors {
                 calls.push(Call::Read { name: name.clone(), offset, room: SECTOR_BYTES + 2 });
             }
-            calls.push(Call::Load { name, room });
+            let rooms = [SECTOR_BYTES - 1, SECTOR_BYTES];
+            calls.extend(rooms.map(|room| Call::Read { name: name.clone(), offset: 0, room }));
+            calls.extend([0, room].map(|room| Call::Load { name: name.clone(), room }));
         }
         calls
     }

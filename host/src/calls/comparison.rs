@@ -1,72 +1,97 @@
 //! Many calls on sound and unsound images, each compared with both answers and byte for byte.
 
 use super::lent::Lent;
-use super::tally::{Case, Tally};
-use super::{number_of, paper, planned, Answer, Call, Written};
+use super::tally::{self, Case};
+use super::{number_of, outside, paper, planned, Answer, Call, Written};
+use crate::comparison::Part;
+use crate::outside::Outside;
+use crate::pnoelithe::Refusal;
 use crate::random::Random;
-use crate::reference;
 use crate::suites::{Batch, Image};
+use crate::tally::Tally;
 use crate::volumes::{Disk, MOST_SECTORS, SECTOR_BYTES};
+use std::collections::BTreeMap;
+
+pub type Comparison = crate::comparison::Comparison<Calls>;
 
 /// How many changes of one disk are tried, with a call on each.
 const CHANGES: usize = 60;
 
-pub struct Comparison {
-    seed: u64,
-    random: Random,
+pub struct Calls {
     tally: Tally,
+    /// Where the images are laid.
+    buffer: Vec<u8>,
+    /// How many images came from outside, and how often each call was made on them.
+    outside: u64,
+    on_outside: BTreeMap<&'static str, u64>,
 }
 
-impl Comparison {
-    pub fn new(seed: u64) -> Self {
-        Comparison { seed, random: Random::new(seed), tally: Tally::default() }
+impl Part for Calls {
+    const TITLE: &'static str = "calls";
+
+    fn new() -> Self {
+        let (buffer, on_outside) = (Vec::new(), BTreeMap::new());
+        Calls { tally: tally::new(), buffer, outside: 0, on_outside }
     }
 
-    /// What the paper prints, then at least so many calls by chance.
-    pub fn run(&mut self, calls: u64) -> Result<(), String> {
-        paper::cases(&mut self.random)?;
-        let mut buffer = self.random.bytes(SECTOR_BYTES * (MOST_SECTORS + 2));
-        while self.tally.total() < calls {
-            for batch in some_batches(&mut self.random) {
-                self.batch(&batch, &mut buffer)?;
-            }
+    fn begin(&mut self, random: &mut Random) -> Result<(), String> {
+        self.buffer = random.bytes(SECTOR_BYTES * (MOST_SECTORS + 2));
+        paper::cases(random)
+    }
+
+    fn on_volume_of(&mut self, sectors: usize, random: &mut Random) -> Result<(), String> {
+        self.batch(&Batch::of_any_shape(sectors, CHANGES, random), random)?;
+        for _ in 0..6 {
+            self.batch(&Batch::of_any_plan(random), random)?;
+        }
+        if random.once_in(8) {
+            self.batch(&Batch::of_long_files(random), random)?;
         }
         Ok(())
     }
 
-    fn batch(&mut self, batch: &Batch, buffer: &mut [u8]) -> Result<(), String> {
-        batch.each_image(buffer, |image| {
+    /// All that can be read of it.
+    fn on_outside(&mut self, outside: &Outside, random: &mut Random) -> Result<(), String> {
+        let image = Image::of_outside(outside);
+        self.outside += 1;
+        for call in Call::all(&outside::files(&outside.image)) {
+            self.call(&call, &image, random)?;
+            *self.on_outside.entry(call.title()).or_default() += 1;
+        }
+        outside::texts(outside)
+    }
+
+    fn tally(&self) -> &Tally {
+        &self.tally
+    }
+
+    fn report(&self) -> Result<(), String> {
+        self.tally.report()?;
+        let each: Vec<String> =
+            self.on_outside.iter().map(|(call, count)| format!("{} {}", call, count)).collect();
+        let calls: u64 = self.on_outside.values().sum();
+        println!("{} calls on {} images from outside: {}", calls, self.outside, each.join(", "));
+        Ok(())
+    }
+}
+
+impl Calls {
+    fn batch(&mut self, batch: &Batch, random: &mut Random) -> Result<(), String> {
+        let mut buffer = std::mem::take(&mut self.buffer);
+        batch.each_image(&mut buffer, |image| {
             for _ in 0..image.planned.map_or(1, calls_as_planned) {
-                let call = Call::any(&batch.disk, image.bytes, &mut self.random);
-                self.call(&call, image)?;
+                let call = Call::any(&batch.disk, image.bytes, random);
+                self.call(&call, image, random)?;
             }
             Ok(())
-        })
-    }
-
-    /// All that can be read of an image from outside.
-    pub fn outside(&mut self, what: &str, bytes: &[u8]) -> Result<(), String> {
-        let image = Image { what, bytes, number: None, planned: None };
-        let mut files = Vec::new();
-        if let Ok(volume) = reference::judge(bytes) {
-            let described = volume.files().map(|(_, descriptor)| descriptor);
-            files.extend(described.map(|descriptor| (*descriptor.name(), descriptor.sectors())));
-        }
-        Call::all(&files).iter().try_for_each(|call| self.call(call, &image))
-    }
-
-    fn call(&mut self, call: &Call, image: &Image) -> Result<(), String> {
-        let nth = self.tally.total() + 1;
-        let answer = compared(call, image, &mut self.random).map_err(|difference| {
-            format!("{}\n  seed {}, call {} of it", difference, self.seed, nth)
         })?;
-        self.tally.count(&Case { call, image, answer: &answer });
+        self.buffer = buffer;
         Ok(())
     }
 
-    pub fn report(&self) -> Result<(), String> {
-        self.tally.report()?;
-        println!("compared {} calls: no difference", self.tally.total());
+    fn call(&mut self, call: &Call, image: &Image, random: &mut Random) -> Result<(), String> {
+        let answer = compared(call, image, random)?;
+        tally::count(&mut self.tally, &Case { call, image, answer: &answer });
         Ok(())
     }
 }
@@ -75,39 +100,34 @@ impl Comparison {
 pub(crate) fn compared(call: &Call, image: &Image, random: &mut Random) -> Result<Answer, String> {
     let answer = call.by_reference(image.bytes);
     let planned = planned::answer(call, image);
-    let mut expected = Lent::to(call, image.bytes, random);
-    let mut lent = expected.clone();
-    let number = lent.call(call);
+    let before = Lent::to(call, image.bytes, random);
+    let mut expected = before.clone();
     if let Ok(written) = &answer {
         expected.write(call, written);
     }
+    let mut lent = before.clone();
+    let number = lent.call(call);
     let agreed = planned.as_ref().map_or(true, |planned| *planned == answer);
-    if agreed && number == number_of(&answer) && lent == expected {
-        return Ok(answer);
+    if !agreed || number != number_of(&answer) || lent != expected {
+        let planned = planned.map_or("not known".to_string(), |answer| describe(&answer));
+        let memory = lent.difference(&expected);
+        let memory = memory.unwrap_or_else(|| "memory as the reference has it".to_string());
+        let lines = [
+            format!("difference in {:?} on \"{}\"", call, image.what),
+            format!("library {}", number),
+            format!("reference {}", describe(&answer)),
+            format!("plan {}", planned),
+            memory,
+            format!("image kept as {}", image.keep()),
+        ];
+        return Err(lines.join("\n  "));
     }
-    let planned = planned.map_or("not known".to_string(), |answer| describe(&answer));
-    let memory = lent.difference(&expected);
-    let memory = memory.unwrap_or_else(|| "memory as the reference has it".to_string());
-    let lines = [
-        format!("difference in {:?} on \"{}\"", call, image.what),
-        format!("library {}", number),
-        format!("reference {}", describe(&answer)),
-        format!("plan {}", planned),
-        memory,
-        format!("image kept as {}", image.keep()),
-    ];
-    Err(lines.join("\n  "))
-}
-
-fn some_batches(random: &mut Random) -> Vec<Batch> {
-    let most = random.pick(&[40, 150, MOST_SECTORS, MOST_SECTORS]);
-    let sectors = random.within(3..=most);
-    let mut batches = vec![Batch::of_any_shape(sectors, CHANGES, random)];
-    batches.extend((0..6).map(|_| Batch::of_any_plan(random)));
-    if random.once_in(8) {
-        batches.push(Batch::of_long_files(random));
+    let mut lent = before;
+    let by_host = lent.call_of_host(call).map_or_else(Refusal::number, |()| 0);
+    if by_host != number || lent != expected {
+        return Err(format!("pnoelithe.rs gives otherwise than the library in {:?}", call));
     }
-    batches
+    Ok(answer)
 }
 
 /// How many calls are made on a disk as it was planned: few where there is little to read.

@@ -1,8 +1,10 @@
 //! The memory that is lent to one call of the library, so that all of it can be looked at after.
 
-use super::{Call, Given, Written};
+use super::{number_of_kind, Call, Given, Written};
 use crate::library;
+use crate::pnoelithe::{self, Refusal};
 use crate::random::Random;
+use crate::reference::Geometry;
 
 /// How many bytes lie before and behind each part that is lent, and must stay as they are. It is
 /// odd, so that no part begins where a machine would like it to.
@@ -93,6 +95,37 @@ impl Lent {
             Call::Load { .. } => library::load(image, name, buffer, first),
             Call::Listing { .. } => library::listing(image, buffer, first),
         }
+    }
+
+    /// The same call as a host makes it. What it gives back, in place of writing it behind
+    /// pointers, is laid down there.
+    pub(super) fn call_of_host(&mut self, call: &Call) -> Result<(), Refusal> {
+        let (image, name) = (self.image.lent(), self.name.lent());
+        let buffer = self.buffer.lent();
+        let [first, second, third, fourth] = &mut self.numbers;
+        match call {
+            Call::Judge => pnoelithe::judge(image)?,
+            Call::Format { n, geometry, .. } => {
+                let Geometry { sectors_per_track, tracks, sides, density } = *geometry;
+                let geometry = pnoelithe::Geometry { sectors_per_track, tracks, sides, density };
+                pnoelithe::format(image, *n, name, geometry)?
+            }
+            Call::FreeCount => *first = pnoelithe::free_count(image)?,
+            Call::Summary => {
+                let summary = pnoelithe::summary(image)?;
+                buffer.copy_from_slice(&summary.disk_name);
+                (*first, *second, *third) = (summary.sectors, summary.files, summary.free_sectors);
+            }
+            Call::Entry { place, .. } => {
+                let entry = pnoelithe::entry(image, *place, buffer)?;
+                (*first, *second) = (number_of_kind(entry.kind), entry.kind.length());
+                (*third, *fourth) = (entry.sectors, entry.is_protected.into());
+            }
+            Call::Read { offset, .. } => drop(pnoelithe::read(image, name, *offset, buffer)?),
+            Call::Load { .. } => *first = pnoelithe::load(image, name, buffer)?.len(),
+            Call::Listing { .. } => *first = pnoelithe::listing(image, buffer)?.len(),
+        }
+        Ok(())
     }
 
     /// Lays down what a call that is done must have written.

@@ -1,22 +1,16 @@
-//! How often each call gave each number, and how often the calls met what they are meant to meet.
+//! What the calls are meant to give and to meet.
 
 use super::planned::{is_good, is_program, is_protected, length_of, lines};
 use super::{number_of, Answer, Call};
 use crate::reference;
 use crate::suites::Image;
+use crate::tally::{Reachable, Tally};
 use crate::volumes::{File, HEADER_BYTES, SECTOR_BYTES};
-use std::collections::BTreeMap;
-
-/// How often everything that can be reached must at least have come up.
-pub(crate) const LEAST: u64 = 100;
-
-const NUMBERS: [u32; 11] = [0, 1, 2, 3, 4, 5, 6, 7, 8, 14, 15];
-const NUMBERS_OF_IMAGES: [u32; 7] = [0, 1, 2, 3, 4, 5, 6];
 
 /// The numbers that a call can give. Every call but formatting tests the whole image for 1 to 6;
 /// the rest is what the paper's table says of its arguments. The listing's buffer is not in the
 /// paper: it is held to the rule of the others.
-const REACHABLE: [(&str, &[u32]); 8] = [
+const REACHABLE: Reachable = &[
     ("judge", &[0, 1, 2, 3, 4, 5, 6]),
     ("format", &[0, 1, 7]),
     ("free count", &[0, 1, 2, 3, 4, 5, 6]),
@@ -25,6 +19,17 @@ const REACHABLE: [(&str, &[u32]); 8] = [
     ("read", &[0, 1, 2, 3, 4, 5, 6, 7, 8, 15]),
     ("load", &[0, 1, 2, 3, 4, 5, 6, 7, 8, 14, 15]),
     ("listing", &[0, 1, 2, 3, 4, 5, 6, 15]),
+];
+
+/// Formatting asks for nothing but a length: by the own number of the image.
+const FORMATTED: [&str; 7] = [
+    "format on an image of number 0",
+    "format on an image of number 1",
+    "format on an image of number 2",
+    "format on an image of number 3",
+    "format on an image of number 4",
+    "format on an image of number 5",
+    "format on an image of number 6",
 ];
 
 /// A call that was compared.
@@ -147,80 +152,17 @@ impl<'case> Case<'case> {
     }
 }
 
-#[derive(Default)]
-pub(super) struct Tally {
-    given: BTreeMap<(&'static str, u32), u64>,
-    /// The own number of each image that formatting was tried on.
-    formatted: BTreeMap<u32, u64>,
-    met: [u64; MET.len()],
+pub(super) fn new() -> Tally {
+    Tally::new(REACHABLE, FORMATTED.into_iter().chain(MET.map(|(what, _)| what)))
 }
 
-impl Tally {
-    pub(super) fn count(&mut self, case: &Case) {
-        *self.given.entry((case.call.title(), case.number())).or_default() += 1;
-        if case.is_format() {
-            *self.formatted.entry(reference::number(case.image.bytes)).or_default() += 1;
-        }
-        for (count, (_, is_met)) in self.met.iter_mut().zip(MET) {
-            *count += u64::from(is_met(case));
-        }
+pub(super) fn count(tally: &mut Tally, case: &Case) {
+    tally.give(case.call.title(), case.number());
+    if case.is_format() {
+        tally.meet(FORMATTED[reference::number(case.image.bytes) as usize]);
     }
-
-    pub(super) fn total(&self) -> u64 {
-        self.given.values().sum()
+    if let Some(disk) = case.image.planned {
+        tally.size(disk.sectors);
     }
-
-    fn given(&self, call: &'static str, number: u32) -> u64 {
-        self.given.get(&(call, number)).copied().unwrap_or(0)
-    }
-
-    fn formatted(&self, number: u32) -> u64 {
-        self.formatted.get(&number).copied().unwrap_or(0)
-    }
-
-    pub(super) fn report(&self) -> Result<(), String> {
-        self.write_tables();
-        let counts = self.counts();
-        let missed = counts.iter().filter(|(_, count)| *count < LEAST);
-        let missed: Vec<&str> = missed.map(|(what, _)| what.as_str()).collect();
-        if missed.is_empty() {
-            Ok(())
-        } else {
-            Err(format!("came up fewer than {} times: {}", LEAST, missed.join("; ")))
-        }
-    }
-
-    fn write_tables(&self) {
-        write_row("calls that gave", &NUMBERS, |number| number.to_string());
-        for (call, reachable) in REACHABLE {
-            write_row(call, &NUMBERS, |number| match reachable.contains(&number) {
-                true => self.given(call, number).to_string(),
-                false => "-".to_string(),
-            });
-        }
-        write_row("format on images of", &NUMBERS_OF_IMAGES, |number| number.to_string());
-        write_row("", &NUMBERS_OF_IMAGES, |number| self.formatted(number).to_string());
-        for (count, (what, _)) in self.met.iter().zip(MET) {
-            println!("{:>8} {}", count, what);
-        }
-    }
-
-    /// All that must have come up, and how often it did.
-    fn counts(&self) -> Vec<(String, u64)> {
-        let mut counts = Vec::new();
-        for (call, reachable) in REACHABLE {
-            let given = |number: &u32| (format!("{} {}", call, number), self.given(call, *number));
-            counts.extend(reachable.iter().map(given));
-        }
-        for number in NUMBERS_OF_IMAGES {
-            counts.push((format!("format on images of {}", number), self.formatted(number)));
-        }
-        counts.extend(self.met.iter().zip(MET).map(|(count, (what, _))| (what.into(), *count)));
-        counts
-    }
-}
-
-pub(crate) fn write_row(title: &str, numbers: &[u32], cell: impl Fn(u32) -> String) {
-    let cells: String = numbers.iter().map(|number| format!("{:>7}", cell(*number))).collect();
-    println!("{:<19}{}", title, cells);
+    tally.meet_all(MET.map(|(what, is_met)| (what, is_met(case))));
 }

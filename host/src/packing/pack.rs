@@ -3,6 +3,7 @@
 use super::planned;
 use crate::calls::lent::Part;
 use crate::library;
+use crate::pnoelithe;
 use crate::random::Random;
 use crate::reference::{self, Refusal};
 use crate::sequences::Shelf;
@@ -60,6 +61,8 @@ pub(super) fn compared(
         Some(difference)
     } else if planned.map_or(false, |planned| planned != answer) {
         Some("library and reference pack otherwise than was planned".to_string())
+    } else if !is_so_for_host(source.bytes, &answer, random.bytes(target_bytes)) {
+        Some("pnoelithe.rs packs otherwise than the library".to_string())
     } else {
         answer.as_ref().ok().and_then(|packed| not_kept(source.bytes, packed, random))
     };
@@ -67,6 +70,14 @@ pub(super) fn compared(
         let what = format!("difference in packing \"{}\" into {} bytes", source.what, target_bytes);
         Err([what, wrong, format!("source kept as {}", source.keep())].join("\n  "))
     })
+}
+
+/// Whether the call as a host makes it gives the same.
+fn is_so_for_host(source: &[u8], answer: &Answer, mut target: Vec<u8>) -> bool {
+    let before = target.clone();
+    let done = pnoelithe::pack(source, &mut target).map_err(pnoelithe::Refusal::number);
+    target == *answer.as_ref().unwrap_or(&before)
+        && done == answer.as_ref().map_or_else(|number| Err(*number), |_| Ok(()))
 }
 
 /// What packing must keep and has not, as far as the volume can be read.

@@ -1,13 +1,15 @@
-//! How often packing gave each number, and how often it met what it is meant to meet.
+//! What packs are meant to give and to meet.
 
 use super::twins::Difference;
-use crate::calls::tally::{write_row, LEAST};
 use crate::suites::Image;
-use crate::volumes::{Disk, File, MOST_BLOCKS, MOST_FILES, MOST_SECTORS, SECTOR_BYTES};
-use std::collections::{BTreeMap, BTreeSet};
+use crate::tally::{Reachable, Tally};
+use crate::volumes::{Disk, File, MOST_BLOCKS, MOST_FILES, SECTOR_BYTES};
 
-/// The numbers that packing can give: those of the source, and that the target has another length.
-const NUMBERS: [u32; 8] = [0, 1, 2, 3, 4, 5, 6, 15];
+/// The numbers of the source, and that the target has another length.
+const REACHABLE: Reachable = &[("pack", &[0, 1, 2, 3, 4, 5, 6, 15])];
+
+pub(super) const LEFT_BY_CALLS: &str = "volume left by calls packed";
+pub(super) const RELAID: &str = "laid out otherwise: the same bytes";
 
 /// A pack that was compared.
 pub(super) struct Case<'case> {
@@ -75,72 +77,15 @@ fn pairs(file: &File, rule: fn(usize, usize) -> bool) -> bool {
     file.runs.windows(2).any(|pair| rule(pair[0].sectors().end, pair[1].start))
 }
 
-#[derive(Default)]
-pub(super) struct Tally {
-    given: BTreeMap<u32, u64>,
-    met: [u64; MET.len()],
-    /// Volumes that calls had left.
-    pub left_by_calls: u64,
-    /// Packs of the same catalogue laid out otherwise.
-    pub relaid: u64,
-    /// Packs of catalogues and label areas with one difference.
-    pub differing: BTreeMap<Difference, u64>,
-    /// The sizes of volumes that were packed.
-    sizes: BTreeSet<usize>,
+pub(super) fn new() -> Tally {
+    let meant = MET.map(|(what, _)| what).into_iter().chain([LEFT_BY_CALLS, RELAID]);
+    Tally::new(REACHABLE, meant.chain(Difference::ALL.map(Difference::title)))
 }
 
-impl Tally {
-    pub(super) fn count(&mut self, case: &Case) {
-        *self.given.entry(case.number).or_default() += 1;
-        for (count, (_, is_met)) in self.met.iter_mut().zip(MET) {
-            *count += u64::from(is_met(case));
-        }
-        if case.number == 0 {
-            self.sizes.insert(case.source.bytes.len() / SECTOR_BYTES);
-        }
-    }
-
-    pub(super) fn total(&self) -> u64 {
-        self.given.values().sum()
-    }
-
-    fn given(&self, number: u32) -> u64 {
-        self.given.get(&number).copied().unwrap_or(0)
-    }
-
-    pub(super) fn report(&self) -> Result<(), String> {
-        write_row("packs that gave", &NUMBERS, |number| number.to_string());
-        write_row("", &NUMBERS, |number| self.given(number).to_string());
-        let lines = self.lines();
-        lines.iter().for_each(|(what, count)| println!("{:>8} {}", count, what));
-        if self.sizes.len() < MOST_SECTORS - 2 {
-            return Err("not every size of volume was packed".to_string());
-        }
-        let numbers = NUMBERS.map(|number| (format!("number {}", number), self.given(number)));
-        if numbers.iter().map(|(_, count)| count).sum::<u64>() < self.total() {
-            return Err("packing gave a number that it cannot give".to_string());
-        }
-        let counts = numbers.into_iter().chain(lines);
-        let rare: Vec<String> =
-            counts.filter(|(_, count)| *count < LEAST).map(|(what, _)| what).collect();
-        if rare.is_empty() {
-            Ok(())
-        } else {
-            Err(format!("came up fewer than {} times: {}", LEAST, rare.join("; ")))
-        }
-    }
-
-    /// All but the numbers that must have come up, and how often it did.
-    fn lines(&self) -> Vec<(String, u64)> {
-        let met = self.met.iter().zip(MET).map(|(count, (what, _))| (what.to_string(), *count));
-        let mut lines: Vec<(String, u64)> = met.collect();
-        lines.push(("volume left by calls packed".to_string(), self.left_by_calls));
-        lines.push(("laid out otherwise: the same bytes".to_string(), self.relaid));
-        for difference in Difference::ALL {
-            let count = self.differing.get(&difference).copied().unwrap_or(0);
-            lines.push((format!("{}: other bytes", difference.title()), count));
-        }
-        lines.push(("sizes of volumes".to_string(), self.sizes.len() as u64));
-        lines
+pub(super) fn count(tally: &mut Tally, case: &Case) {
+    tally.give("pack", case.number);
+    tally.meet_all(MET.map(|(what, is_met)| (what, is_met(case))));
+    if case.number == 0 {
+        tally.size(case.source.bytes.len() / SECTOR_BYTES);
     }
 }

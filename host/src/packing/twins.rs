@@ -108,14 +108,14 @@ impl Difference {
 
     pub(super) fn title(self) -> &'static str {
         match self {
-            Difference::Carried => "another carried byte of a header",
-            Difference::Status => "another status byte",
-            Difference::Name => "another byte of a file's name",
-            Difference::Sector => "another byte of a file's sector",
-            Difference::FileLess => "a file less",
-            Difference::FileMore => "a file more",
-            Difference::Label => "another carried byte of the label area",
-            Difference::DiskName => "another byte of the disk name",
+            Difference::Carried => "another carried byte of a header: other bytes",
+            Difference::Status => "another status byte: other bytes",
+            Difference::Name => "another byte of a file's name: other bytes",
+            Difference::Sector => "another byte of a file's sector: other bytes",
+            Difference::FileLess => "a file less: other bytes",
+            Difference::FileMore => "a file more: other bytes",
+            Difference::Label => "another carried byte of the label area: other bytes",
+            Difference::DiskName => "another byte of the disk name: other bytes",
         }
     }
 

@@ -6,7 +6,7 @@ use crate::calls::arguments::{around, given_name, some_file};
 use crate::calls::planned::{is_program, is_protected};
 use crate::calls::Given;
 use crate::random::Random;
-use crate::volumes::{names, Disk, File, Name, MOST_BLOCKS, SECTOR_BYTES};
+use crate::volumes::{names, Disk, File, Name, MOST_BLOCKS, MOST_FILES, SECTOR_BYTES};
 
 /// How often each call comes, in the order of `Write`.
 pub(super) type Mood = [usize; 8];
@@ -52,7 +52,8 @@ impl Desk<'_> {
             _ => random.pick(&[0x00, 0x02, 0x80, 0x82]),
         };
         let [record_length, records_per_sector] = [random.byte(), random.byte()];
-        Write::Create { name: self.new_name(random), status, record_length, records_per_sector }
+        let name = self.name_where(self.disk.files.len() == MOST_FILES, random);
+        Write::Create { name, status, record_length, records_per_sector }
     }
 
     fn append(&self, random: &mut Random) -> Write {
@@ -78,9 +79,10 @@ impl Desk<'_> {
         // As many bytes as just fit on the disk, and one more.
         let fitting = (SECTOR_BYTES * free.len()).saturating_sub(SECTOR_BYTES + 1);
         let holes = free.windows(2).filter(|pair| pair[0] + 1 < pair[1]).count();
+        let is_in_pieces = holes > MOST_BLOCKS - 5;
         let length = match random.below(12) {
-            0..=7 if holes > MOST_BLOCKS - 5 => {
-                random.pick(&[75 * 256, 76 * 256 - 1, 76 * 256, 80 * 256, 32_768, 32_769])
+            0..=7 if is_in_pieces => {
+                random.pick(&[75 * 256, 76 * 256 - 1, 76 * 256, 80 * 256, 32_768, 32_769, 32_769])
             }
             0 => random.pick(&[0, 1, 255, 256, 257, 511, 512]),
             1 => random.pick(&[32_767, 32_768, 32_769]),
@@ -91,7 +93,8 @@ impl Desk<'_> {
             6 | 7 => random.below(8 * SECTOR_BYTES),
             _ => random.below(3 * SECTOR_BYTES),
         };
-        Write::Store { name: self.new_name(random), bytes: Given::whole(&random.bytes(length)) }
+        let name = self.name_where(is_in_pieces, random);
+        Write::Store { name, bytes: Given::whole(&random.bytes(length)) }
     }
 
     fn rename(&self, random: &mut Random) -> Write {
@@ -124,6 +127,18 @@ impl Desk<'_> {
             _ => random.pick(self.pool),
         };
         self.as_it_is_or_not(name, random)
+    }
+
+    /// The same; where a fault is likely that comes after the name's, often a malformed name or
+    /// that of a file, so that both faults come together.
+    fn name_where(&self, is_fault_likely: bool, random: &mut Random) -> Given {
+        if !is_fault_likely || !random.once_in(4) {
+            return self.new_name(random);
+        }
+        match some_file(self.disk, |_| true, random) {
+            Some(file) if random.once_in(2) => Given::whole(&file.name()),
+            _ => Given::whole(&random.pick(&[[b' '; 10], *b"A.B       ", *b"A B       "])),
+        }
     }
 
     fn as_it_is_or_not(&self, name: Name, random: &mut Random) -> Given {

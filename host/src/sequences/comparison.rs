@@ -4,13 +4,18 @@ use super::arguments::{Desk, Mood, EVEN, FILLING, WEARING};
 use super::paper;
 use super::sequence::Sequence;
 use super::starts::{self, Start};
-use super::tally::Tally;
+use super::tally::{Tally, LOADED_BACK, READ_BACK, SEQUENCES};
 use super::{plan, Write};
 use crate::calls::planned::is_good;
 use crate::calls::{Call, Given};
+use crate::comparison::Part;
+use crate::outside::Outside;
 use crate::random::Random;
 use crate::reference::{self, Geometry};
-use crate::volumes::{names, Disk, Name, MOST_SECTORS, SECTOR_BYTES};
+use crate::tally;
+use crate::volumes::{names, Disk, Name, SECTOR_BYTES};
+
+pub type Comparison = crate::comparison::Comparison<Sequences>;
 
 /// How many calls a sequence has on a sound disk, how many where it is a long one, and how many
 /// then on an unsound image.
@@ -20,75 +25,62 @@ const CALLS_UNSOUND: usize = 12;
 /// How many names new files have for the most part.
 const POOL: usize = 16;
 
-pub struct Comparison {
-    seed: u64,
-    random: Random,
+pub struct Sequences {
     tally: Tally,
 }
 
-impl Comparison {
-    pub fn new(seed: u64) -> Self {
-        Comparison { seed, random: Random::new(seed), tally: Tally::default() }
+impl Part for Sequences {
+    const TITLE: &'static str = "calls in sequences";
+
+    fn new() -> Self {
+        Sequences { tally: Tally::new() }
     }
 
-    /// What the paper prints, then a sequence on a volume of every size, then others until there
-    /// are so many calls.
-    pub fn run(&mut self, calls: u64) -> Result<(), String> {
-        let seed = self.seed;
-        paper::cases(&mut self.random, &mut self.tally)
-            .map_err(|wrong| format!("{}\n  seed {}, in a case of the paper", wrong, seed))?;
-        let mut sizes: Vec<usize> = (3..=MOST_SECTORS).collect();
-        self.random.shuffle(&mut sizes);
-        for sectors in sizes {
-            self.on_volume_of(sectors)?;
-        }
-        while self.tally.total() < calls {
-            let (least, most) = self.random.pick(&[(3, 40), (3, 300), (300, 500), (400, 700)]);
-            let sectors = self.random.within(least..=most);
-            self.on_volume_of(sectors)?;
-        }
-        Ok(())
+    fn begin(&mut self, random: &mut Random) -> Result<(), String> {
+        paper::cases(random, &mut self.tally)
     }
 
-    fn on_volume_of(&mut self, sectors: usize) -> Result<(), String> {
-        let random = &mut self.random;
+    fn on_volume_of(&mut self, sectors: usize, random: &mut Random) -> Result<(), String> {
         let start = starts::any(sectors, random);
         if reference::number(&start.disk.image) != 0 {
             return Err("a disk that was planned to be sound is not".to_string());
         }
         let unformatted = random.once_in(10).then(|| random.bytes(SECTOR_BYTES * sectors));
-        self.sequence(start, unformatted.as_deref())
+        self.sequence(start, unformatted.as_deref(), random)
     }
 
-    /// A sequence on an image from outside.
-    pub fn outside(&mut self, image: &[u8]) -> Result<(), String> {
-        let start = starts::any(40, &mut self.random);
-        self.sequence(start, Some(image))
+    fn any_size(random: &mut Random) -> usize {
+        let (least, most) = random.pick(&[(3, 40), (3, 300), (300, 500), (400, 700)]);
+        random.within(least..=most)
     }
 
+    fn on_outside(&mut self, outside: &Outside, random: &mut Random) -> Result<(), String> {
+        let start = starts::any(40, random);
+        self.sequence(start, Some(&outside.image), random)
+    }
+
+    fn tally(&self) -> &tally::Tally {
+        &self.tally.calls
+    }
+
+    fn report(&self) -> Result<(), String> {
+        self.tally.report()
+    }
+}
+
+impl Sequences {
     /// A sequence on a disk, or on another image.
-    fn sequence(&mut self, start: Start, other: Option<&[u8]>) -> Result<(), String> {
-        self.tally.sequences += 1;
-        let before = self.tally.total();
-        let pool = names(POOL, &mut self.random);
-        let Comparison { seed, random, tally } = self;
+    fn sequence(
+        &mut self,
+        start: Start,
+        other: Option<&[u8]>,
+        random: &mut Random,
+    ) -> Result<(), String> {
+        self.tally.calls.meet(SEQUENCES);
+        let pool = names(POOL, random);
         let mut sequence = Sequence::on(start.disk, random);
         other.into_iter().for_each(|image| sequence.goes_on_with(image, random));
-        let done = Steps { sequence, pool, random, tally }.run(&start.mood);
-        done.map_err(|difference| {
-            let (nth, call) = (tally.sequences, tally.total() - before);
-            format!("{}\n  seed {}, sequence {}, call {} of it", difference, seed, nth, call)
-        })
-    }
-
-    pub fn report(&self) -> Result<(), String> {
-        self.tally.report()?;
-        let (calls, sequences) = (self.tally.total(), self.tally.sequences);
-        println!(
-            "compared {} calls in {} sequences, seed {}: no difference",
-            calls, sequences, self.seed
-        );
-        Ok(())
+        Steps { sequence, pool, random, tally: &mut self.tally }.run(&start.mood)
     }
 }
 
@@ -105,7 +97,7 @@ pub(crate) fn left_by_calls(
 ) -> Result<Disk, String> {
     let sequence = Sequence::on(built(sectors, random), random);
     let pool = names(POOL, random);
-    let mut steps = Steps { sequence, pool, random, tally: &mut Tally::default() };
+    let mut steps = Steps { sequence, pool, random, tally: &mut Tally::new() };
     steps.steps(&WEARING, calls)?;
     Ok(steps.sequence.disk)
 }
@@ -177,7 +169,7 @@ impl Steps<'_> {
         let name = write.name().clone();
         let offset = match write {
             Write::Store { bytes, .. } => {
-                tally.loaded_back += 1;
+                tally.calls.meet(LOADED_BACK);
                 let call = Call::Load { name, room: bytes.lent().len() };
                 return self.sequence.call(&call, random, tally).map(|_| ());
             }
@@ -187,7 +179,7 @@ impl Steps<'_> {
             }
             _ => return Ok(()),
         };
-        tally.read_back += 1;
+        tally.calls.meet(READ_BACK);
         let call = Call::Read { name, offset, room: SECTOR_BYTES };
         self.sequence.call(&call, random, tally).map(|_| ())
     }

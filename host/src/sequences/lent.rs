@@ -4,6 +4,7 @@
 use super::Write;
 use crate::calls::lent::Part;
 use crate::library;
+use crate::pnoelithe::{self, Refusal};
 use crate::random::Random;
 
 /// The two images stay from call to call; both have the same bytes around them.
@@ -43,6 +44,26 @@ impl Images {
         let difference = difference.or_else(|| other.difference("data or new name", &expected[1]));
         Made { library, reference, difference }
     }
+}
+
+/// The number by the call as a host makes it.
+pub(super) fn by_host(write: &Write, image: &mut [u8]) -> u32 {
+    let name = write.name().lent();
+    let done = match write {
+        Write::Create { status, record_length, records_per_sector, .. } => {
+            pnoelithe::create(image, name, *status, *record_length, *records_per_sector)
+        }
+        Write::Append { data, .. } => pnoelithe::append(image, name, data.lent()),
+        Write::Overwrite { offset, data, .. } => {
+            pnoelithe::overwrite(image, name, *offset, data.lent())
+        }
+        Write::Store { bytes, .. } => pnoelithe::store(image, name, bytes.lent()),
+        Write::Delete { .. } => pnoelithe::delete(image, name),
+        Write::Rename { new, .. } => pnoelithe::rename(image, name, new.lent()),
+        Write::Protect { .. } => pnoelithe::protect(image, name),
+        Write::Unprotect { .. } => pnoelithe::unprotect(image, name),
+    };
+    done.map_or_else(Refusal::number, |()| 0)
 }
 
 fn by_library(write: &Write, image: &mut [u8], name: &mut [u8], other: &mut [u8]) -> u32 {

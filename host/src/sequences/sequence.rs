@@ -1,6 +1,6 @@
 //! One image and what is known of it, from call to call.
 
-use super::lent::{Images, Made};
+use super::lent::{by_host, Images, Made};
 use super::plan;
 use super::shelf::Shelf;
 use super::tally::{Case, Tally};
@@ -21,7 +21,7 @@ pub(super) struct Sequence {
     unsound: Option<Vec<u8>>,
     /// The image's own: 0 as long as it is sound.
     pub number: u32,
-    /// The image before the last call, for a report.
+    /// The image before the last call.
     before: Vec<u8>,
 }
 
@@ -70,7 +70,7 @@ impl Sequence {
             plan::change(&mut self.disk, write);
             self.shelf.change(write);
         }
-        self.wrong(&made, number).map_or(Ok(number), |wrong| {
+        self.wrong(write, &made, number).map_or(Ok(number), |wrong| {
             let image = Image { what: "", bytes: &self.before, number: None, planned: None };
             let kept = format!("image before the call kept as {}", image.keep());
             Err([format!("difference in {:?}", write), wrong, kept].join("\n  "))
@@ -89,7 +89,7 @@ impl Sequence {
 
     /// Where library, reference, plan and shelf do not agree. A refused call has left the plan as
     /// it was, so that every byte is compared with what it was before.
-    fn wrong(&self, made: &Made, number: u32) -> Option<String> {
+    fn wrong(&self, write: &Write, made: &Made, number: u32) -> Option<String> {
         let Made { library, reference, difference } = made;
         if [*library, *reference] != [number; 2] {
             return Some(format!("library {}, reference {}, plan {}", library, reference, number));
@@ -104,6 +104,10 @@ impl Sequence {
         if self.number == 0 && !self.shelf.is_on(image) {
             let number = reference::number(image);
             return Some(format!("number {} now, or other files than there should be", number));
+        }
+        let mut again = self.before.clone();
+        if by_host(write, &mut again) != number || again != image {
+            return Some("pnoelithe.rs gives otherwise than the library".to_string());
         }
         None
     }

@@ -23,7 +23,7 @@ pub(super) fn any(sectors: usize, random: &mut Random) -> Start {
         4 | 5 if sectors >= 4 * MOST_BLOCKS + 8 => {
             Start { disk: long_chains(sectors, random), mood: APPENDING }
         }
-        6 | 7 if sectors >= MOST_FILES + 20 => Start { disk: comb(sectors, random), mood: STORING },
+        6..=8 if sectors >= MOST_FILES + 20 => Start { disk: comb(sectors, random), mood: STORING },
         _ => Start { disk: Shape::any(sectors, random).build(random), mood },
     }
 }
@@ -74,7 +74,7 @@ fn comb(sectors: usize, random: &mut Random) -> Disk {
     let files = random.pick(&[3, 20, MOST_FILES - 1, MOST_FILES]);
     let first = (2 + files).max(34) + random.below(2);
     let most = (sectors - first) / 2;
-    let teeth = random.pick(&[MOST_BLOCKS - 1, MOST_BLOCKS, 120, 150]).min(most);
+    let teeth = random.pick(&[MOST_BLOCKS - 1, MOST_BLOCKS, 120, 150, 150]).min(most);
     let mut runs = vec![Vec::new(); files];
     for tooth in 0..teeth {
         // The first file is left for what lies behind.

@@ -1,26 +1,20 @@
-//! How often each call gave each number, how often two faults came together, and how often the
-//! sequences met what they are meant to meet.
+//! What the calls in sequences are meant to give and to meet, and how often two faults came
+//! together.
 
 use super::plan::{find, grown, takes};
 use super::Write;
 use crate::calls::planned::is_protected;
-use crate::calls::tally::{write_row, LEAST};
 use crate::calls::Call;
-use crate::volumes::{Disk, File, Run, MOST_BLOCKS, MOST_FILES, MOST_SECTORS};
-use std::collections::{BTreeMap, BTreeSet};
-
-/// How often two faults must at least have come together.
-const LEAST_PAIR: u64 = 15;
-
-/// In the order of the paper's table.
-const NUMBERS: [u32; 16] = [0, 1, 2, 3, 4, 5, 6, 7, 8, 9, 10, 14, 15, 11, 12, 13];
+use crate::tally::{self, hold, Reachable, LEAST};
+use crate::volumes::{Disk, File, Run, MOST_BLOCKS, MOST_FILES};
+use std::collections::BTreeMap;
 
 /// The numbers that a call can give, from the paper's table. Every call but formatting tests the
 /// whole image for 1 to 6 and, where it takes a name, 7. 8 is for calls on a file, 9 for those that
 /// give a name; 10 and 14 name their calls. 15 is for a status (create), a length (store, append,
 /// overwrite) or an offset (overwrite); 11 for the calls that make a file, 12 for those that take
 /// sectors, 13 for those that take sectors for data.
-const REACHABLE: [(&str, &[u32]); 10] = [
+const REACHABLE: Reachable = &[
     ("create", &[0, 1, 2, 3, 4, 5, 6, 7, 9, 15, 11, 12]),
     ("append", &[0, 1, 2, 3, 4, 5, 6, 7, 8, 10, 14, 15, 12, 13]),
     ("overwrite", &[0, 1, 2, 3, 4, 5, 6, 7, 8, 10, 14, 15]),
@@ -115,6 +109,11 @@ const MET: [Meeting; 25] = [
     ("unprotected file unprotected", |case| case.is("unprotect") && case.is_on_protected(false)),
 ];
 
+/// What the call before had written.
+pub(super) const LOADED_BACK: &str = "program loaded that was just stored";
+pub(super) const READ_BACK: &str = "sector read that was just written";
+pub(super) const SEQUENCES: &str = "sequences";
+
 fn ends_below_34(runs: &[Run]) -> bool {
     runs.last().map_or(false, |run| run.sectors().end <= 34)
 }
@@ -172,125 +171,58 @@ impl<'case> Case<'case> {
     }
 }
 
-#[derive(Default)]
 pub(super) struct Tally {
-    given: BTreeMap<(&'static str, u32), u64>,
+    pub calls: tally::Tally,
+    /// How often a call gave one number while another was due as well.
     pairs: BTreeMap<(&'static str, u32, u32), u64>,
-    met: [u64; MET.len()],
-    /// Programs loaded, and sectors read, that the call before had written.
-    pub loaded_back: u64,
-    pub read_back: u64,
-    pub sequences: u64,
-    /// The sizes of sound volumes.
-    sizes: BTreeSet<usize>,
 }
 
 impl Tally {
+    pub(super) fn new() -> Self {
+        let meant = MET.map(|(what, _)| what).into_iter();
+        let meant = meant.chain([LOADED_BACK, READ_BACK, SEQUENCES]);
+        Tally { calls: tally::Tally::new(REACHABLE, meant), pairs: BTreeMap::new() }
+    }
+
     pub(super) fn count(&mut self, case: &Case) {
         let title = case.write.title();
-        *self.given.entry((title, case.number)).or_default() += 1;
+        self.calls.give(title, case.number);
         for other in case.faults.iter().skip(1) {
             *self.pairs.entry((title, case.number, *other)).or_default() += 1;
         }
-        for (count, (_, is_met)) in self.met.iter_mut().zip(MET) {
-            *count += u64::from(is_met(case));
-        }
+        self.calls.meet_all(MET.map(|(what, is_met)| (what, is_met(case))));
         if !case.is_unsound() {
-            self.sizes.insert(case.disk.sectors);
+            self.calls.size(case.disk.sectors);
         }
     }
 
     pub(super) fn count_other(&mut self, call: &Call, number: u32) {
         let title = if let Call::Format { .. } = call { "format" } else { READING };
-        *self.given.entry((title, number)).or_default() += 1;
-    }
-
-    pub(super) fn total(&self) -> u64 {
-        self.given.values().sum()
+        self.calls.give(title, number);
     }
 
     pub(super) fn report(&self) -> Result<(), String> {
-        self.write_tables();
-        if self.sizes.len() < MOST_SECTORS - 2 {
-            return Err("not every size of volume came up".to_string());
-        }
-        if self.numbers().iter().map(|(_, count)| count).sum::<u64>() < self.total() {
-            return Err("a call gave a number that it cannot give".to_string());
-        }
-        let given = self.numbers().into_iter().chain(self.lines());
-        let mut rare: Vec<String> = given.filter_map(|count| below(LEAST, count)).collect();
-        rare.extend(self.all_pairs().into_iter().filter_map(|count| below(LEAST_PAIR, count)));
-        if rare.is_empty() {
-            Ok(())
-        } else {
-            Err(format!("came up too rarely: {}", rare.join("; ")))
-        }
-    }
-
-    fn given(&self, call: &'static str, number: u32) -> u64 {
-        self.given.get(&(call, number)).copied().unwrap_or(0)
-    }
-
-    fn write_tables(&self) {
-        write_row("calls that gave", &NUMBERS, |number| number.to_string());
-        for (call, reachable) in REACHABLE {
-            write_row(call, &NUMBERS, |number| match reachable.contains(&number) {
-                true => self.given(call, number).to_string(),
-                false => "-".to_string(),
-            });
-        }
+        self.calls.report()?;
         println!("number given, and another one due as well");
-        for (call, _) in TOGETHER {
-            let pairs = self.pairs_of(call).into_iter();
+        for (call, pairs) in TOGETHER {
+            let counts = self.counts(call, pairs);
             let cells: Vec<String> =
-                pairs.map(|(pair, count)| format!("{}: {}", pair, count)).collect();
+                counts.iter().map(|(pair, count)| format!("{}: {}", pair, count)).collect();
             println!("{:<19}  {}", call, cells.join("  "));
+            hold(LEAST, counts).map_err(|rare| format!("{}: {}", call, rare))?;
         }
-        for (what, count) in self.lines() {
-            println!("{:>8} {}", count, what);
-        }
+        Ok(())
     }
 
     /// The faults that can come together in a call, and how often they did.
-    fn pairs_of(&self, call: &'static str) -> Vec<(String, u64)> {
-        let given =
-            TOGETHER.iter().filter(|(other, _)| *other == call).flat_map(|(_, given)| *given);
-        let pairs = given.flat_map(|(given, due)| due.iter().map(move |due| (*given, *due)));
-        let count = |(given, due)| self.pairs.get(&(call, given, due)).copied().unwrap_or(0);
-        pairs.map(|(given, due)| (format!("{}+{}", given, due), count((given, due)))).collect()
+    fn counts(&self, call: &'static str, pairs: &[(u32, &[u32])]) -> Vec<(String, u64)> {
+        let mut counts = Vec::new();
+        for (given, due) in pairs {
+            for due in *due {
+                let count = self.pairs.get(&(call, *given, *due)).copied().unwrap_or(0);
+                counts.push((format!("{}+{}", given, due), count));
+            }
+        }
+        counts
     }
-
-    fn lines(&self) -> Vec<(String, u64)> {
-        let met = self.met.iter().zip(MET).map(|(count, (what, _))| (what.to_string(), *count));
-        let mut lines: Vec<(String, u64)> = met.collect();
-        lines.push(("program loaded that was just stored".to_string(), self.loaded_back));
-        lines.push(("sector read that was just written".to_string(), self.read_back));
-        lines.push(("sequences".to_string(), self.sequences));
-        lines.push(("sizes of sound volumes".to_string(), self.sizes.len() as u64));
-        lines
-    }
-
-    /// Every number that a call can give, and how often it did.
-    fn numbers(&self) -> Vec<(String, u64)> {
-        let row = |(call, reachable): (&'static str, &'static [u32])| {
-            let given =
-                move |number: &u32| (format!("{} {}", call, number), self.given(call, *number));
-            reachable.iter().map(given)
-        };
-        REACHABLE.into_iter().flat_map(row).collect()
-    }
-
-    fn all_pairs(&self) -> Vec<(String, u64)> {
-        let row = |(call, _): &(&'static str, _)| {
-            let pairs = self.pairs_of(call).into_iter();
-            let call = *call;
-            pairs.map(move |(pair, count)| (format!("{} {}", call, pair), count))
-        };
-        TOGETHER.iter().flat_map(row).collect()
-    }
-}
-
-/// What came up fewer times than it should, and how often.
-fn below(least: u64, (what, count): (String, u64)) -> Option<String> {
-    (count < least).then(|| format!("{} ({} times, not {})", what, count, least))
 }

@@ -1,0 +1,57 @@
+//! Images from outside: what there is to read on them, and the texts that came with them.
+
+use crate::outside::Outside;
+use crate::pnoelithe::{self, Refusal};
+use crate::reference;
+use crate::volumes::Name;
+
+/// The files of a volume, by the reference: names and numbers of sectors. Of an unsound image, none.
+pub(super) fn files(image: &[u8]) -> Vec<(Name, usize)> {
+    let file = |(_, file): (usize, reference::Descriptor)| (*file.name(), file.sectors());
+    reference::judge(image).map_or(Vec::new(), |volume| volume.files().map(file).collect())
+}
+
+/// Holds what the library and the reference make of an image to the texts beside it.
+pub(super) fn texts(outside: &Outside) -> Result<(), String> {
+    let Outside { name, image, rows, program, .. } = outside;
+    let texts = [
+        ("listing by the library", rows, text(listing(image))),
+        ("summary and entries by the library", rows, text(summary_and_entries(image))),
+        ("text of the catalogue program by the reference", program, reference::catalogue(image)),
+    ];
+    for (what, expected, found) in texts {
+        if expected.as_ref().map_or(false, |expected| *expected != found) {
+            return Err(format!("{}: other than is expected, {}:\n{}", name, what, found));
+        }
+    }
+    Ok(())
+}
+
+fn text(lines: Result<String, Refusal>) -> String {
+    lines.unwrap_or_else(|refusal| format!("REFUSED {}\n", refusal.number()))
+}
+
+fn listing(image: &[u8]) -> Result<String, Refusal> {
+    let mut out = [0; pnoelithe::LISTING_BYTES];
+    pnoelithe::listing(image, &mut out).map(str::to_string)
+}
+
+/// The same lines, put together from the calls that give their parts.
+fn summary_and_entries(image: &[u8]) -> Result<String, Refusal> {
+    let pnoelithe::Summary { disk_name, sectors, files, .. } = pnoelithe::summary(image)?;
+    let free_sectors = pnoelithe::free_count(image)?;
+    let mut lines = format!("{} {} {}\n", unpadded(&disk_name), sectors, free_sectors);
+    for place in 0..files {
+        let mut header = [0; pnoelithe::HEADER_BYTES];
+        let pnoelithe::Entry { kind, sectors, is_protected } =
+            pnoelithe::entry(image, place, &mut header)?;
+        let (name, length) = (unpadded(&header[..10]), kind.length());
+        let protection = if is_protected { 'P' } else { 'U' };
+        lines += &format!("{} {} {} {} {}\n", name, kind, length, sectors, protection);
+    }
+    Ok(lines)
+}
+
+fn unpadded(name: &[u8]) -> String {
+    String::from_utf8_lossy(name).trim_end().to_string()
+}

@@ -1,0 +1,188 @@
+//! The comparison of images: the library's judge with both judges of this folder, and all three
+//! with the number that the paper gives where the image was built to have one.
+
+use crate::comparison::Part;
+use crate::outside::Outside;
+use crate::random::Random;
+use crate::reference::{self, Descriptor, Form, Kind};
+use crate::suites::{edges_of_a_block, of_every_value, Batch, Image};
+use crate::tally::{hold, Tally};
+use crate::volumes::{Disk, File, MOST_BLOCKS, MOST_FILES, MOST_SECTORS, SECTOR_BYTES};
+use crate::{library, tuned};
+
+pub type Comparison = crate::comparison::Comparison<Images>;
+
+/// How many images a number must at least have been given for.
+const LEAST_OF_EACH: u64 = 1000;
+/// How many changes of one disk are tried.
+const CHANGES: usize = 80;
+const SMALL_DISKS: usize = 10_000;
+
+const KNOWN: &str = "images whose number was known beforehand";
+
+/// What the sound disks are meant to show.
+const OF_DISKS: [(&str, fn(&Disk) -> bool); 3] = [
+    ("sound disks built and read back", |_| true),
+    ("  full", |disk| disk.free().is_empty()),
+    ("  with 127 files", |disk| disk.files.len() == MOST_FILES),
+];
+
+/// The same of each file on them.
+const OF_FILES: [(&str, fn(&File) -> bool); 6] = [
+    ("files on them", |_| true),
+    ("  of 76 blocks", |file| file.runs.len() == MOST_BLOCKS),
+    ("  without a sector", |file| file.runs.is_empty()),
+    ("  programs", |file| file.status() & 0x01 != 0),
+    ("  with blocks that could be one", |file| {
+        file.runs.windows(2).any(|pair| pair[0].sectors().end == pair[1].start)
+    }),
+    ("  with a block before the one it follows", |file| {
+        file.runs.windows(2).any(|pair| pair[1].start < pair[0].start)
+    }),
+];
+
+pub struct Images {
+    tally: Tally,
+    /// Where the images are laid.
+    buffer: Vec<u8>,
+}
+
+impl Part for Images {
+    const TITLE: &'static str = "images";
+
+    fn new() -> Self {
+        let meant = [KNOWN].into_iter();
+        let meant = meant.chain(OF_DISKS.map(|(what, _)| what));
+        let meant = meant.chain(OF_FILES.map(|(what, _)| what));
+        Images {
+            tally: Tally::new(&[("judge", &[0, 1, 2, 3, 4, 5, 6])], meant),
+            buffer: Vec::new(),
+        }
+    }
+
+    fn begin(&mut self, random: &mut Random) -> Result<(), String> {
+        self.buffer = random.bytes(SECTOR_BYTES * (MOST_SECTORS + 2));
+        for batch in of_every_value(random) {
+            self.batch(&batch)?;
+        }
+        for (sectors, run) in edges_of_a_block() {
+            self.batch(&Batch::of_one_block(sectors, run, random))?;
+        }
+        for _ in 0..SMALL_DISKS {
+            self.batch(&Batch::of_any_plan(random))?;
+        }
+        Ok(())
+    }
+
+    fn on_volume_of(&mut self, sectors: usize, random: &mut Random) -> Result<(), String> {
+        self.batch(&Batch::of_any_shape(sectors, CHANGES, random))
+    }
+
+    fn on_outside(&mut self, outside: &Outside, _: &mut Random) -> Result<(), String> {
+        self.image(&Image::of_outside(outside))
+    }
+
+    fn tally(&self) -> &Tally {
+        &self.tally
+    }
+
+    fn report(&self) -> Result<(), String> {
+        self.tally.report()?;
+        hold(LEAST_OF_EACH, self.tally.numbers())
+    }
+}
+
+impl Images {
+    fn batch(&mut self, batch: &Batch) -> Result<(), String> {
+        let mut buffer = std::mem::take(&mut self.buffer);
+        batch.each_image(&mut buffer, |image| self.image(image))?;
+        self.buffer = buffer;
+        if batch.number == 0 {
+            self.count(&batch.disk);
+            reads_back(&batch.disk).ok_or("the reference reads other files than were planned")?;
+        }
+        Ok(())
+    }
+
+    fn count(&mut self, disk: &Disk) {
+        self.tally.size(disk.sectors);
+        self.tally.meet_all(OF_DISKS.map(|(what, is_met)| (what, is_met(disk))));
+        for file in &disk.files {
+            self.tally.meet_all(OF_FILES.map(|(what, is_met)| (what, is_met(file))));
+        }
+    }
+
+    fn image(&mut self, image: &Image) -> Result<(), String> {
+        let given = Given::of(image.bytes);
+        if !given.agree_with(image.number) {
+            return Err(difference(image, &given));
+        }
+        self.tally.give("judge", given.library);
+        if image.number.is_some() {
+            self.tally.meet(KNOWN);
+        }
+        Ok(())
+    }
+}
+
+fn difference(image: &Image, given: &Given) -> String {
+    let Given { library, reference, tuned } = given;
+    let paper = image.number.map_or("not settled".to_string(), |number| number.to_string());
+    let lines = [
+        format!("difference in \"{}\"", image.what),
+        format!("library {}, reference {}, tuned {}", library, reference, tuned),
+        format!("by the paper {}", paper),
+        format!("image kept as {}", image.keep()),
+    ];
+    lines.join("\n  ")
+}
+
+/// The numbers that the three judges give for one image.
+struct Given {
+    library: u32,
+    reference: u32,
+    tuned: u32,
+}
+
+impl Given {
+    fn of(image: &[u8]) -> Self {
+        Given {
+            library: library::number(image),
+            reference: reference::number(image),
+            tuned: tuned::number(image),
+        }
+    }
+
+    fn agree_with(&self, paper: Option<u32>) -> bool {
+        let one = self.reference;
+        self.library == one && self.tuned == one && paper.map_or(true, |number| number == one)
+    }
+}
+
+/// Whether the reference finds the files of a sound disk as they were planned.
+fn reads_back(disk: &Disk) -> Option<()> {
+    let volume = reference::judge(&disk.image).ok()?;
+    let mut found = volume.files();
+    for file in &disk.files {
+        let (number, descriptor) = found.next()?;
+        let same = number == file.descriptor
+            && *descriptor.name() == file.name()
+            && descriptor.kind() == Some(kind(file))
+            && descriptor.has(Descriptor::PROTECTED) == (file.status() & 0x08 != 0)
+            && descriptor.sectors() == file.count()
+            && descriptor.chain().places().eq(file.sectors());
+        same.then_some(())?;
+    }
+    found.next().is_none().then_some(())
+}
+
+fn kind(file: &File) -> Kind {
+    let (end_offset, record_length) = (usize::from(file.header[16]), file.header[17]);
+    match file.status() & !0x08 {
+        0x00 => Kind::Fixed { record_length, form: Form::Display },
+        0x02 => Kind::Fixed { record_length, form: Form::Internal },
+        0x80 => Kind::Variable { record_length, form: Form::Display },
+        0x82 => Kind::Variable { record_length, form: Form::Internal },
+        _ => Kind::Program { length: 256 * (file.count() - 1) + end_offset },
+    }
+}

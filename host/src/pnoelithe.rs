@@ -1,0 +1,544 @@
+//! The library for a host in Rust: include/pnoelithe.h as safe functions over lent slices. This file
+//! stands alone, to be copied beside a program that is linked with libpnoelithe.a:
+//!
+//! ```text
+//! rustc --edition 2021 program.rs -C link-arg=target/staticlib/libpnoelithe.a
+//! ```
+//!
+//! The header says of each call which bytes it reads and writes. A call that is refused has written
+//! nothing. Whatever bytes are lent, and however few, no call reads or writes beside them, keeps
+//! anything of them, or ends the program.
+
+use std::fmt::{self, Display, Formatter};
+
+/// A disk's or a file's name, with its padding.
+pub type Name = [u8; 10];
+
+/// Room for the longest listing.
+pub const LISTING_BYTES: usize = 4593;
+/// Bytes of a descriptor that an entry gives.
+pub const HEADER_BYTES: usize = 28;
+pub const SECTOR_BYTES: usize = 256;
+
+/// Why a call is refused, in the order of the tests; each case stands for its number.
+#[derive(Clone, Copy, Debug, PartialEq, Eq)]
+pub enum Refusal {
+    Length = 1,
+    Label = 2,
+    Index = 3,
+    Descriptor = 4,
+    TwoHolders = 5,
+    Map = 6,
+    Name = 7,
+    NotFound = 8,
+    Present = 9,
+    Protected = 10,
+    NotProgram = 14,
+    Size = 15,
+    IndexFull = 11,
+    DiskFull = 12,
+    ChainFull = 13,
+}
+
+impl Refusal {
+    const ALL: [Refusal; 15] = [
+        Refusal::Length,
+        Refusal::Label,
+        Refusal::Index,
+        Refusal::Descriptor,
+        Refusal::TwoHolders,
+        Refusal::Map,
+        Refusal::Name,
+        Refusal::NotFound,
+        Refusal::Present,
+        Refusal::Protected,
+        Refusal::NotProgram,
+        Refusal::Size,
+        Refusal::IndexFull,
+        Refusal::DiskFull,
+        Refusal::ChainFull,
+    ];
+
+    pub fn number(self) -> u32 {
+        self as u32
+    }
+}
+
+impl Display for Refusal {
+    fn fmt(&self, out: &mut Formatter) -> fmt::Result {
+        out.write_str(match self {
+            Refusal::Length => "the image's length is not that of a volume",
+            Refusal::Label => "sector 0 is no label",
+            Refusal::Index => "sector 1 is no list of files",
+            Refusal::Descriptor => "a file's descriptor breaks a rule",
+            Refusal::TwoHolders => "a sector has two holders",
+            Refusal::Map => "the map is not that of the files",
+            Refusal::Name => "a name breaks its rule",
+            Refusal::NotFound => "there is no such file",
+            Refusal::Present => "there is a file of that name already",
+            Refusal::Protected => "the file is protected",
+            Refusal::NotProgram => "the file is of another kind",
+            Refusal::Size => "a length, an offset or a status does not fit",
+            Refusal::IndexFull => "there are 127 files already",
+            Refusal::DiskFull => "too few sectors are free",
+            Refusal::ChainFull => "the free sectors lie in too many pieces",
+        })
+    }
+}
+
+impl std::error::Error for Refusal {}
+
+/// What a library's number says.
+fn done(number: u32) -> Result<(), Refusal> {
+    match Refusal::ALL.into_iter().find(|refusal| refusal.number() == number) {
+        Some(refusal) => Err(refusal),
+        None if number == 0 => Ok(()),
+        None => unreachable!("the library gives no number {}", number),
+    }
+}
+
+/// What sector 0 carries of the drive.
+#[derive(Clone, Copy, Debug, PartialEq, Eq)]
+pub struct Geometry {
+    pub sectors_per_track: u8,
+    pub tracks: u8,
+    pub sides: u8,
+    pub density: u8,
+}
+
+/// What a volume is like as a whole.
+#[derive(Clone, Copy, Debug, PartialEq, Eq)]
+pub struct Summary {
+    pub disk_name: Name,
+    /// n
+    pub sectors: usize,
+    pub files: usize,
+    pub free_sectors: usize,
+}
+
+/// A file of the catalogue; its name is the first ten bytes of the header.
+#[derive(Clone, Copy, Debug, PartialEq, Eq)]
+pub struct Entry {
+    pub kind: Kind,
+    /// Without the descriptor's.
+    pub sectors: usize,
+    pub is_protected: bool,
+}
+
+#[derive(Clone, Copy, Debug, PartialEq, Eq)]
+pub enum Kind {
+    /// With its length in bytes.
+    Program {
+        length: usize,
+    },
+    Fixed {
+        record_length: usize,
+        form: Form,
+    },
+    Variable {
+        record_length: usize,
+        form: Form,
+    },
+}
+
+#[derive(Clone, Copy, Debug, PartialEq, Eq)]
+pub enum Form {
+    Display,
+    Internal,
+}
+
+impl Kind {
+    fn of(number: usize, length: usize) -> Self {
+        let record_length = length;
+        match number {
+            0 => Kind::Program { length },
+            1 => Kind::Fixed { record_length, form: Form::Display },
+            2 => Kind::Variable { record_length, form: Form::Display },
+            3 => Kind::Fixed { record_length, form: Form::Internal },
+            4 => Kind::Variable { record_length, form: Form::Internal },
+            _ => unreachable!("the library gives no kind {}", number),
+        }
+    }
+
+    /// A program's length in bytes, or else the record length.
+    pub fn length(self) -> usize {
+        match self {
+            Kind::Program { length } => length,
+            Kind::Fixed { record_length, .. } | Kind::Variable { record_length, .. } => {
+                record_length
+            }
+        }
+    }
+}
+
+/// As in a listing.
+impl Display for Kind {
+    fn fmt(&self, out: &mut Formatter) -> fmt::Result {
+        out.write_str(match self {
+            Kind::Program { .. } => "PROGRAM",
+            Kind::Fixed { form: Form::Display, .. } => "DIS/FIX",
+            Kind::Variable { form: Form::Display, .. } => "DIS/VAR",
+            Kind::Fixed { form: Form::Internal, .. } => "INT/FIX",
+            Kind::Variable { form: Form::Internal, .. } => "INT/VAR",
+        })
+    }
+}
+
+/// The ten bytes of a name; one that is too long is left blank, which every call refuses.
+pub fn padded(name: &str) -> Name {
+    let mut padded = [b' '; 10];
+    if let Some(front) = padded.get_mut(..name.len()) {
+        front.copy_from_slice(name.as_bytes());
+    }
+    padded
+}
+
+/// Done where the image is a sound volume.
+pub fn judge(image: &[u8]) -> Result<(), Refusal> {
+    done(unsafe { imported::pno_judge(image.as_ptr(), image.len()) })
+}
+
+/// Makes an empty volume of n sectors of the image, whatever its bytes were.
+pub fn format(image: &mut [u8], n: usize, name: &[u8], geometry: Geometry) -> Result<(), Refusal> {
+    let Geometry { sectors_per_track, tracks, sides, density } = geometry;
+    done(unsafe {
+        imported::pno_format(
+            image.as_mut_ptr(),
+            image.len(),
+            n,
+            name.as_ptr(),
+            name.len(),
+            sectors_per_track,
+            tracks,
+            sides,
+            density,
+        )
+    })
+}
+
+/// The number of free sectors.
+pub fn free_count(image: &[u8]) -> Result<usize, Refusal> {
+    let mut free_sectors = 0;
+    done(unsafe { imported::pno_free_count(image.as_ptr(), image.len(), &mut free_sectors) })?;
+    Ok(free_sectors)
+}
+
+/// The volume's name, and its numbers of sectors, files and free sectors.
+pub fn summary(image: &[u8]) -> Result<Summary, Refusal> {
+    let mut summary = Summary { disk_name: [0; 10], sectors: 0, files: 0, free_sectors: 0 };
+    done(unsafe {
+        imported::pno_summary(
+            image.as_ptr(),
+            image.len(),
+            summary.disk_name.as_mut_ptr(),
+            &mut summary.sectors,
+            &mut summary.files,
+            &mut summary.free_sectors,
+        )
+    })?;
+    Ok(summary)
+}
+
+/// The file at a place of the catalogue, counted from 0; the first 28 bytes of its descriptor go to
+/// the front of `header`.
+pub fn entry(image: &[u8], place: usize, header: &mut [u8]) -> Result<Entry, Refusal> {
+    let (mut kind, mut length, mut sectors, mut is_protected) = (0, 0, 0, 0);
+    done(unsafe {
+        imported::pno_entry(
+            image.as_ptr(),
+            image.len(),
+            place,
+            header.as_mut_ptr(),
+            header.len(),
+            &mut kind,
+            &mut length,
+            &mut sectors,
+            &mut is_protected,
+        )
+    })?;
+    Ok(Entry { kind: Kind::of(kind, length), sectors, is_protected: is_protected != 0 })
+}
+
+/// Reads the sector of a file at an offset, counted from 0, into the front of `out`: 256 bytes,
+/// which are given back.
+pub fn read<'out>(
+    image: &[u8],
+    name: &[u8],
+    offset: usize,
+    out: &'out mut [u8],
+) -> Result<&'out [u8], Refusal> {
+    done(unsafe {
+        imported::pno_read(
+            image.as_ptr(),
+            image.len(),
+            name.as_ptr(),
+            name.len(),
+            offset,
+            out.as_mut_ptr(),
+            out.len(),
+        )
+    })?;
+    Ok(&out[..SECTOR_BYTES])
+}
+
+/// Loads a program into the front of `out`; its bytes are given back.
+pub fn load<'out>(image: &[u8], name: &[u8], out: &'out mut [u8]) -> Result<&'out [u8], Refusal> {
+    let mut length = 0;
+    done(unsafe {
+        imported::pno_load(
+            image.as_ptr(),
+            image.len(),
+            name.as_ptr(),
+            name.len(),
+            out.as_mut_ptr(),
+            out.len(),
+            &mut length,
+        )
+    })?;
+    Ok(&out[..length])
+}
+
+/// Writes the catalogue into the front of `out`, for which `LISTING_BYTES` are always enough; the
+/// text is given back.
+pub fn listing<'out>(image: &[u8], out: &'out mut [u8]) -> Result<&'out str, Refusal> {
+    let mut length = 0;
+    done(unsafe {
+        imported::pno_listing(image.as_ptr(), image.len(), out.as_mut_ptr(), out.len(), &mut length)
+    })?;
+    Ok(std::str::from_utf8(&out[..length]).expect("names have bytes up to 126"))
+}
+
+/// Creates a data file without sectors.
+pub fn create(
+    image: &mut [u8],
+    name: &[u8],
+    status: u8,
+    record_length: u8,
+    records_per_sector: u8,
+) -> Result<(), Refusal> {
+    done(unsafe {
+        imported::pno_create(
+            image.as_mut_ptr(),
+            image.len(),
+            name.as_ptr(),
+            name.len(),
+            status,
+            record_length,
+            records_per_sector,
+        )
+    })
+}
+
+/// Appends a sector of 256 bytes to a data file.
+pub fn append(image: &mut [u8], name: &[u8], data: &[u8]) -> Result<(), Refusal> {
+    done(unsafe {
+        imported::pno_append(
+            image.as_mut_ptr(),
+            image.len(),
+            name.as_ptr(),
+            name.len(),
+            data.as_ptr(),
+            data.len(),
+        )
+    })
+}
+
+/// Overwrites the sector of a data file at an offset, counted from 0, with 256 bytes.
+pub fn overwrite(image: &mut [u8], name: &[u8], offset: usize, data: &[u8]) -> Result<(), Refusal> {
+    done(unsafe {
+        imported::pno_overwrite(
+            image.as_mut_ptr(),
+            image.len(),
+            name.as_ptr(),
+            name.len(),
+            offset,
+            data.as_ptr(),
+            data.len(),
+        )
+    })
+}
+
+/// Stores a program of at most 32,768 bytes as a new file.
+pub fn store(image: &mut [u8], name: &[u8], bytes: &[u8]) -> Result<(), Refusal> {
+    done(unsafe {
+        imported::pno_store(
+            image.as_mut_ptr(),
+            image.len(),
+            name.as_ptr(),
+            name.len(),
+            bytes.as_ptr(),
+            bytes.len(),
+        )
+    })
+}
+
+/// Deletes a file.
+pub fn delete(image: &mut [u8], name: &[u8]) -> Result<(), Refusal> {
+    done(unsafe {
+        imported::pno_delete(image.as_mut_ptr(), image.len(), name.as_ptr(), name.len())
+    })
+}
+
+/// Renames a file.
+pub fn rename(image: &mut [u8], old: &[u8], new: &[u8]) -> Result<(), Refusal> {
+    done(unsafe {
+        imported::pno_rename(
+            image.as_mut_ptr(),
+            image.len(),
+            old.as_ptr(),
+            old.len(),
+            new.as_ptr(),
+            new.len(),
+        )
+    })
+}
+
+/// Protects a file, which may be protected already.
+pub fn protect(image: &mut [u8], name: &[u8]) -> Result<(), Refusal> {
+    done(unsafe {
+        imported::pno_protect(image.as_mut_ptr(), image.len(), name.as_ptr(), name.len())
+    })
+}
+
+/// Takes the protection of a file away, which may have none.
+pub fn unprotect(image: &mut [u8], name: &[u8]) -> Result<(), Refusal> {
+    done(unsafe {
+        imported::pno_unprotect(image.as_mut_ptr(), image.len(), name.as_ptr(), name.len())
+    })
+}
+
+/// Packs a volume into a target of the same length, whatever bytes that had.
+pub fn pack(source: &[u8], target: &mut [u8]) -> Result<(), Refusal> {
+    done(unsafe {
+        imported::pno_pack(source.as_ptr(), source.len(), target.as_mut_ptr(), target.len())
+    })
+}
+
+/// The functions of the archive, as include/pnoelithe.h declares them.
+pub(crate) mod imported {
+    extern "C" {
+        pub fn pno_judge(image: *const u8, image_len: usize) -> u32;
+        pub fn pno_format(
+            image: *mut u8,
+            image_len: usize,
+            n: usize,
+            name: *const u8,
+            name_len: usize,
+            sectors_per_track: u8,
+            tracks: u8,
+            sides: u8,
+            density: u8,
+        ) -> u32;
+        pub fn pno_free_count(image: *const u8, image_len: usize, free_sectors: *mut usize) -> u32;
+        pub fn pno_summary(
+            image: *const u8,
+            image_len: usize,
+            name: *mut u8,
+            n: *mut usize,
+            files: *mut usize,
+            free_sectors: *mut usize,
+        ) -> u32;
+        pub fn pno_entry(
+            image: *const u8,
+            image_len: usize,
+            place: usize,
+            header: *mut u8,
+            header_len: usize,
+            kind: *mut usize,
+            length: *mut usize,
+            sectors: *mut usize,
+            is_protected: *mut usize,
+        ) -> u32;
+        pub fn pno_read(
+            image: *const u8,
+            image_len: usize,
+            name: *const u8,
+            name_len: usize,
+            offset: usize,
+            out: *mut u8,
+            out_len: usize,
+        ) -> u32;
+        pub fn pno_load(
+            image: *const u8,
+            image_len: usize,
+            name: *const u8,
+            name_len: usize,
+            out: *mut u8,
+            out_len: usize,
+            length: *mut usize,
+        ) -> u32;
+        pub fn pno_listing(
+            image: *const u8,
+            image_len: usize,
+            out: *mut u8,
+            out_len: usize,
+            length: *mut usize,
+        ) -> u32;
+        pub fn pno_create(
+            image: *mut u8,
+            image_len: usize,
+            name: *const u8,
+            name_len: usize,
+            status: u8,
+            record_length: u8,
+            records_per_sector: u8,
+        ) -> u32;
+        pub fn pno_append(
+            image: *mut u8,
+            image_len: usize,
+            name: *const u8,
+            name_len: usize,
+            data: *const u8,
+            data_len: usize,
+        ) -> u32;
+        pub fn pno_overwrite(
+            image: *mut u8,
+            image_len: usize,
+            name: *const u8,
+            name_len: usize,
+            offset: usize,
+            data: *const u8,
+            data_len: usize,
+        ) -> u32;
+        pub fn pno_store(
+            image: *mut u8,
+            image_len: usize,
+            name: *const u8,
+            name_len: usize,
+            bytes: *const u8,
+            bytes_len: usize,
+        ) -> u32;
+        pub fn pno_delete(
+            image: *mut u8,
+            image_len: usize,
+            name: *const u8,
+            name_len: usize,
+        ) -> u32;
+        pub fn pno_protect(
+            image: *mut u8,
+            image_len: usize,
+            name: *const u8,
+            name_len: usize,
+        ) -> u32;
+        pub fn pno_unprotect(
+            image: *mut u8,
+            image_len: usize,
+            name: *const u8,
+            name_len: usize,
+        ) -> u32;
+        pub fn pno_rename(
+            image: *mut u8,
+            image_len: usize,
+            old: *const u8,
+            old_len: usize,
+            new_name: *const u8,
+            new_len: usize,
+        ) -> u32;
+        pub fn pno_pack(
+            source: *const u8,
+            source_len: usize,
+            target: *mut u8,
+            target_len: usize,
+        ) -> u32;
+    }
+}
