@@ -37,6 +37,20 @@ prepare() {
     emulator=(qemu-x86_64)
 }
 
+# Sets $compiler and $emulator: the archive is for x86-64.
+prepare_c() {
+    if [ "$(uname -m)" = x86_64 ]; then
+        need gcc gcc
+        compiler=(gcc)
+        emulator=()
+    else
+        need x86_64-linux-gnu-gcc gcc-x86-64-linux-gnu libc6-dev-amd64-cross
+        need qemu-x86_64 qemu-user
+        compiler=(x86_64-linux-gnu-gcc -static)
+        emulator=(qemu-x86_64)
+    fi
+}
+
 # Sets $archive, made anew where a source is younger: that takes a proof.
 find_archive() {
     if [ -n "${PNO_ARCHIVE:-}" ]; then

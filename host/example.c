@@ -1,15 +1,18 @@
 /*
- * A host program: shows what is on a disk image, takes files from it, puts files on it, and packs it.
+ * A host program: judges a disk image, shows what is on it, takes files from it, puts files on it, and packs it.
  *
  *     rt staticlib pnoelithe
  *     cc -Iinclude host/example.c target/staticlib/libpnoelithe.a -o example
  *     ./example IMAGE                        the catalogue
+ *     ./example IMAGE judge                  whether it is a sound volume, and if not, why
  *     ./example IMAGE load NAME FILE         the program NAME into FILE
  *     ./example IMAGE store NAME FILE        FILE as a new program NAME
  *     ./example IMAGE append NAME FILE       FILE at the end of the data file NAME, which is made where there is
  *                                            none; the rest of the last sector is zero
  *     ./example IMAGE delete NAME
  *     ./example IMAGE pack FILE              the packed volume into FILE; IMAGE stays as it is
+ *
+ * A call that is refused ends it with status 1, and no file is written.
  */
 #include <stdio.h>
 #include <stdlib.h>
@@ -52,6 +55,14 @@ static uint32_t list(void) {
     uint32_t number = pno_listing(image, image_len, text, sizeof text, &length);
     if (number == PNO_DONE)
         fwrite(text, 1, length, stdout);
+    return number;
+}
+
+static uint32_t judge(const uint8_t name[10], const char *path) {
+    (void)name, (void)path;
+    uint32_t number = pno_judge(image, image_len);
+    if (number == PNO_DONE)
+        printf("number 0: a sound volume\n");
     return number;
 }
 
@@ -130,8 +141,8 @@ static const struct command {
     int words;  /* of the command line: the first after the command as a name, the last as a path */
     int writes; /* the image, which then goes back to its file */
     uint32_t (*call)(const uint8_t name[10], const char *path);
-} commands[] = {{"load", 5, 0, load}, {"store", 5, 1, store}, {"append", 5, 1, append},
-                {"delete", 4, 1, delete}, {"pack", 4, 0, pack}};
+} commands[] = {{"judge", 3, 0, judge},   {"load", 5, 0, load},     {"store", 5, 1, store},
+                {"append", 5, 1, append}, {"delete", 4, 1, delete}, {"pack", 4, 0, pack}};
 
 int main(int argc, char **argv) {
     const struct command *command = NULL;
@@ -139,7 +150,7 @@ int main(int argc, char **argv) {
         if (argc == commands[i].words && strcmp(argv[2], commands[i].word) == 0)
             command = &commands[i];
     if (argc != 2 && command == NULL) {
-        fprintf(stderr, "usage: example IMAGE [(load | store | append) NAME FILE | delete NAME | pack FILE]\n");
+        fprintf(stderr, "usage: example IMAGE [judge | (load | store | append) NAME FILE | delete NAME | pack FILE]\n");
         return 2;
     }
     image_len = read_file(argv[1], image, sizeof image);
@@ -148,7 +159,7 @@ int main(int argc, char **argv) {
         number = list();
     } else {
         uint8_t name[10];
-        pad(name, argv[3]);
+        pad(name, argc > 3 ? argv[3] : "");
         number = command->call(name, argv[argc - 1]);
     }
     if (number != PNO_DONE)

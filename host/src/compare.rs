@@ -7,9 +7,9 @@
 use host::calls::Calls;
 use host::comparison::{Comparison, Part};
 use host::images::Images;
+use host::library;
 use host::outside::Outside;
 use host::packing::Packs;
-use host::reference;
 use host::sequences::Sequences;
 use std::path::PathBuf;
 use std::process::ExitCode;
@@ -88,12 +88,11 @@ fn run(arguments: &Arguments) -> Result<(), String> {
     Ok(())
 }
 
-/// The images from outside, with their numbers.
+/// The images from outside: the library's number for each, and the one that came with it.
 fn list(outside: &[Outside]) {
     for Outside { name, image, number, .. } in outside {
-        let expected =
-            number.map_or("none expected".to_string(), |number| format!("expected {}", number));
-        println!("{}: number {}, {}", name, reference::number(image), expected);
+        let expected = number.map_or(String::new(), |number| format!(", expected {}", number));
+        println!("{}: {}{}", name, library::number(image), expected);
     }
     println!("{} images from outside\n", outside.len());
 }

@@ -1,7 +1,7 @@
 //! Writes inputs for the catalogue program into a folder, each with what the program must print:
 //! `NAME.dsk` and `NAME.program.txt`. To those made here come the images that are given.
 //!
-//! `inputs FOLDER [IMAGE...]`
+//! `inputs SEED FOLDER [IMAGE...]`
 
 use host::calls::lines;
 use host::random::Random;
@@ -16,12 +16,13 @@ const MOST_TAKEN: usize = 256;
 const CHANGES: usize = 200;
 
 fn main() -> ExitCode {
-    let mut words = std::env::args().skip(1).map(PathBuf::from);
-    let folder = words.next().ok_or_else(|| "a folder?".to_string());
-    let done = folder.and_then(|folder| {
-        inputs()?.iter().try_for_each(|input| input.write(&folder))?;
-        words.try_for_each(|path| Input::of_file(&path)?.write(&folder))
-    });
+    let mut words = std::env::args().skip(1);
+    let seed = words.next().and_then(|word| word.parse().ok());
+    let folder = words.next().map(PathBuf::from);
+    let done = match (seed, folder) {
+        (Some(seed), Some(folder)) => write(seed, &folder, words.map(PathBuf::from)),
+        _ => Err("a seed and a folder?".to_string()),
+    };
     match done {
         Ok(()) => ExitCode::SUCCESS,
         Err(message) => {
@@ -29,6 +30,15 @@ fn main() -> ExitCode {
             ExitCode::FAILURE
         }
     }
+}
+
+fn write(
+    seed: u64,
+    folder: &Path,
+    mut images: impl Iterator<Item = PathBuf>,
+) -> Result<(), String> {
+    inputs(seed)?.iter().try_for_each(|input| input.write(folder))?;
+    images.try_for_each(|path| Input::of_file(&path)?.write(folder))
 }
 
 struct Input {
@@ -57,8 +67,8 @@ impl Input {
     }
 }
 
-fn inputs() -> Result<Vec<Input>, String> {
-    let random = &mut Random::new(1);
+fn inputs(seed: u64) -> Result<Vec<Input>, String> {
+    let random = &mut Random::new(seed);
     let mut inputs = Vec::new();
     for (name, disk) in sound_disks(random) {
         let taken = disk.sectors <= MOST_TAKEN;
