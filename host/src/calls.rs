@@ -13,7 +13,7 @@ pub(crate) use comparison::compared;
 pub use comparison::{Calls, Comparison};
 pub use planned::lines;
 
-use crate::reference::{self, Entry, Form, Geometry, Kind, Refusal, Row, Summary};
+use crate::reference::{self, Entry, Geometry, Refusal, Row, Summary};
 
 /// `room` is the length of the buffer that is lent for the answer.
 #[derive(Clone, Debug)]
