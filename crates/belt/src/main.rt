@@ -9,6 +9,8 @@ use input::Reading;
 use input::read_image;
 use libc::STDIN_FILENO;
 use libc::STDOUT_FILENO;
+use sector::buffer::lay;
+use sector::bytes::part;
 
 // One byte more than the longest image that can be sound. An image that is too long fills the
 // buffer, and the judge refuses it for its length, whatever comes after the bytes that were read.
@@ -46,18 +48,23 @@ fn judge_file(path: &[u8], buffer: &mut [u8]) -> Verdict {
     verdict
 }
 
-fn write_verdict(verdict: Verdict) -> bool {
+// The numbers have one digit.
+fn mark_of(verdict: Verdict) -> u8 {
     match verdict {
-        Verdict::Number(number) => io::print_decimal(STDOUT_FILENO, number as u64),
-        Verdict::Unread => io::write_all(STDOUT_FILENO, b"-"),
+        Verdict::Number(number) => b'0' + (number % 10) as u8,
+        Verdict::Unread => b'-',
     }
 }
 
-fn write_line(verdict: Verdict, path: &[u8]) -> bool {
-    write_verdict(verdict)
-        && io::write_all(STDOUT_FILENO, b" ")
-        && io::write_all(STDOUT_FILENO, path)
-        && io::write_all(STDOUT_FILENO, b"\n")
+// The line is put together where the image was, and written at once, so that the lines of several
+// processes on one output do not mix.
+fn write_line(verdict: Verdict, path: &[u8], buffer: &mut [u8]) -> bool {
+    let front = [mark_of(verdict), b' '];
+    lay(buffer, 0, &front);
+    lay(buffer, 2, path);
+    let end = 2 + path.len();
+    lay(buffer, end, b"\n");
+    io::write_all(STDOUT_FILENO, part(buffer, 0, end + 1))
 }
 
 // Judges the image that an argument names and writes its line. The answer, here and below, is
@@ -66,11 +73,11 @@ fn judge_argument(position: usize, argument: &mut [u8], buffer: &mut [u8]) -> bo
     let length = os::arg(position, argument);
     if os::errno() != 0 {
         os::fail(b"argument");
-        return write_line(Verdict::Unread, b"");
+        return write_line(Verdict::Unread, b"", buffer);
     }
     let path = &argument[..length];
     let verdict = judge_file(path, buffer);
-    write_line(verdict, path)
+    write_line(verdict, path, buffer)
 }
 
 // Argument 0 is the program's own name.
@@ -85,7 +92,8 @@ fn judge_arguments(count: usize, argument: &mut [u8], buffer: &mut [u8]) -> bool
 
 fn judge_standard_input(buffer: &mut [u8]) -> bool {
     let verdict = judge_descriptor(STDIN_FILENO, b"standard input", buffer);
-    write_verdict(verdict) && io::write_all(STDOUT_FILENO, b"\n")
+    let line = [mark_of(verdict), b'\n'];
+    io::write_all(STDOUT_FILENO, &line)
 }
 
 fn judge_all(argument: &mut [u8], buffer: &mut [u8]) -> bool {
