@@ -3,7 +3,7 @@
 ghost use mathlib.Core.Path.{_≡_};
 ghost use mathlib.Core.List.{[], _∷_};
 ghost use Prim.Native.Nat.{_+_, _≤_, _<_};
-ghost use lib.ListN.{length, drop};
+ghost use lib.ListN.{length, drop, replicate};
 ghost use Rattle.rules.specs.Bytes.{wordBytes, splice};
 ghost use Rattle.rules.specs.Index.{numbers, numbersBytes, indexOf, without};
 ghost use Rattle.rules.specs.Sectors.{written};
@@ -45,34 +45,32 @@ fn copy_numbers(index: &mut [u8], at: usize, sector1: &[u8], from: usize)
     }
 }
 
-// Sector 1 without the number k: the numbers behind it move down by one place.
-pub fn index_without(sector1: &[u8], k: usize) -> [u8; 256]
-    ensures { λ r. ⌜ r ≡ indexOf (without k (numbers (now (sector1 .entry)))) ⌝ }
+// Sector 1 without the number k, laid into 256 zeros: the numbers behind it move down by one place.
+pub fn index_without(index: &mut [u8; 256], sector1: &[u8], k: usize)
+    requires { ⌜ now index ≡ replicate 256 0 ⌝ }
+    ensures { λ _. ⌜ now (index .exit) ≡ indexOf (without k (numbers (now (sector1 .entry)))) ⌝ }
 {
-    let mut index = [0u8; 256];
     let mut at = 0;
     while at + 2 <= sector1.len() {
         let j = word(sector1, at);
         if j == 0 {
-            return index;
+            return;
         }
         if j == k {
             let next = at + 2;
-            copy_numbers(&mut index, at, sector1, next);
-            return index;
+            copy_numbers(index, at, sector1, next);
+            return;
         }
-        lay_number(&mut index, at, j);
+        lay_number(index, at, j);
         at += 2;
     }
-    index
 }
 
-// Sector 1 with the number k before the first file whose name comes after, the names being those of the image.
-pub fn index_with(image: &[u8], sector1: &[u8], name: &[u8], k: usize) -> [u8; 256]
-    requires { ⌜ k < 65536 ⌝ }
-    ensures { λ r. ⌜ r ≡ indexOf (placed (now (image .entry)) (now (name .entry)) k (numbers (now (sector1 .entry)))) ⌝ }
+// Sector 1 with the number k, laid into 256 zeros: before the first file whose name comes after, the names being those of the image.
+pub fn index_with(index: &mut [u8; 256], image: &[u8], sector1: &[u8], name: &[u8], k: usize)
+    requires { ⌜ (now index ≡ replicate 256 0) × (k < 65536) ⌝ }
+    ensures { λ _. ⌜ now (index .exit) ≡ indexOf (placed (now (image .entry)) (now (name .entry)) k (numbers (now (sector1 .entry)))) ⌝ }
 {
-    let mut index = [0u8; 256];
     let mut at = 0;
     while at + 2 <= sector1.len() {
         let j = word(sector1, at);
@@ -82,13 +80,12 @@ pub fn index_with(image: &[u8], sector1: &[u8], name: &[u8], k: usize) -> [u8; 2
         if precedes(name, part(sector_of(image, j), 0, 10)) {
             break;
         }
-        lay_number(&mut index, at, j);
+        lay_number(index, at, j);
         at += 2;
     }
-    lay_number(&mut index, at, k);
+    lay_number(index, at, k);
     let next = at + 2;
-    copy_numbers(&mut index, next, sector1, at);
-    index
+    copy_numbers(index, next, sector1, at);
 }
 
 // A new file's last three writes: its descriptor in sector k, sector 0, and sector 1.

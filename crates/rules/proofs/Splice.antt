@@ -4,10 +4,10 @@ use mathlib.Core.List.{List, [], _∷_, _++_}
 use Prim.Native.Nat.{ℕ, zero, suc, _+_, _≤_, _<_}
 use native.Mathlib.Omega.{arith}
 use native.Mathlib.Nat.{zero-add, suc-add}
-use lib.ListN.{length, take, drop}
+use lib.ListN.{length, set, take, drop}
 use lib.Seq.{drop-drop}
 use borrow.Rule.Slice.PartMut.{putMid}
-use Rattle.rules.specs.Bytes.{byteAt, over, splice}
+use Rattle.rules.specs.Bytes.{byteAt, part, over, splice}
 
 over-length : (buffer bytes : List ℕ) → length (over buffer bytes) ≡ length buffer
 unfolding over
@@ -131,3 +131,35 @@ splice-parts (b ∷ buffer) (suc at) bytes h = rw (suc-add at (length bytes)) (a
 
 pub put-back : (buffer bytes : List ℕ) (at many : ℕ) → length bytes ≡ many → at + many ≤ length buffer → putMid at many buffer bytes ≡ splice buffer at bytes
 put-back buffer bytes at many e h = rw (drop-drop many at buffer, sym e) (splice-parts buffer at bytes (omega arith))
+
+-- a part that is laid back with bytes laid over it: those bytes, laid over the buffer
+over-own : (buffer : List ℕ) (many : ℕ) → over buffer (take many buffer) ≡ buffer
+unfolding over
+over-own [] many = refl
+over-own (b ∷ buffer) zero = refl
+over-own (b ∷ buffer) (suc many) = ap (λ (l : List ℕ). b ∷ l) (over-own buffer many)
+
+over-part : (buffer : List ℕ) (many i : ℕ) (bytes : List ℕ) → i + length bytes ≤ many → over buffer (splice (take many buffer) i bytes) ≡ splice buffer i bytes
+unfolding over splice
+over-part [] many zero bytes h = refl
+over-part [] many (suc i) bytes h = refl
+over-part (b ∷ buffer) zero zero [] h = refl
+over-part (b ∷ buffer) zero zero (c ∷ bytes) h = absurd (omega arith)
+over-part (b ∷ buffer) zero (suc i) bytes h = absurd (omega arith)
+over-part (b ∷ buffer) (suc many) zero [] h = ap (λ (l : List ℕ). b ∷ l) (over-own buffer many)
+over-part (b ∷ buffer) (suc many) zero (c ∷ bytes) h = ap (λ (l : List ℕ). c ∷ l) (over-part buffer many zero bytes (omega arith))
+over-part (b ∷ buffer) (suc many) (suc i) bytes h = ap (λ (l : List ℕ). b ∷ l) (over-part buffer many i bytes (omega arith))
+
+pub splice-part : (buffer : List ℕ) (at many i : ℕ) (bytes : List ℕ) → i + length bytes ≤ many → splice buffer at (splice (part buffer at many) i bytes) ≡ splice buffer (at + i) bytes
+unfolding splice
+splice-part buffer zero many i bytes h = rw (zero-add i) (over-part buffer many i bytes h)
+splice-part [] (suc at) many i bytes h = rw (suc-add at i)
+splice-part (b ∷ buffer) (suc at) many i bytes h = rw (suc-add at i) (ap (λ (l : List ℕ). b ∷ l) (splice-part buffer at many i bytes h))
+
+-- one byte
+pub set-splice : (buffer : List ℕ) (at value : ℕ) → set buffer at value ≡ splice buffer at (value ∷ [])
+unfolding splice over
+set-splice [] zero value = refl
+set-splice [] (suc at) value = refl
+set-splice (b ∷ buffer) zero value = ap (λ (l : List ℕ). value ∷ l) (sym (over-none buffer))
+set-splice (b ∷ buffer) (suc at) value = ap (λ (l : List ℕ). b ∷ l) (set-splice buffer at value)

@@ -3,8 +3,6 @@ ghost use mathlib.Core.Path.{_≡_};
 ghost use Prim.Native.Nat.{_*_, _<_};
 ghost use lib.ListN.{length, replicate};
 ghost use Rattle.rules.specs.Bytes.{splice};
-ghost use Rattle.rules.specs.Sectors.{sectorOf};
-use crate::bytes::sector_of;
 
 pub fn copy(target: &mut [u8], source: &[u8])
     requires { ⌜ length (now target) ≡ length (now source) ⌝ }
@@ -41,16 +39,6 @@ pub fn lay(buffer: &mut [u8], at: usize, bytes: &[u8])
         return;
     }
     copy(&mut buffer[at..], &bytes[0..room]);
-}
-
-// A sector of the image, to be changed and written back.
-pub fn sector_copy(image: &[u8], k: usize) -> [u8; 256]
-    requires { ⌜ (k < 65536) × (length (sectorOf (now image) k) ≡ 256) ⌝ }
-    ensures { λ r. ⌜ r ≡ sectorOf (now (image .entry)) k ⌝ }
-{
-    let mut sector = [0u8; 256];
-    copy(&mut sector, sector_of(image, k));
-    sector
 }
 
 // A whole sector of the image.

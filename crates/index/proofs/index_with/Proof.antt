@@ -1,6 +1,6 @@
 -- `index::index_with` meets its contract. The loop's invariant: laying the numbers from byte `at` of sector 1 on, with k put in among them, gives what laying all of them with k gives.
 -- The measure is what is left of sector 1. Assumes nothing.
-use mathlib.Core.Path.{_≡_, refl, sym, ap, _∙_}
+use mathlib.Core.Path.{_≡_, sym, ap, _∙_}
 use mathlib.Core.Logic.{inl, inr}
 use mathlib.Core.List.{List, _∷_}
 use Prim.Native.Nat.{ℕ, _≤_, _-_}
@@ -11,7 +11,6 @@ use Rattle.rules.specs.Name.{precedes}
 use Rattle.rules.specs.Descriptor.{nameOf}
 use Rattle.rules.specs.Index.{numbers, numbersBytes, indexOf}
 use Rattle.rules.specs.Volume.{nameIn, placed}
-use Rattle.rules.proofs.Splice.{splice-length}
 use Rattle.rules.proofs.Index.{numbers-short}
 use Rattle.rules.proofs.Indexed.{laid-number, laid-index, numbers-read, numbers-zero, placed-last, placed-here, placed-later}
 use borrow.Author.Needs.{needs}
@@ -19,15 +18,15 @@ use Rattle.index.proofs.index_with.Statement.{statement}
 use Rattle.index.proofs.index_with.Tie as tie
 
 abbrev Inv-loop : tie.InvT-loop
-Inv-loop image sector1 name k index₀ at₀ index at =
-    (length index ≡ 256) × (at ≤ length sector1)
+Inv-loop index₀ image sector1 name k at₀ index at =
+    (at ≤ length sector1)
     × (splice index at (numbersBytes (placed image name k (numbers (drop at sector1)))) ≡ indexOf (placed image name k (numbers sector1)))
 
 abbrev μ-loop : tie.MeasureT-loop
-μ-loop image sector1 name k index₀ at₀ index at = length sector1 - at
+μ-loop index₀ image sector1 name k at₀ index at = length sector1 - at
 
 loop-holds : tie.Need-loop-holds Inv-loop μ-loop
-loop-holds c = (refl, search needs, laid-index _)
+loop-holds c = (search needs, rw (c .before .before .before .pre .0) (laid-index _))
 
 add-loop : tie.Need-add-loop Inv-loop μ-loop
 add-loop c = search needs
@@ -43,9 +42,6 @@ part-requires c κs = search needs
 
 precedes-requires : tie.Need-precedes-requires Inv-loop μ-loop
 precedes-requires c κs = search needs
-
-slice-aggregate-lay-number : tie.Need-slice-aggregate-lay-number Inv-loop μ-loop
-slice-aggregate-lay-number c = search needs
 
 lay-number-requires : tie.Need-lay-number-requires Inv-loop μ-loop
 lay-number-requires c κs = search needs
@@ -63,8 +59,7 @@ named image sector there j e f = rw (f, e)
 
 loop-again : tie.Need-loop-again Inv-loop μ-loop
 loop-again c =
-    let y = c .before in
-    let e = y .before .before in
+    let e = c .before .before in
     let p = e .before in
     let s = p .before .before in
     let n = s .before in
@@ -74,9 +69,8 @@ loop-again c =
     let there = named (a .image .now) _ _ _ (s .sector-of .ensures) (p .before .part .ensures) in
     let after = ap (precedes (a .name .now)) (sym there) ∙ sym (p .precedes .ensures) ∙ e .if2 .left in
     let rest = ap (placed (a .image .now) (a .name .now) (a .k)) more ∙ placed-later (a .image .now) (a .name .now) (a .k) _ _ after in (
-      ap length (y .lay-number .ensures) ∙ splice-length (l .loop .index) (l .loop .at) _ ∙ l .loop .inv .0,
       search needs,
-      laid-number (l .loop .index) (l .loop .at) _ _ _ _ rest (y .lay-number .ensures) ∙ l .loop .inv .2,
+      laid-number (l .loop .index) (l .loop .at) _ _ _ _ rest (c .lay-number .ensures) ∙ l .loop .inv .1,
     )
 
 -- where the loop is left, k goes before what is left
@@ -103,28 +97,21 @@ goes-here c =
           ]
     ]
 
-slice-aggregate-lay-number-2 : tie.Need-slice-aggregate-lay-number-2 Inv-loop μ-loop
-slice-aggregate-lay-number-2 c = search needs
-
 lay-number-requires-2 : tie.Need-lay-number-requires-2 Inv-loop μ-loop
 lay-number-requires-2 c κs = search needs
 
 add-next : tie.Need-add-next Inv-loop μ-loop
 add-next c = search needs
 
-slice-aggregate-copy-numbers : tie.Need-slice-aggregate-copy-numbers Inv-loop μ-loop
-slice-aggregate-copy-numbers c = search needs
-
 copy-numbers-requires : tie.Need-copy-numbers-requires Inv-loop μ-loop
 copy-numbers-requires c κs = search needs
 
 returns : tie.Need-returns Inv-loop μ-loop
 returns c =
-    let y = c .before in
-    let k = y .before .before .before in
+    let k = c .before .before in
     let left = k .before .before in
     let l = left .before in
-    rw (y .copy-numbers .ensures) (laid-number (l .loop .index) (l .loop .at) _ _ _ _ (goes-here left) (k .lay-number2 .ensures) ∙ l .loop .inv .2)
+    rw (c .copy-numbers .ensures) (laid-number (l .loop .index) (l .loop .at) _ _ _ _ (goes-here left) (k .lay-number2 .ensures) ∙ l .loop .inv .1)
 
 pub index-with-spec : {M : Type 1} → statement M
 index-with-spec =
@@ -138,14 +125,11 @@ index-with-spec =
     sector-of-requires
     part-requires
     precedes-requires
-    slice-aggregate-lay-number
     lay-number-requires
     add-at
     loop-less
     loop-again
-    slice-aggregate-lay-number-2
     lay-number-requires-2
     add-next
-    slice-aggregate-copy-numbers
     copy-numbers-requires
     returns)

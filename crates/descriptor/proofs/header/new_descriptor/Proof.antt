@@ -23,37 +23,33 @@ fields name status recordsPerSector endOffset recordLength ten laid e =
     let front : laid ≡ name ++ drop 10 (replicate 256 0) = e ∙ laid-front (replicate 256 0) name (omega arith) ∙ ap (λ (m : ℕ). name ++ drop m (replicate 256 0)) ten in
     rw (front, set-behind name (drop 10 (replicate 256 0)) 12 2 status (omega arith), set-behind name _ 13 3 recordsPerSector (omega arith), set-behind name _ 16 6 endOffset (omega arith), set-behind name _ 17 7 recordLength (omega arith))
 
-slice-aggregate-lay : tie.Need-slice-aggregate-lay
-slice-aggregate-lay c = search needs
-
 lay-requires : tie.Need-lay-requires
 lay-requires c κs = search needs
 
-array-write-descriptor : tie.Need-array-write-descriptor
-array-write-descriptor c = search needs
+element-write-descriptor : tie.Need-element-write-descriptor
+element-write-descriptor c = search needs
 
-array-write-descriptor-2 : tie.Need-array-write-descriptor-2
-array-write-descriptor-2 c = search needs
+element-write-descriptor-2 : tie.Need-element-write-descriptor-2
+element-write-descriptor-2 c = search needs
 
-array-write-descriptor-3 : tie.Need-array-write-descriptor-3
-array-write-descriptor-3 c = search needs
+element-write-descriptor-3 : tie.Need-element-write-descriptor-3
+element-write-descriptor-3 c = search needs
 
-array-write-descriptor-4 : tie.Need-array-write-descriptor-4
-array-write-descriptor-4 c = search needs
+element-write-descriptor-4 : tie.Need-element-write-descriptor-4
+element-write-descriptor-4 c = search needs
 
 returns : tie.Need-returns
 returns c =
-    let a = c .before .before .before .before .args in
-    fields (a .name .now) (a .status) _ _ _ (c .before .before .before .before .pre) _ (c .before .lay .ensures)
+    let a = c .before .before .before .args in
+    fields (a .name .now) (a .status) _ _ _ (c .before .before .before .pre .1) _ (c .lay .ensures ∙ ap (λ (d : List ℕ). splice d 0 (a .name .now)) (c .before .before .before .pre .0))
 
 pub new-descriptor-spec : {M : Type 1} → statement M
 new-descriptor-spec =
     tie.close
     (tie.spec
-    slice-aggregate-lay
     lay-requires
-    array-write-descriptor
-    array-write-descriptor-2
-    array-write-descriptor-3
-    array-write-descriptor-4
+    element-write-descriptor
+    element-write-descriptor-2
+    element-write-descriptor-3
+    element-write-descriptor-4
     returns)
