@@ -89,7 +89,13 @@ pub fn index_with(index: &mut [u8; 256], image: &[u8], sector1: &[u8], name: &[u
 }
 
 // A new file's last three writes: its descriptor in sector k, sector 0, and sector 1.
-pub fn enter(image: &mut [u8], k: usize, descriptor: &[u8], sector0: &[u8], index: &[u8])
+pub fn enter(
+    image: &mut [u8],
+    k: usize,
+    descriptor: &[u8; 256],
+    sector0: &[u8; 256],
+    index: &[u8; 256],
+)
     requires { ⌜ k < 65536 ⌝ }
     ensures { λ _. ⌜ now (image .exit) ≡ written (now (image .entry)) (write k (now (descriptor .entry)) ∷ (write 0 (now (sector0 .entry)) ∷ (write 1 (now (index .entry)) ∷ []))) ⌝ }
 {

@@ -43,23 +43,21 @@ pub(crate) fn extent_of(source: &[u8]) -> Extent
     Extent { files, used }
 }
 
-// A descriptor with that header, and one block for the file's sectors from `start` on.
-fn packed_descriptor(header: &[u8], start: usize, sectors: usize) -> [u8; 256]
-    requires { ⌜ (length (now header) ≡ 28) × (start < 4096) × (sectors < 4096) ⌝ }
-    ensures { λ r. ⌜ r ≡ now (header .entry) ++ over (replicate 228 0) (blocksBytes (oneBlock start sectors)) ⌝ }
+// A descriptor with that header, and one block for the file's sectors from `start` on, laid into 256 zeros.
+fn packed_descriptor(descriptor: &mut [u8; 256], header: &[u8], start: usize, sectors: usize)
+    requires { ⌜ (now descriptor ≡ replicate 256 0) × (length (now header) ≡ 28) × (start < 4096) × (sectors < 4096) ⌝ }
+    ensures { λ _. ⌜ now (descriptor .exit) ≡ now (header .entry) ++ over (replicate 228 0) (blocksBytes (oneBlock start sectors)) ⌝ }
 {
-    let mut descriptor = [0u8; 256];
-    lay(&mut descriptor, 0, header);
+    lay(descriptor, 0, header);
     if sectors == 0 {
-        return descriptor;
+        return;
     }
     let last = sectors - 1;
     let low = (start % 256) as u8;
     let middle = (start / 256 + 16 * (last % 16)) as u8;
     let high = (last / 16) as u8;
     let block = [low, middle, high];
-    lay(&mut descriptor, 28, &block);
-    descriptor
+    lay(descriptor, 28, &block);
 }
 
 // The descriptors, from sector 2 on; the data of the first file is to follow the last of them.
@@ -78,7 +76,8 @@ pub(crate) fn lay_descriptors(source: &[u8], target: &mut [u8], many: usize)
         }
         let descriptor = sector_of(source, k);
         let sectors = word(descriptor, 14);
-        let packed = packed_descriptor(part(descriptor, 0, 28), start, sectors);
+        let mut packed = [0u8; 256];
+        packed_descriptor(&mut packed, part(descriptor, 0, 28), start, sectors);
         lay(target, to, &packed);
         start += sectors;
         to += 256;

@@ -3,8 +3,7 @@
 ghost use mathlib.Core.Path.{_≡_};
 ghost use mathlib.Core.Bool.{true};
 ghost use Prim.Native.Nat.{_%_, _≤_, _<_};
-ghost use lib.ListN.{length, drop, replicate};
-ghost use Rattle.rules.specs.Bytes.{over};
+ghost use lib.ListN.{length, replicate};
 ghost use Rattle.rules.specs.Sectors.{written};
 ghost use Rattle.rules.specs.Name.{nameRule};
 ghost use Rattle.rules.specs.Chain.{blocks, places};
@@ -28,8 +27,8 @@ use map::free::free_count_of;
 use opening::find;
 use rules::Answer;
 use rules::Opened;
+use sector::buffer::copy;
 use sector::buffer::lay;
-use sector::buffer::sector_copy;
 use sector::buffer::write_sector;
 use sector::bytes::part;
 use sector::bytes::sector_of;
@@ -63,16 +62,7 @@ fn spread(sector0: &mut [u8], chain: &mut [u8], many: usize) -> bool
     true
 }
 
-// The 256 bytes from `at` on, and zeros where there are no more.
-fn piece_of(bytes: &[u8], at: usize) -> [u8; 256]
-    ensures { λ r. ⌜ r ≡ over (replicate 256 0) (drop at (now (bytes .entry))) ⌝ }
-{
-    let mut piece = [0u8; 256];
-    lay(&mut piece, 0, part(bytes, at, 256));
-    piece
-}
-
-// The bytes go to the sectors of the chain, in file order.
+// The bytes go to the sectors of the chain, in file order; what the last of them does not fill is zeros.
 fn write_data(image: &mut [u8], chain: &[u8], bytes: &[u8])
     requires { ⌜ length (places (now chain)) ≤ 129 ⌝ }
     ensures { λ _. ⌜ now (image .exit) ≡ written (now (image .entry)) (dataWrites (now (bytes .entry)) (places (now (chain .entry)))) ⌝ }
@@ -80,26 +70,32 @@ fn write_data(image: &mut [u8], chain: &[u8], bytes: &[u8])
     let mut cursor = Cursor::first();
     let mut at = 0;
     while let Step::Place(place, next) = cursor.step(chain) {
-        let piece = piece_of(bytes, at);
+        let mut piece = [0u8; 256];
+        lay(&mut piece, 0, part(bytes, at, 256));
         write_sector(image, place, &piece);
         at += 256;
         cursor = next;
     }
 }
 
-// The descriptor of a program of `size` bytes, in `many` sectors.
-fn program_descriptor(name: &[u8], size: usize, many: usize, chain: &[u8]) -> [u8; 256]
-    requires { ⌜ (length (now name) ≡ 10) × (many < 65536) × IsSpread (now chain) ⌝ }
-    ensures { λ r. ⌜ r ≡ withChain (newDescriptor (now (name .entry)) 0x01 0 (size % 256) 0) many (blocks (now (chain .entry))) ⌝ }
+// The descriptor of a program of `size` bytes, in `many` sectors, laid into 256 zeros.
+fn program_descriptor(
+    descriptor: &mut [u8; 256],
+    name: &[u8],
+    size: usize,
+    many: usize,
+    chain: &[u8],
+)
+    requires { ⌜ (now descriptor ≡ replicate 256 0) × (length (now name) ≡ 10) × (many < 65536) × IsSpread (now chain) ⌝ }
+    ensures { λ _. ⌜ now (descriptor .exit) ≡ withChain (newDescriptor (now (name .entry)) 0x01 0 (size % 256) 0) many (blocks (now (chain .entry))) ⌝ }
 {
     let end_offset = (size % 256) as u8;
     let high = (many / 256) as u8;
     let low = (many % 256) as u8;
-    let mut descriptor = new_descriptor(name, 0x01, 0, end_offset, 0);
+    new_descriptor(descriptor, name, 0x01, 0, end_offset, 0);
     descriptor[14] = high;
     descriptor[15] = low;
-    lay(&mut descriptor, 28, chain);
-    descriptor
+    lay(descriptor, 28, chain);
 }
 
 // On a sound volume, under a name that keeps the rule and is not there.
@@ -119,14 +115,17 @@ fn store_new(image: &mut [u8], name: &[u8], bytes: &[u8]) -> Answer
         return Answer::Refused(12);
     }
     let k = descriptor_choice(sector_of(image, 0));
-    let mut sector0 = sector_copy(image, 0);
+    let mut sector0 = [0u8; 256];
+    copy(&mut sector0, sector_of(image, 0));
     mark(&mut sector0, k);
     let mut chain = [0u8; 228];
     if !spread(&mut sector0, &mut chain, many) {
         return Answer::Refused(13);
     }
-    let descriptor = program_descriptor(name, bytes.len(), many, &chain);
-    let index = index_with(image, sector_of(image, 1), name, k);
+    let mut descriptor = [0u8; 256];
+    program_descriptor(&mut descriptor, name, bytes.len(), many, &chain);
+    let mut index = [0u8; 256];
+    index_with(&mut index, image, sector_of(image, 1), name, k);
     write_data(image, &chain, bytes);
     enter(image, k, &descriptor, &sector0, &index);
     Answer::Done

@@ -18,7 +18,7 @@ same-length c = search needs
 
 returns : tie.Need-returns
 unfolding written
-returns c = rw (c .before .before .write-sector3 .ensures, c .before .before .before .before .before .before .write-sector2 .ensures, c .before .before .before .before .before .before .before .before .before .before .write-sector .ensures)
+returns c = rw (c .before .before .write-sector3 .ensures, c .before .before .before .before .before .before .before .write-sector2 .ensures, c .before .before .before .before .before .before .before .before .before .before .before .before .write-sector .ensures)
 
 pub enter-spec : {M : Type 1} → statement M
 enter-spec =

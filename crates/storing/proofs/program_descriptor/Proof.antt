@@ -1,5 +1,5 @@
 -- `storing::program_descriptor` meets its contract: the number of sectors set, and the chain laid behind the header. Assumes nothing.
-use mathlib.Core.Path.{_≡_, ap, _∙_}
+use mathlib.Core.Path.{ap, _∙_}
 use mathlib.Core.List.{List}
 use Prim.Native.Nat.{ℕ, _/_, _%_}
 use lib.ListN.{set}
@@ -21,14 +21,11 @@ cast-low c = search needs
 new-descriptor-requires : tie.Need-new-descriptor-requires
 new-descriptor-requires c κs = search needs
 
-array-write-descriptor : tie.Need-array-write-descriptor
-array-write-descriptor c = search needs
+element-write-descriptor : tie.Need-element-write-descriptor
+element-write-descriptor c = search needs
 
-array-write-descriptor-2 : tie.Need-array-write-descriptor-2
-array-write-descriptor-2 c = search needs
-
-slice-aggregate-lay : tie.Need-slice-aggregate-lay
-slice-aggregate-lay c = search needs
+element-write-descriptor-2 : tie.Need-element-write-descriptor-2
+element-write-descriptor-2 c = search needs
 
 lay-requires : tie.Need-lay-requires
 lay-requires c κs = search needs
@@ -36,9 +33,10 @@ lay-requires c κs = search needs
 returns : tie.Need-returns
 returns c =
     let a = c .before .before .before .before .before .before .args in
-    c .before .lay .ensures
-    ∙ ap (λ (new : List ℕ). splice (set (set new 14 (a .many / 256)) 15 (a .many % 256)) 28 (a .chain .now)) (c .before .before .before .new-descriptor .ensures)
-    ∙ chain-laid (a .name .now) 1 0 (a .size % 256) 0 (c .before .before .before .before .before .before .pre .0) (a .many) (a .chain .now) (c .before .before .before .before .before .before .pre .2)
+    let pre = c .before .before .before .before .before .before .pre in
+    c .lay .ensures
+    ∙ ap (λ (new : List ℕ). splice (set (set new 14 (a .many / 256)) 15 (a .many % 256)) 28 (a .chain .now)) (c .before .before .new-descriptor .ensures)
+    ∙ chain-laid (a .name .now) 1 0 (a .size % 256) 0 (pre .1) (a .many) (a .chain .now) (pre .3)
 
 pub program-descriptor-spec : {M : Type 1} → statement M
 program-descriptor-spec =
@@ -48,8 +46,7 @@ program-descriptor-spec =
     cast-high
     cast-low
     new-descriptor-requires
-    array-write-descriptor
-    array-write-descriptor-2
-    slice-aggregate-lay
+    element-write-descriptor
+    element-write-descriptor-2
     lay-requires
     returns)

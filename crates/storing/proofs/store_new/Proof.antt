@@ -31,7 +31,7 @@ abbrev at-start : tie.After-descriptor-choice → tie.Start
 at-start c = c .before .before .before .before .before .before .before .before .before .before .before .before .before .before .before
 
 abbrev at-choice : tie.After-spread → tie.After-descriptor-choice
-at-choice c = c .before .before .before .before .before .before .before .before
+at-choice c = c .before .before .before .before .before .before .before .before .before .before .before
 
 abbrev at-spread : tie.Else4 → tie.After-spread
 at-spread c = c .before .before .before
@@ -103,10 +103,16 @@ sector-of-requires-3 c κs = search needs
 descriptor-choice-requires : tie.Need-descriptor-choice-requires
 descriptor-choice-requires c κs = search needs
 
-sector-copy-requires : tie.Need-sector-copy-requires
-sector-copy-requires c κs =
-    let start = c .before .before .before .before .before .before .before .before .before .before .before .before .before .before .before .before in
-    (omega arith, file-long _ 0 (start .pre .0) (omega (arith, start .pre .0 .size)))
+slice-aggregate-copy : tie.Need-slice-aggregate-copy
+slice-aggregate-copy c = search needs
+
+sector-of-requires-4 : tie.Need-sector-of-requires-4
+sector-of-requires-4 c κs = search needs
+
+copy-requires : tie.Need-copy-requires
+copy-requires c κs =
+    let whole = at-start (c .before .before .before) .pre .0 in
+    sym (ap length (c .sector-of4 .ensures) ∙ file-long _ 0 whole (omega (arith, whole .size)))
 
 slice-aggregate-mark : tie.Need-slice-aggregate-mark
 slice-aggregate-mark c = search needs
@@ -139,8 +145,9 @@ spread-is : (c : tie.After-spread) → SpreadAt c (c .spread .result)
 spread-is c =
     let many = sectorsFor (length (at-start (at-choice c) .args .bytes .now)) in
     let marking = c .before .before .before .before in
+    let copying = marking .before .before .before in
     subst (λ (sector0 : List ℕ). Spread many sector0 (c .spread .result) (c .spread .last .0) (c .spread .last .1 .0))
-    (marking .mark .ensures ∙ ap (λ (sector0 : List ℕ). marked 1 sector0 (at-choice c .descriptor-choice .result)) (marking .before .before .sector-copy .ensures))
+    (marking .mark .ensures ∙ ap (λ (sector0 : List ℕ). marked 1 sector0 (at-choice c .descriptor-choice .result)) (copying .copy .ensures ∙ copying .before .sector-of4 .ensures))
     (c .spread .ensures)
 
 spread-was : (c : tie.After-spread) (enough : Bool) → c .spread .result ≡ enough → SpreadAt c enough
@@ -174,11 +181,11 @@ few-places c =
 
 program-descriptor-requires : tie.Need-program-descriptor-requires
 program-descriptor-requires c κs =
-    let passed = c .before in
-    (name-is _ (at-start (at-choice (at-spread passed)) .pre .1) .ten, omega (arith, short (at-length passed)), all-spread passed .taken refl .spread)
+    let passed = c .before .before in
+    (refl, name-is _ (at-start (at-choice (at-spread passed)) .pre .1) .ten, omega (arith, short (at-length passed)), all-spread passed .taken refl .spread)
 
-sector-of-requires-4 : tie.Need-sector-of-requires-4
-sector-of-requires-4 c κs = search needs
+sector-of-requires-5 : tie.Need-sector-of-requires-5
+sector-of-requires-5 c κs = search needs
 
 index-with-requires : tie.Need-index-with-requires
 index-with-requires c κs = search needs
@@ -187,38 +194,29 @@ slice-aggregate-write-data : tie.Need-slice-aggregate-write-data
 slice-aggregate-write-data c = search needs
 
 write-data-requires : tie.Need-write-data-requires
-write-data-requires c κs = few-places (c .before .before .before .before .before .before .before)
-
-slice-aggregate-enter : tie.Need-slice-aggregate-enter
-slice-aggregate-enter c = search needs
-
-slice-aggregate-enter-2 : tie.Need-slice-aggregate-enter-2
-slice-aggregate-enter-2 c = search needs
-
-slice-aggregate-enter-3 : tie.Need-slice-aggregate-enter-3
-slice-aggregate-enter-3 c = search needs
+write-data-requires c κs = few-places (c .before .before .before .before .before .before .before .before .before)
 
 enter-requires : tie.Need-enter-requires
-enter-requires c κs = omega (arith, at-choice (at-spread (c .before .before .before .before .before .before .before .before .before .before .before .before .before .before)) .descriptor-choice .ensures .1)
+enter-requires c κs = omega (arith, at-choice (at-spread (c .before .before .before .before .before .before .before .before .before .before .before .before .before .before .before .before)) .descriptor-choice .ensures .1)
 
 same-length-4 : tie.Need-same-length-4
 same-length-4 c = search needs
 
 -- sector 1 anew
 index-is : (c : tie.After-index-with) →
-    let choosing = at-choice (at-spread (c .before .before .before .before .before)) in
+    let choosing = at-choice (at-spread (c .before .before .before .before .before .before .before)) in
     let a = at-start choosing .args in
-    c .index-with .result ≡ indexOf (placed (a .image .now) (a .name .now) (choosing .descriptor-choice .result) (files (a .image .now)))
+    c .index-with .last .0 ≡ indexOf (placed (a .image .now) (a .name .now) (choosing .descriptor-choice .result) (files (a .image .now)))
 unfolding files
-index-is c = rw (c .before .sector-of4 .ensures) at (c .index-with .ensures)
+index-is c = rw (c .before .sector-of5 .ensures) at (c .index-with .ensures)
 
 returns-5 : tie.Need-returns-5
 returns-5 c =
     let entering = c .before .before in
     let writing = entering .before .before .before .before .before .before .before in
     let indexing = writing .before .before .before in
-    let describing = indexing .before .before .before in
-    let passed = describing .before .before in
+    let describing = indexing .before .before .before .before in
+    let passed = describing .before .before .before in
     let spreading = at-spread passed in
     let choosing = at-choice spreading in
     let counted = choosing .before .before .before in
@@ -249,7 +247,9 @@ store-new-spec =
     returns-3
     sector-of-requires-3
     descriptor-choice-requires
-    sector-copy-requires
+    slice-aggregate-copy
+    sector-of-requires-4
+    copy-requires
     slice-aggregate-mark
     mark-requires
     slice-aggregate-spread
@@ -259,13 +259,10 @@ store-new-spec =
     returns-4
     slice-aggregate-program-descriptor
     program-descriptor-requires
-    sector-of-requires-4
+    sector-of-requires-5
     index-with-requires
     slice-aggregate-write-data
     write-data-requires
-    slice-aggregate-enter
-    slice-aggregate-enter-2
-    slice-aggregate-enter-3
     enter-requires
     same-length-4
     returns-5)

@@ -4,7 +4,7 @@ use mathlib.Core.Path.{_≡_, refl, sym, ap, subst, _∙_}
 use mathlib.Core.List.{List, []}
 use Prim.Native.Nat.{ℕ, _+_, _*_}
 use native.Mathlib.Omega.{arith}
-use lib.ListN.{length, drop}
+use lib.ListN.{length, drop, replicate}
 use Rattle.rules.specs.Bytes.{splice}
 use Rattle.rules.specs.Sectors.{written}
 use Rattle.rules.specs.Chain.{places}
@@ -14,7 +14,7 @@ use Rattle.descriptor.specs.Cursor.{ahead, Steady, Stepped}
 use Rattle.descriptor.specs.declared.chain.Step.{Step}
 use Rattle.descriptor.specs.declared.chain.Step.the-variants.{Place}
 use Rattle.descriptor.proofs.Ahead.{at-first}
-use Rattle.storing.proofs.Laying.{piece-written, none-written}
+use Rattle.storing.proofs.Laying.{piece-is, piece-written, none-written}
 use borrow.Author.Needs.{needs}
 use Rattle.storing.proofs.write_data.Statement.{statement}
 use Rattle.storing.proofs.write_data.Tie as tie
@@ -61,36 +61,43 @@ step-requires c κs = c .loop .inv .1
 enum-known-place : tie.Need-enum-known-place Inv-loop μ-loop
 enum-known-place c = search needs
 
-piece-of-requires : tie.Need-piece-of-requires Inv-loop μ-loop
-piece-of-requires c κs = search needs
+slice-aggregate-lay : tie.Need-slice-aggregate-lay Inv-loop μ-loop
+slice-aggregate-lay c = search needs
+
+part-requires : tie.Need-part-requires Inv-loop μ-loop
+part-requires c κs = search needs
+
+lay-requires : tie.Need-lay-requires Inv-loop μ-loop
+lay-requires c κs = search needs
 
 slice-aggregate-write-sector : tie.Need-slice-aggregate-write-sector Inv-loop μ-loop
 slice-aggregate-write-sector c = search needs
 
 write-sector-requires : tie.Need-write-sector-requires Inv-loop μ-loop
 unfolding Stepped
-write-sector-requires c κs = omega (arith, stepped (c .before .before .before .before) .2)
+write-sector-requires c κs = omega (arith, stepped (c .before .before .before .before .before .before .before) .2)
 
 add-at : tie.Need-add-at Inv-loop μ-loop
-add-at c = omega (arith, c .before .before .before .before .before .before .before .before .before .before .loop .inv .2, c .before .before .before .before .before .before .before .before .before .before .before .before .before .before .before .pre)
+add-at c = omega (arith, c .before .before .before .before .before .before .before .before .before .before .before .before .before .loop .inv .2, c .before .before .before .before .before .before .before .before .before .before .before .before .before .before .before .before .before .before .pre)
 
 loop-less : tie.Need-loop-less Inv-loop μ-loop
 unfolding Stepped
-loop-less c = omega (arith, ap length (stepped (c .before .before .before .before .before .before .before) .0))
+loop-less c = omega (arith, ap length (stepped (c .before .before .before .before .before .before .before .before .before .before) .0))
 
 loop-again : tie.Need-loop-again Inv-loop μ-loop
 unfolding Stepped
 loop-again c =
-    let l = c .before .before .before .before .before .before .before .before .before .before .loop in
-    let a = c .before .before .before .before .before .before .before .before .before .before .before .before .before .before .before .args in
-    let e = stepped (c .before .before .before .before .before .before .before) in
-    let place = c .before .before .before .before .before .before .before .place .given .0 .0 in
-    let now = c .before .before .write-sector .ensures ∙ ap (splice (l .image) (256 * place)) (c .before .before .before .before .before .piece-of .ensures) in (
+    let l = c .before .before .before .before .before .before .before .before .before .before .before .before .before .loop in
+    let a = c .before .before .before .before .before .before .before .before .before .before .before .before .before .before .before .before .before .before .args in
+    let e = stepped (c .before .before .before .before .before .before .before .before .before .before) in
+    let place = c .before .before .before .before .before .before .before .before .before .before .place .given .0 .0 in
+    let piece = c .before .before .before .before .before .before .lay .ensures ∙ ap (splice (replicate 256 0) 0) (c .before .before .before .before .before .before .before .part .ensures) ∙ piece-is (a .bytes .now) (l .at) in
+    let now = c .before .before .write-sector .ensures ∙ ap (splice (l .image) (256 * place)) piece in (
       ap length (c .before .before .write-sector .ensures) ∙ splice-length (l .image) (256 * place) _ ∙ l .inv .0,
       e .1,
       omega (arith, ap length (e .0), l .inv .2),
       rw now
-          (sym (piece-written (l .image) (a .bytes .now) (l .at) place (ahead (a .chain .now) (c .before .before .before .before .before .before .before .place .given .0 .1 .0)))
+          (sym (piece-written (l .image) (a .bytes .now) (l .at) place (ahead (a .chain .now) (c .before .before .before .before .before .before .before .before .before .before .place .given .0 .1 .0)))
           ∙ sym (ap (λ (ks : List ℕ). written (l .image) (dataWrites (drop (l .at) (a .bytes .now)) ks)) (e .0))
           ∙ l .inv .3),
     )
@@ -117,7 +124,9 @@ write-data-spec =
     loop-holds
     step-requires
     enum-known-place
-    piece-of-requires
+    slice-aggregate-lay
+    part-requires
+    lay-requires
     slice-aggregate-write-sector
     write-sector-requires
     add-at

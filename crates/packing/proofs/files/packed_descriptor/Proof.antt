@@ -30,15 +30,21 @@ one header start sectors long some =
     ∙ append-assoc header block (replicate 225 0)
     ∙ ap (λ (m : ℕ). header ++ over (replicate 228 0) (blocksBytes (oneBlock start m))) (sym e)
 
-slice-aggregate-lay : tie.Need-slice-aggregate-lay
-slice-aggregate-lay c = search needs
-
 lay-requires : tie.Need-lay-requires
 lay-requires c κs = search needs
 
+-- the header, in front of zeros
+headed : (c : tie.After-lay) →
+    let a = c .before .before .before .args in
+    c .lay .last .0 ≡ splice (replicate 256 0) 0 (a .header .now)
+headed c =
+    let start = c .before .before .before in
+    c .lay .ensures ∙ ap (λ (d : List ℕ). splice d 0 (start .args .header .now)) (start .pre .0)
+
 returns : tie.Need-returns
 returns c =
-    rw (c .if1 .taken) (c .before .before .lay .ensures ∙ empty (c .before .before .before .before .before .args .header .now) (c .before .before .before .before .before .args .start) (c .before .before .before .before .before .pre .0))
+    let start = c .before .before .before .before in
+    rw (c .if1 .taken) (headed (c .before) ∙ empty (start .args .header .now) (start .args .start) (start .pre .1))
 
 sub-last : tie.Need-sub-last
 sub-last c = search needs
@@ -58,11 +64,8 @@ cast-middle c = search needs
 cast-high : tie.Need-cast-high
 cast-high c = search needs
 
-slice-aggregate-lay-2 : tie.Need-slice-aggregate-lay-2
-slice-aggregate-lay-2 c = search needs
-
-slice-aggregate-lay-3 : tie.Need-slice-aggregate-lay-3
-slice-aggregate-lay-3 c = search needs
+slice-aggregate-lay : tie.Need-slice-aggregate-lay
+slice-aggregate-lay c = search needs
 
 lay-requires-2 : tie.Need-lay-requires-2
 lay-requires-2 c κs = search needs
@@ -70,16 +73,17 @@ lay-requires-2 c κs = search needs
 returns-2 : tie.Need-returns-2
 unfolding blockBytes
 returns-2 c =
-    let a = c .before .before .before .before .before .before .before .before .before .args in
-    c .before .lay2 .ensures
-    ∙ ap (λ (d : List ℕ). splice d 28 (blockBytes (record { start = a .start; last = a .sectors - 1 }))) (c .before .before .before .before .before .before .lay .ensures)
-    ∙ one (a .header .now) (a .start) (a .sectors) (c .before .before .before .before .before .before .before .before .before .pre .0) (c .before .before .before .before .if1 .left)
+    let some = c .before .before .before in
+    let start = some .before .before .before .before in
+    let a = start .args in
+    c .lay2 .ensures
+    ∙ ap (λ (d : List ℕ). splice d 28 (blockBytes (record { start = a .start; last = a .sectors - 1 }))) (headed (some .before))
+    ∙ one (a .header .now) (a .start) (a .sectors) (start .pre .1) (some .if1 .left)
 
 pub packed-descriptor-spec : {M : Type 1} → statement M
 packed-descriptor-spec =
     tie.close
     (tie.spec
-    slice-aggregate-lay
     lay-requires
     returns
     sub-last
@@ -88,7 +92,6 @@ packed-descriptor-spec =
     add-middle
     cast-middle
     cast-high
-    slice-aggregate-lay-2
-    slice-aggregate-lay-3
+    slice-aggregate-lay
     lay-requires-2
     returns-2)
