@@ -44,7 +44,7 @@ pub(crate) fn extent_of(source: &[u8]) -> Extent
 }
 
 // A descriptor with that header, and one block for the file's sectors from `start` on, laid into 256 zeros.
-fn packed_descriptor(descriptor: &mut [u8; 256], header: &[u8], start: usize, sectors: usize)
+fn packed_descriptor(descriptor: &mut [u8], header: &[u8], start: usize, sectors: usize)
     requires { ⌜ (now descriptor ≡ replicate 256 0) × (length (now header) ≡ 28) × (start < 4096) × (sectors < 4096) ⌝ }
     ensures { λ _. ⌜ now (descriptor .exit) ≡ now (header .entry) ++ over (replicate 228 0) (blocksBytes (oneBlock start sectors)) ⌝ }
 {

@@ -1,11 +1,13 @@
--- A sector that the image has is 256 bytes long, and its bytes are the image's.
-use mathlib.Core.Path.{_≡_}
-use mathlib.Core.List.{List}
+-- A sector that the image has is 256 bytes long, and its bytes are the image's; a change of its bytes, the whole sector then written, is that change of the image's bytes.
+use mathlib.Core.Path.{_≡_, sym, ap, _∙_}
+use mathlib.Core.List.{List, [], _∷_}
 use Prim.Native.Nat.{ℕ, _+_, _*_, _≤_, _<_}
-use lib.ListN.{length}
-use Rattle.rules.specs.Bytes.{byteAt}
+use native.Mathlib.Omega.{arith}
+use lib.ListN.{length, set}
+use Rattle.rules.specs.Bytes.{byteAt, splice}
 use Rattle.rules.specs.Sectors.{sectorOf}
-use Rattle.rules.proofs.Bytes.{part-length, part-below}
+use Rattle.rules.proofs.Bytes.{part-length, part-at, part-below}
+use Rattle.rules.proofs.Splice.{splice-part, set-splice}
 
 pub sector-length : (image : List ℕ) (k : ℕ) → 256 * k + 256 ≤ length image → length (sectorOf image k) ≡ 256
 unfolding sectorOf
@@ -14,3 +16,21 @@ sector-length image k h = part-length image (256 * k) 256 h
 pub sector-below : (image : List ℕ) (k limit : ℕ) → 0 < limit → ((i : ℕ) → byteAt image i < limit) → (i : ℕ) → byteAt (sectorOf image k) i < limit
 unfolding sectorOf
 sector-below image k limit some below = part-below image (256 * k) 256 limit some below
+
+module _ (image : List ℕ) (k : ℕ) where
+  pub sector-byte : (i : ℕ) → i < 256 → byteAt (sectorOf image k) i ≡ byteAt image (256 * k + i)
+  unfolding sectorOf
+  sector-byte i h = part-at image (256 * k) 256 i h
+
+  pub sector-set : (i value : ℕ) → i < 256 → splice image (256 * k) (set (sectorOf image k) i value) ≡ set image (256 * k + i) value
+  unfolding sectorOf
+  sector-set i value h =
+      ap (splice image (256 * k)) (set-splice (sectorOf image k) i value)
+      ∙ splice-part image (256 * k) 256 i (value ∷ []) (omega arith)
+      ∙ sym (set-splice image (256 * k + i) value)
+
+  pub sector-laid : (bytes : List ℕ) → length bytes ≤ 256 → splice image (256 * k) (splice (sectorOf image k) 0 bytes) ≡ splice image (256 * k) bytes
+  unfolding sectorOf
+  sector-laid bytes h =
+      let z : 256 * k + 0 ≡ 256 * k = omega arith in
+      splice-part image (256 * k) 256 0 bytes (omega arith) ∙ ap (λ (at : ℕ). splice image at bytes) z

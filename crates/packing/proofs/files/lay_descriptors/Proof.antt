@@ -3,13 +3,10 @@ use mathlib.Core.Path.{_≡_, refl, sym, ap, _∙_}
 use mathlib.Core.List.{List}
 use Prim.Native.Nat.{ℕ, _+_, _-_, _≤_}
 use native.Mathlib.Omega.{arith}
-use lib.ListN.{length, length-append}
+use lib.ListN.{length}
 use Rattle.rules.specs.Bytes.{wordAt}
 use Rattle.rules.specs.Sectors.{sectorOf}
 use Rattle.rules.specs.Descriptor.{sectorsOf}
-use Rattle.rules.specs.Volume.{headerIn}
-use Rattle.rules.specs.Packing.{oneBlock}
-use Rattle.rules.proofs.Extended.{chainWith, chain-with-length}
 use Rattle.rules.proofs.Index.{numbers-end, numbers-short}
 use Rattle.rules.proofs.Packing.{header-length, used-inside}
 use Rattle.packing.proofs.FileLaws.{header-read, contents-count, descriptor-packed, files-few}
@@ -73,45 +70,31 @@ sector-of-requires-2 c κs = search needs
 word-requires-2 : tie.Need-word-requires-2 Inv-loop μ-loop
 word-requires-2 c κs = search needs
 
+slice-aggregate-packed-descriptor : tie.Need-slice-aggregate-packed-descriptor Inv-loop μ-loop
+slice-aggregate-packed-descriptor c = search needs
+
 part-requires : tie.Need-part-requires Inv-loop μ-loop
 part-requires c κs = search needs
 
--- the header that was read
-header-is : (c : tie.After-part Inv-loop μ-loop) →
-    let w = c .before .before in
-    let start = w .before .before .before .before .before .before .before .before .before in
-    c .part .result .now ≡ headerIn (start .args .source .now) (w .before .before .before .word .result)
-header-is c =
-    let w = c .before .before in
-    let start = w .before .before .before .before .before .before .before .before .before in
-    header-read (start .args .source .now) _ _ (w .before .sector-of2 .ensures) _ (c .part .ensures)
-
-header-long : (c : tie.After-part Inv-loop μ-loop) → length (c .part .result .now) ≡ 28
-header-long c =
-    let w = c .before .before in
-    let start = w .before .before .before .before .before .before .before .before .before in
-    ap length (header-is c) ∙ header-length _ _ (start .pre .0 .whole) _ (read w .inside)
-
 packed-descriptor-requires : tie.Need-packed-descriptor-requires Inv-loop μ-loop
-packed-descriptor-requires c κs = let w = c .before .before in (refl, header-long c, omega (arith, few w), omega (arith, few w))
+packed-descriptor-requires c κs =
+    let w = c .before .before in
+    let start = w .before .before .before .before .before .before .before .before .before in
+    let header = header-read (start .args .source .now) _ _ (w .before .sector-of2 .ensures) _ (c .part .ensures) in
+    (refl, ap length header ∙ header-length _ _ (start .pre .0 .whole) _ (read w .inside), omega (arith, few w), omega (arith, few w))
 
 slice-aggregate-lay : tie.Need-slice-aggregate-lay Inv-loop μ-loop
-slice-aggregate-lay c =
-    let p = c .before .before in
-    let w = p .before .before .before in
-    let start = w .before .before .before .before .before .loop .start in
-    let chain = chainWith (oneBlock start (w .word2 .result)) in
-    omega (arith, ap length (p .packed-descriptor .ensures), length-append (p .before .part .result .now) chain, header-long (p .before), chain-with-length (oneBlock start (w .word2 .result)))
+slice-aggregate-lay c = search needs
 
 lay-requires : tie.Need-lay-requires Inv-loop μ-loop
 lay-requires c κs = search needs
 
 add-start-2 : tie.Need-add-start-2 Inv-loop μ-loop
-add-start-2 c = omega (arith, few (c .before .before .before .before .before .before .before .before))
+add-start-2 c = omega (arith, few (c .before .before .before .before .before .before .before .before .before))
 
 add-to : tie.Need-add-to Inv-loop μ-loop
 add-to c =
-    let l = c .before .before .before .before .before .before .before .before .before .before .before .before .before .loop in
+    let l = c .before .before .before .before .before .before .before .before .before .before .before .before .before .before .loop in
     omega (arith, l .inv .to-is, l .inv .rest .inside, l .inv .rest .short)
 
 add-at : tie.Need-add-at Inv-loop μ-loop
@@ -123,12 +106,13 @@ loop-less c = search needs
 loop-again : tie.Need-loop-again Inv-loop μ-loop
 loop-again c =
     let y = c .before .before in
-    let p = y .before .before .before in
+    let p = y .before .before .before .before in
     let w = p .before .before .before in
     let l = w .before .before .before .before .before in
     let start = l .before .before .before .before in
+    let header = header-read (start .args .source .now) _ _ (w .before .sector-of2 .ensures) _ (p .before .part .ensures) in
     let held = contents-count (start .args .source .now) _ (read w .descriptor) ∙ sym (count w) in
-    let packed = p .packed-descriptor .ensures ∙ descriptor-packed (start .args .source .now) _ _ _ _ (header-is (p .before)) held in
+    let packed = p .packed-descriptor .ensures ∙ descriptor-packed (start .args .source .now) _ _ _ _ header held in
     described-step (start .pre .0 .whole) (l .loop .inv) (read w) (count w) packed (y .lay .ensures)
 
 same-length-2 : tie.Need-same-length-2 Inv-loop μ-loop
@@ -152,6 +136,7 @@ lay-descriptors-spec =
     returns
     sector-of-requires-2
     word-requires-2
+    slice-aggregate-packed-descriptor
     part-requires
     packed-descriptor-requires
     slice-aggregate-lay

@@ -35,16 +35,19 @@ lay-requires c κs = search needs
 
 -- the header, in front of zeros
 headed : (c : tie.After-lay) →
-    let a = c .before .before .before .args in
+    let a = c .before .before .before .before .args in
     c .lay .last .0 ≡ splice (replicate 256 0) 0 (a .header .now)
 headed c =
-    let start = c .before .before .before in
+    let start = c .before .before .before .before in
     c .lay .ensures ∙ ap (λ (d : List ℕ). splice d 0 (start .args .header .now)) (start .pre .0)
+
+same-length : tie.Need-same-length
+same-length c = search needs
 
 returns : tie.Need-returns
 returns c =
-    let start = c .before .before .before .before in
-    rw (c .if1 .taken) (headed (c .before) ∙ empty (start .args .header .now) (start .args .start) (start .pre .1))
+    let start = c .before .before .before .before .before .before .before in
+    rw (c .if1 .taken) (headed (c .before .before .before) ∙ empty (start .args .header .now) (start .args .start) (start .pre .1))
 
 sub-last : tie.Need-sub-last
 sub-last c = search needs
@@ -70,21 +73,24 @@ slice-aggregate-lay c = search needs
 lay-requires-2 : tie.Need-lay-requires-2
 lay-requires-2 c κs = search needs
 
+same-length-2 : tie.Need-same-length-2
+same-length-2 c = search needs
+
 returns-2 : tie.Need-returns-2
 unfolding blockBytes
 returns-2 c =
-    let some = c .before .before .before in
-    let start = some .before .before .before .before in
+    let start = c .before .before .before .before .before .before .before .before .before .before .before .before in
     let a = start .args in
-    c .lay2 .ensures
-    ∙ ap (λ (d : List ℕ). splice d 28 (blockBytes (record { start = a .start; last = a .sectors - 1 }))) (headed (some .before))
-    ∙ one (a .header .now) (a .start) (a .sectors) (start .pre .1) (some .if1 .left)
+    c .before .before .lay2 .ensures
+    ∙ ap (λ (d : List ℕ). splice d 28 (blockBytes (record { start = a .start; last = a .sectors - 1 }))) (headed (c .before .before .before .before .before .before .before .before))
+    ∙ one (a .header .now) (a .start) (a .sectors) (start .pre .1) (c .before .before .before .before .before .if1 .left)
 
 pub packed-descriptor-spec : {M : Type 1} → statement M
 packed-descriptor-spec =
     tie.close
     (tie.spec
     lay-requires
+    same-length
     returns
     sub-last
     cast-low
@@ -94,4 +100,5 @@ packed-descriptor-spec =
     cast-high
     slice-aggregate-lay
     lay-requires-2
+    same-length-2
     returns-2)
