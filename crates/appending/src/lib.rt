@@ -22,37 +22,34 @@ use map::free::free_count_of;
 use opening::find;
 use rules::Answer;
 use rules::Opened;
+use sector::buffer::copy;
 use sector::buffer::lay;
-use sector::buffer::sector_copy;
 use sector::buffer::write_sector;
 use sector::bytes::byte;
 use sector::bytes::part;
 use sector::bytes::sector_of;
 
 // The descriptor of the file with the sector `new` behind its chain.
-fn longer(descriptor: &[u8], tip: Tip, new: usize) -> [u8; 256]
-    requires { ⌜ (length (now descriptor) ≡ 256) × Extendable (chainOf (now descriptor)) tip new × (sectorsOf (now descriptor) ≡ tip .next) ⌝ }
-    ensures { λ r. ⌜ r ≡ withChain (now (descriptor .entry)) (sectorsOf (now (descriptor .entry)) + 1) (extended 0 (blocks (chainOf (now (descriptor .entry)))) new) ⌝ }
+fn longer(longer: &mut [u8], descriptor: &[u8], tip: Tip, new: usize)
+    requires { ⌜ (length (now longer) ≡ 256) × (length (now descriptor) ≡ 256) × Extendable (chainOf (now descriptor)) tip new × (sectorsOf (now descriptor) ≡ tip .next) ⌝ }
+    ensures { λ _. ⌜ now (longer .exit) ≡ withChain (now (descriptor .entry)) (sectorsOf (now (descriptor .entry)) + 1) (extended 0 (blocks (chainOf (now (descriptor .entry)))) new) ⌝ }
 {
     let c = tip.next + 1;
     let high = (c / 256) as u8;
     let low = (c % 256) as u8;
     let count = [high, low];
-    let mut longer = [0u8; 256];
-    lay(&mut longer, 0, descriptor);
-    lay(&mut longer, 14, &count);
+    copy(longer, descriptor);
+    lay(longer, 14, &count);
     extend(&mut longer[28..256], tip, new);
-    longer
 }
 
 // Sector 0 with the sector `new` taken.
-fn map_with(image: &[u8], new: usize) -> [u8; 256]
-    requires { ⌜ length (sectorOf (now image) 0) ≡ 256 ⌝ }
-    ensures { λ r. ⌜ r ≡ marked 1 (sectorOf (now (image .entry)) 0) new ⌝ }
+fn map_with(sector0: &mut [u8], image: &[u8], new: usize)
+    requires { ⌜ (length (now sector0) ≡ 256) × (length (sectorOf (now image) 0) ≡ 256) ⌝ }
+    ensures { λ _. ⌜ now (sector0 .exit) ≡ marked 1 (sectorOf (now (image .entry)) 0) new ⌝ }
 {
-    let mut sector0 = sector_copy(image, 0);
-    mark(&mut sector0, new);
-    sector0
+    copy(sector0, sector_of(image, 0));
+    mark(sector0, new);
 }
 
 // Of the file whose descriptor is in sector k.
@@ -82,8 +79,10 @@ fn append_at(image: &mut [u8], k: usize, bytes: &[u8]) -> Answer
     if with.used > 76 {
         return Answer::Refused(13);
     }
-    let descriptor = longer(sector_of(image, k), tip, new);
-    let sector0 = map_with(image, new);
+    let mut descriptor = [0u8; 256];
+    longer(&mut descriptor, sector_of(image, k), tip, new);
+    let mut sector0 = [0u8; 256];
+    map_with(&mut sector0, image, new);
     write_sector(image, new, bytes);
     write_sector(image, 0, &sector0);
     write_sector(image, k, &descriptor);

@@ -1,4 +1,4 @@
-// Protecting and unprotecting: the 08 bit of a file's status.
+// Protecting and unprotecting: the 08 bit of a file's status, set where it stands, in byte 12 of the descriptor.
 ghost use mathlib.Core.Path.{_≡_};
 ghost use Rattle.rules.specs.Sectors.{written};
 ghost use Rattle.rules.specs.Outcome.{answerOf};
@@ -8,8 +8,6 @@ use map::bits::with_zero;
 use opening::find;
 use rules::Answer;
 use rules::Opened;
-use sector::buffer::sector_copy;
-use sector::buffer::write_sector;
 
 pub fn protect(image: &mut [u8], name: &[u8]) -> Answer
     ensures { λ r. ⌜ r ≡ answerOf (protectOf (now (image .entry)) (now (name .entry)) .number) ⌝ }
@@ -19,9 +17,8 @@ pub fn protect(image: &mut [u8], name: &[u8]) -> Answer
     match opened {
         Opened::Refused(number) => Answer::Refused(number),
         Opened::At(_, k) => {
-            let mut descriptor = sector_copy(image, k);
-            descriptor[12] = with_one(descriptor[12], 3);
-            write_sector(image, k, &descriptor);
+            let at = 256 * k + 12;
+            image[at] = with_one(image[at], 3);
             Answer::Done
         }
     }
@@ -35,9 +32,8 @@ pub fn unprotect(image: &mut [u8], name: &[u8]) -> Answer
     match opened {
         Opened::Refused(number) => Answer::Refused(number),
         Opened::At(_, k) => {
-            let mut descriptor = sector_copy(image, k);
-            descriptor[12] = with_zero(descriptor[12], 3);
-            write_sector(image, k, &descriptor);
+            let at = 256 * k + 12;
+            image[at] = with_zero(image[at], 3);
             Answer::Done
         }
     }

@@ -1,5 +1,5 @@
 -- `appending::append_at` meets its contract: each refusal gives the number of the first test that failed; what is chosen and the blocks with it are those of the definition. Assumes nothing.
-use mathlib.Core.Path.{_≡_, sym, ap, subst, _∙_}
+use mathlib.Core.Path.{_≡_, refl, sym, ap, subst, _∙_}
 use mathlib.Core.Bool.{false}
 use mathlib.Core.List.{List}
 use Prim.Native.Nat.{ℕ, _≤_, _<_}
@@ -159,20 +159,28 @@ returns-5 c =
     let a = c .before .before .before .before .before .before .before .before .before .before .before .before .before .before .before .before .before .before .before .before .before .before .before .args in
     refusal-meets (a .image .now) _ 13 (λ z. omega arith) (append-77th (a .image .now) (a .bytes .now) (a .k) (open-file (c .before .before .before .before .before .before .before .before .before .before .before .before .before .before .before .before .before)) (is-data (c .before .before .before .before .before .before .before .before .before .before .before .before .before .before .before .before)) (c .before .before .before .before .before .before .before .before .before .before .before .before .before .before .before .if3 .left) (some (c .before .before .before .before .before .before .before .before .before .before .before)) (omega (arith, used-is (c .before .before), c .if5 .taken)))
 
+slice-aggregate-longer : tie.Need-slice-aggregate-longer
+slice-aggregate-longer c = search needs
+
 sector-of-requires-5 : tie.Need-sector-of-requires-5
-sector-of-requires-5 c κs = small (c .before .before .before .before .before .before .before .before .before .before .before .before .before .before .before .before .before .before .before .before .before .before .before .before)
+sector-of-requires-5 c κs = small (c .before .before .before .before .before .before .before .before .before .before .before .before .before .before .before .before .before .before .before .before .before .before .before .before .before)
 
 longer-requires : tie.Need-longer-requires
 unfolding chainOf
 longer-requires c κs =
-    let b = extendable (c .before .before .before .before) (omega (arith, c .before .before .if5 .left)) in
-    rw (c .sector-of5 .ensures) (is-sector _ _ (c .before .before .before .before .before .before .before .before .before .before .before .before .before .before .before .before .before .before .before .before .before .before .before .before .before .pre), b .0, b .1)
+    let b = extendable (c .before .before .before .before .before) (omega (arith, c .before .before .before .if5 .left)) in
+    rw (c .sector-of5 .ensures) (refl, is-sector _ _ (c .before .before .before .before .before .before .before .before .before .before .before .before .before .before .before .before .before .before .before .before .before .before .before .before .before .before .pre), b .0, b .1)
+
+slice-aggregate-map-with : tie.Need-slice-aggregate-map-with
+slice-aggregate-map-with c = search needs
 
 map-with-requires : tie.Need-map-with-requires
-map-with-requires c κs = file-long _ 0 (c .before .before .before .before .before .before .before .before .before .before .before .before .before .before .before .before .before .before .before .before .before .before .before .before .before .before .before .pre .sound) (omega (arith, c .before .before .before .before .before .before .before .before .before .before .before .before .before .before .before .before .before .before .before .before .before .before .before .before .before .before .before .pre .sound .size))
+map-with-requires c κs =
+    let sound = c .before .before .before .before .before .before .before .before .before .before .before .before .before .before .before .before .before .before .before .before .before .before .before .before .before .before .before .before .before .before .pre .sound in
+    (refl, file-long _ 0 sound (omega (arith, sound .size)))
 
 write-sector-requires : tie.Need-write-sector-requires
-write-sector-requires c κs = omega (arith, new-range (c .before .before .before .before .before .before .before .before .before .before .before .before .before))
+write-sector-requires c κs = omega (arith, new-range (c .before .before .before .before .before .before .before .before .before .before .before .before .before .before .before .before .before))
 
 slice-aggregate-write-sector : tie.Need-slice-aggregate-write-sector
 slice-aggregate-write-sector c = search needs
@@ -184,7 +192,7 @@ slice-aggregate-write-sector-2 : tie.Need-slice-aggregate-write-sector-2
 slice-aggregate-write-sector-2 c = search needs
 
 write-sector-requires-3 : tie.Need-write-sector-requires-3
-write-sector-requires-3 c κs = small (c .before .before .before .before .before .before .before .before .before .before .before .before .before .before .before .before .before .before .before .before .before .before .before .before .before .before .before .before .before .before .before .before .before .before .before .before .before .before .before)
+write-sector-requires-3 c κs = small (c .before .before .before .before .before .before .before .before .before .before .before .before .before .before .before .before .before .before .before .before .before .before .before .before .before .before .before .before .before .before .before .before .before .before .before .before .before .before .before .before .before .before .before)
 
 same-length-6 : tie.Need-same-length-6
 same-length-6 c = search needs
@@ -192,10 +200,10 @@ same-length-6 c = search needs
 returns-6 : tie.Need-returns-6
 unfolding written
 returns-6 c =
-    let a = c .before .before .before .before .before .before .before .before .before .before .before .before .before .before .before .before .before .before .before .before .before .before .before .before .before .before .before .before .before .before .before .before .before .before .before .before .before .before .before .before .before .before .args in
-    let meets = done-meets (a .image .now) (appending (a .image .now) (a .bytes .now) (a .k)) _ (append-done (a .image .now) (a .bytes .now) (a .k) (open-file (c .before .before .before .before .before .before .before .before .before .before .before .before .before .before .before .before .before .before .before .before .before .before .before .before .before .before .before .before .before .before .before .before .before .before .before .before)) (is-data (c .before .before .before .before .before .before .before .before .before .before .before .before .before .before .before .before .before .before .before .before .before .before .before .before .before .before .before .before .before .before .before .before .before .before .before)) (c .before .before .before .before .before .before .before .before .before .before .before .before .before .before .before .before .before .before .before .before .before .before .before .before .before .before .before .before .before .before .before .before .before .before .if3 .left) (some (c .before .before .before .before .before .before .before .before .before .before .before .before .before .before .before .before .before .before .before .before .before .before .before .before .before .before .before .before .before .before)) (omega (arith, used-is (c .before .before .before .before .before .before .before .before .before .before .before .before .before .before .before .before .before .before .before .before .before), c .before .before .before .before .before .before .before .before .before .before .before .before .before .before .before .before .before .before .before .if5 .left))) in (
+    let a = c .before .before .before .before .before .before .before .before .before .before .before .before .before .before .before .before .before .before .before .before .before .before .before .before .before .before .before .before .before .before .before .before .before .before .before .before .before .before .before .before .before .before .before .before .before .before .args in
+    let meets = done-meets (a .image .now) (appending (a .image .now) (a .bytes .now) (a .k)) _ (append-done (a .image .now) (a .bytes .now) (a .k) (open-file (c .before .before .before .before .before .before .before .before .before .before .before .before .before .before .before .before .before .before .before .before .before .before .before .before .before .before .before .before .before .before .before .before .before .before .before .before .before .before .before .before)) (is-data (c .before .before .before .before .before .before .before .before .before .before .before .before .before .before .before .before .before .before .before .before .before .before .before .before .before .before .before .before .before .before .before .before .before .before .before .before .before .before .before)) (c .before .before .before .before .before .before .before .before .before .before .before .before .before .before .before .before .before .before .before .before .before .before .before .before .before .before .before .before .before .before .before .before .before .before .before .before .before .before .if3 .left) (some (c .before .before .before .before .before .before .before .before .before .before .before .before .before .before .before .before .before .before .before .before .before .before .before .before .before .before .before .before .before .before .before .before .before .before)) (omega (arith, used-is (c .before .before .before .before .before .before .before .before .before .before .before .before .before .before .before .before .before .before .before .before .before .before .before .before .before), c .before .before .before .before .before .before .before .before .before .before .before .before .before .before .before .before .before .before .before .before .before .before .before .if5 .left))) in (
       meets .0,
-      rw (c .before .before .write-sector3 .ensures, c .before .before .before .before .before .before .before .write-sector2 .ensures, c .before .before .before .before .before .before .before .before .before .before .before .before .write-sector .ensures, c .before .before .before .before .before .before .before .before .before .before .before .before .before .before .map-with .ensures, c .before .before .before .before .before .before .before .before .before .before .before .before .before .before .before .before .longer .ensures, c .before .before .before .before .before .before .before .before .before .before .before .before .before .before .before .before .before .sector-of5 .ensures, new-is (c .before .before .before .before .before .before .before .before .before .before .before .before .before .before .before .before .before .before .before .before .before .before .before .before .before .before)) (meets .1),
+      rw (c .before .before .write-sector3 .ensures, c .before .before .before .before .before .before .before .write-sector2 .ensures, c .before .before .before .before .before .before .before .before .before .before .before .before .write-sector .ensures, c .before .before .before .before .before .before .before .before .before .before .before .before .before .before .before .map-with .ensures, c .before .before .before .before .before .before .before .before .before .before .before .before .before .before .before .before .before .before .before .longer .ensures, c .before .before .before .before .before .before .before .before .before .before .before .before .before .before .before .before .before .before .before .before .sector-of5 .ensures, new-is (c .before .before .before .before .before .before .before .before .before .before .before .before .before .before .before .before .before .before .before .before .before .before .before .before .before .before .before .before .before .before)) (meets .1),
     )
 
 pub append-at-spec : {M : Type 1} → statement M
@@ -223,8 +231,10 @@ append-at-spec =
     tip-with-requires
     same-length-5
     returns-5
+    slice-aggregate-longer
     sector-of-requires-5
     longer-requires
+    slice-aggregate-map-with
     map-with-requires
     write-sector-requires
     slice-aggregate-write-sector

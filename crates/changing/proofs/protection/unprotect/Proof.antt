@@ -1,17 +1,18 @@
 -- `changing::protection::unprotect` meets its contract. Assumes nothing.
 use mathlib.Core.Path.{_≡_, sym, ap, _∙_}
-use mathlib.Core.List.{List, [], _∷_}
-use Prim.Native.Nat.{ℕ}
+use mathlib.Core.List.{[], _∷_}
+use Prim.Native.Nat.{ℕ, _+_, _*_, _<_}
 use native.Mathlib.Omega.{arith}
-use lib.ListN.{set, getD}
+use lib.ListN.{length, set}
 use Rattle.rules.specs.Bytes.{withBit}
 use Rattle.rules.specs.Sectors.{sectorOf, written}
 use Rattle.rules.specs.Descriptor.{statusOf}
 use Rattle.rules.specs.Outcome.{write, done, openOf}
 use Rattle.rules.specs.Calls.Protect.{protecting, unprotectOf}
 use Rattle.rules.specs.declared.Opened.the-variants.{At}
+use Rattle.rules.proofs.Sectors.{sector-byte, sector-set}
 use Rattle.rules.proofs.Outcome.{open-refused}
-use Rattle.rules.proofs.Changes.{refusal-meets, done-meets, change-found, change-refused, is-file, in-volume, is-sector}
+use Rattle.rules.proofs.Changes.{refusal-meets, done-meets, change-found, change-refused, is-file, in-volume}
 use borrow.Author.Needs.{needs}
 use Rattle.changing.proofs.protection.unprotect.Statement.{statement}
 use Rattle.changing.proofs.protection.unprotect.Tie as tie
@@ -28,27 +29,28 @@ enum-known-opened c = search needs
 enum-known-opened-2 : tie.Need-enum-known-opened-2
 enum-known-opened-2 c = search needs
 
-sector-copy-requires : tie.Need-sector-copy-requires
-sector-copy-requires c κs =
-    let file = is-file _ _ _ _ (found (c .before .before)) in
-    (omega (arith, in-volume _ _ file, file .sound .size), is-sector _ _ file)
+-- the status is inside the image
+inside : (c : tie.After-known-told2) →
+    let k = c .before .opened2 .given .0 .1 .0 in
+    (k < 1600) × (256 * k + 12 < length (c .before .before .before .before .before .before .before .args .image .now))
+inside c =
+    let file = is-file _ _ _ _ (found (c .before)) in
+    (omega (arith, in-volume _ _ file, file .sound .size), omega (arith, in-volume _ _ file, file .sound .whole))
 
-array-read-with-zero : tie.Need-array-read-with-zero
-array-read-with-zero c = search needs
+mul-at : tie.Need-mul-at
+mul-at c = omega (arith, inside c .0)
+
+add-at : tie.Need-add-at
+add-at c = omega (arith, inside c .0)
+
+slice-read-with-zero : tie.Need-slice-read-with-zero
+slice-read-with-zero c = inside (c .before) .1
 
 with-zero-requires : tie.Need-with-zero-requires
 with-zero-requires c κs = search needs
 
-array-write-descriptor : tie.Need-array-write-descriptor
-array-write-descriptor c = search needs
-
-slice-aggregate-write-sector : tie.Need-slice-aggregate-write-sector
-slice-aggregate-write-sector c = search needs
-
-write-sector-requires : tie.Need-write-sector-requires
-write-sector-requires c κs =
-    let file = is-file _ _ _ _ (found (c .before .before .before .before .before .before)) in
-    omega (arith, in-volume _ _ file, file .sound .size)
+slice-write-image : tie.Need-slice-write-image
+slice-write-image c = inside (c .before .before) .1
 
 same-length : tie.Need-same-length
 same-length c = search needs
@@ -66,16 +68,15 @@ same-length-2 c = search needs
 returns-2 : tie.Need-returns-2
 unfolding unprotectOf protecting written
 returns-2 c =
-    let a = c .before .before .before .before .before .before .before .before .before .before .before .before .before .before .before .args in
-    let k = c .before .before .before .before .before .before .before .before .before .opened2 .given .0 .1 .0 in
+    let opening = c .before .before .before in
+    let a = c .before .before .before .before .before .before .before .before .before .args in
+    let k = opening .opened2 .given .0 .1 .0 in
     let d = sectorOf (a .image .now) k in
     let e : unprotectOf (a .image .now) (a .name .now) ≡ done (write k (set d 12 (withBit (statusOf d) 3 0)) ∷ []) =
-    change-found (a .image .now) (a .name .now) (protecting 0 (a .image .now)) _ _ (found (c .before .before .before .before .before .before .before .before .before)) in
+    change-found (a .image .now) (a .name .now) (protecting 0 (a .image .now)) _ _ (found opening) in
     let meets = done-meets (a .image .now) (unprotectOf (a .image .now) (a .name .now)) _ e in
-    let status = c .before .before .before .before .before .with-zero .ensures ∙ ap (λ (s : List ℕ). withBit (getD s 12 0) 3 0) (c .before .before .before .before .before .before .sector-copy .ensures) in (
-      meets .0,
-      c .before .before .write-sector .ensures ∙ rw (status, c .before .before .before .before .before .before .sector-copy .ensures) (meets .1),
-    )
+    let status = c .with-zero .ensures ∙ ap (λ (b : ℕ). withBit b 3 0) (sym (sector-byte (a .image .now) k 12 (omega arith))) in
+    (meets .0, rw status (sym (sector-set (a .image .now) k 12 (withBit (statusOf d) 3 0) (omega arith))) ∙ meets .1)
 
 pub unprotect-spec : {M : Type 1} → statement M
 unprotect-spec =
@@ -84,12 +85,11 @@ unprotect-spec =
     find-requires
     enum-known-opened
     enum-known-opened-2
-    sector-copy-requires
-    array-read-with-zero
+    mul-at
+    add-at
+    slice-read-with-zero
     with-zero-requires
-    array-write-descriptor
-    slice-aggregate-write-sector
-    write-sector-requires
+    slice-write-image
     same-length
     returns
     same-length-2
