@@ -16,7 +16,7 @@ use map::free::free_count_of;
 use opening::find;
 use rules::Answer;
 use rules::Opened;
-use sector::buffer::sector_copy;
+use sector::buffer::copy;
 use sector::bytes::sector_of;
 use sector::bytes::word;
 
@@ -58,10 +58,20 @@ fn create_new(
         return Answer::Refused(12);
     }
     let k = descriptor_choice(sector_of(image, 0));
-    let descriptor = new_descriptor(name, status, records_per_sector, 0, record_length);
-    let mut sector0 = sector_copy(image, 0);
+    let mut descriptor = [0u8; 256];
+    new_descriptor(
+        &mut descriptor,
+        name,
+        status,
+        records_per_sector,
+        0,
+        record_length,
+    );
+    let mut sector0 = [0u8; 256];
+    copy(&mut sector0, sector_of(image, 0));
     mark(&mut sector0, k);
-    let index = index_with(image, sector_of(image, 1), name, k);
+    let mut index = [0u8; 256];
+    index_with(&mut index, image, sector_of(image, 1), name, k);
     enter(image, k, &descriptor, &sector0, &index);
     Answer::Done
 }

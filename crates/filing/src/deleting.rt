@@ -1,6 +1,7 @@
 // Deleting: the file's number leaves sector 1, and its sectors are free. They keep their bytes.
 ghost use mathlib.Core.Path.{_≡_};
 ghost use mathlib.Core.List.{_∷_};
+ghost use lib.ListN.{length};
 ghost use Rattle.rules.specs.Sectors.{sectorOf, written};
 ghost use Rattle.rules.specs.Map.{markedAll};
 ghost use Rattle.rules.specs.Volume.{placesIn};
@@ -12,20 +13,19 @@ use map::bits::clear_file;
 use opening::find;
 use rules::Answer;
 use rules::Opened;
-use sector::buffer::sector_copy;
+use sector::buffer::copy;
 use sector::buffer::write_sector;
 use sector::bytes::byte;
 use sector::bytes::part;
 use sector::bytes::sector_of;
 
 // Sector 0 without the sectors of the file whose descriptor is in sector k.
-fn map_without(image: &[u8], k: usize) -> [u8; 256]
-    requires { ⌜ IsFile (now image) k ⌝ }
-    ensures { λ r. ⌜ r ≡ markedAll 0 (sectorOf (now (image .entry)) 0) (k ∷ placesIn (now (image .entry)) k) ⌝ }
+fn map_without(sector0: &mut [u8], image: &[u8], k: usize)
+    requires { ⌜ (length (now sector0) ≡ 256) × IsFile (now image) k ⌝ }
+    ensures { λ _. ⌜ now (sector0 .exit) ≡ markedAll 0 (sectorOf (now (image .entry)) 0) (k ∷ placesIn (now (image .entry)) k) ⌝ }
 {
-    let mut sector0 = sector_copy(image, 0);
-    clear_file(&mut sector0, k, part(sector_of(image, k), 28, 228));
-    sector0
+    copy(sector0, sector_of(image, 0));
+    clear_file(sector0, k, part(sector_of(image, k), 28, 228));
 }
 
 // Of that file.
@@ -37,8 +37,10 @@ fn delete_at(image: &mut [u8], k: usize) -> Answer
     if byte(sector_of(image, k), 12) / 8 % 2 == 1 {
         return Answer::Refused(10);
     }
-    let index = index_without(sector_of(image, 1), k);
-    let sector0 = map_without(image, k);
+    let mut index = [0u8; 256];
+    index_without(&mut index, sector_of(image, 1), k);
+    let mut sector0 = [0u8; 256];
+    map_without(&mut sector0, image, k);
     write_sector(image, 1, &index);
     write_sector(image, 0, &sector0);
     Answer::Done

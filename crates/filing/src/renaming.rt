@@ -1,9 +1,8 @@
 // Renaming: the ten name bytes, and the file's place in sector 1.
 ghost use mathlib.Core.Path.{_≡_};
 ghost use mathlib.Core.Bool.{true};
-ghost use lib.ListN.{length};
-ghost use Rattle.rules.specs.Bytes.{splice};
-ghost use Rattle.rules.specs.Sectors.{sectorOf, written};
+ghost use lib.ListN.{replicate};
+ghost use Rattle.rules.specs.Sectors.{written};
 ghost use Rattle.rules.specs.Name.{nameRule};
 ghost use Rattle.rules.specs.Index.{indexOf, without};
 ghost use Rattle.rules.specs.Volume.{files, placed};
@@ -17,33 +16,23 @@ use opening::find_in;
 use rules::Answer;
 use rules::Opened;
 use sector::buffer::lay;
-use sector::buffer::sector_copy;
 use sector::buffer::write_sector;
 use sector::bytes::byte;
 use sector::bytes::sector_of;
 
-// The descriptor in sector k under the new name.
-fn renamed(image: &[u8], k: usize, new: &[u8]) -> [u8; 256]
-    requires { ⌜ IsFile (now image) k ⌝ }
-    ensures { λ r. ⌜ r ≡ splice (sectorOf (now (image .entry)) k) 0 (now (new .entry)) ⌝ }
+// Sector 1 with the number k where the new name belongs, laid into 256 zeros.
+fn moved(index: &mut [u8; 256], image: &[u8], k: usize, new: &[u8])
+    requires { ⌜ (now index ≡ replicate 256 0) × IsFile (now image) k ⌝ }
+    ensures { λ _. ⌜ now (index .exit) ≡ indexOf (placed (now (image .entry)) (now (new .entry)) k (without k (files (now (image .entry))))) ⌝ }
 {
-    let mut descriptor = sector_copy(image, k);
-    lay(&mut descriptor, 0, new);
-    descriptor
-}
-
-// Sector 1 with the number k where the new name belongs.
-fn moved(image: &[u8], k: usize, new: &[u8]) -> [u8; 256]
-    requires { ⌜ IsFile (now image) k ⌝ }
-    ensures { λ r. ⌜ r ≡ indexOf (placed (now (image .entry)) (now (new .entry)) k (without k (files (now (image .entry))))) ⌝ }
-{
-    let others = index_without(sector_of(image, 1), k);
-    index_with(image, &others, new, k)
+    let mut others = [0u8; 256];
+    index_without(&mut others, sector_of(image, 1), k);
+    index_with(index, image, &others, new, k);
 }
 
 // Of the file whose descriptor is in sector k.
 fn rename_at(image: &mut [u8], k: usize, new: &[u8]) -> Answer
-    requires { ⌜ IsFile (now image) k ⌝ }
+    requires { ⌜ IsFile (now image) k × (nameRule (now new) ≡ true) ⌝ }
     ensures { λ r. ⌜ r ≡ answerOf (renaming (now (image .entry)) (now (new .entry)) k .number) ⌝ }
     ensures { λ _. ⌜ now (image .exit) ≡ written (now (image .entry)) (renaming (now (image .entry)) (now (new .entry)) k .writes) ⌝ }
 {
@@ -54,9 +43,10 @@ fn rename_at(image: &mut [u8], k: usize, new: &[u8]) -> Answer
             if byte(sector_of(image, k), 12) / 8 % 2 == 1 {
                 return Answer::Refused(10);
             }
-            let descriptor = renamed(image, k, new);
-            let index = moved(image, k, new);
-            write_sector(image, k, &descriptor);
+            let mut index = [0u8; 256];
+            moved(&mut index, image, k, new);
+            // The name is the front of the descriptor; the rest of that sector stays.
+            lay(image, 256 * k, new);
             write_sector(image, 1, &index);
             Answer::Done
         }

@@ -1,6 +1,6 @@
 -- `creating::create_new` meets its contract: each refusal gives the number of the first test that failed, the tests before it having passed.
 -- Assumes nothing.
-use mathlib.Core.Path.{_≡_, sym, _∙_}
+use mathlib.Core.Path.{_≡_, refl, sym, ap, _∙_}
 use mathlib.Core.Bool.{true, false}
 use mathlib.Core.List.{List}
 use Prim.Native.Nat.{ℕ, _<_}
@@ -107,12 +107,18 @@ descriptor-choice-requires : tie.Need-descriptor-choice-requires
 descriptor-choice-requires c κs = search needs
 
 new-descriptor-requires : tie.Need-new-descriptor-requires
-new-descriptor-requires c κs = name-is _ (c .before .before .before .before .before .before .before .before .before .before .before .before .before .before .before .pre .1) .ten
+new-descriptor-requires c κs = (refl, name-is _ (c .before .before .before .before .before .before .before .before .before .before .before .before .before .before .before .before .pre .1) .ten)
 
-sector-copy-requires : tie.Need-sector-copy-requires
-sector-copy-requires c κs =
-    let whole = c .before .before .before .before .before .before .before .before .before .before .before .before .before .before .before .before .before .pre .0 in
-    (omega arith, file-long _ 0 whole (omega (arith, whole .size)))
+slice-aggregate-copy : tie.Need-slice-aggregate-copy
+slice-aggregate-copy c = search needs
+
+sector-of-requires-4 : tie.Need-sector-of-requires-4
+sector-of-requires-4 c κs = search needs
+
+copy-requires : tie.Need-copy-requires
+copy-requires c κs =
+    let whole = c .before .before .before .before .before .before .before .before .before .before .before .before .before .before .before .before .before .before .before .before .pre .0 in
+    sym (ap length (c .sector-of4 .ensures) ∙ file-long _ 0 whole (omega (arith, whole .size)))
 
 slice-aggregate-mark : tie.Need-slice-aggregate-mark
 slice-aggregate-mark c = search needs
@@ -120,20 +126,11 @@ slice-aggregate-mark c = search needs
 mark-requires : tie.Need-mark-requires
 mark-requires c κs = search needs
 
-sector-of-requires-4 : tie.Need-sector-of-requires-4
-sector-of-requires-4 c κs = search needs
+sector-of-requires-5 : tie.Need-sector-of-requires-5
+sector-of-requires-5 c κs = search needs
 
 index-with-requires : tie.Need-index-with-requires
 index-with-requires c κs = search needs
-
-slice-aggregate-enter : tie.Need-slice-aggregate-enter
-slice-aggregate-enter c = search needs
-
-slice-aggregate-enter-2 : tie.Need-slice-aggregate-enter-2
-slice-aggregate-enter-2 c = search needs
-
-slice-aggregate-enter-3 : tie.Need-slice-aggregate-enter-3
-slice-aggregate-enter-3 c = search needs
 
 enter-requires : tie.Need-enter-requires
 enter-requires c κs = search needs
@@ -147,10 +144,10 @@ returns-4 c =
     let entering = c .before .before in
     let index = entering .before .before .before .before .before in
     let sector1 = index .before in
-    let marking = sector1 .before .before .before in
-    let copied = marking .before .before in
-    let descriptor = copied .before .before in
-    let choice = descriptor .before in
+    let marking = sector1 .before .before .before .before in
+    let copied = marking .before .before .before in
+    let descriptor = copied .before .before .before .before in
+    let choice = descriptor .before .before in
     let sector0 = choice .before in
     let some = sector0 .before .before in
     let room = some .before .before .before .before in
@@ -161,7 +158,7 @@ returns-4 c =
     (passed _ _ _ _ _ (start .pre .0) (asked (room .before .before .before .before)) (sym (last-is (room .before)) ∙ room .if2 .left) (λ z. some .if3 .left (free-is (some .before) ∙ z)))
     in (
       met .0,
-      rw (entering .enter .ensures, index .index-with .ensures, sector1 .sector-of4 .ensures, marking .mark .ensures, copied .sector-copy .ensures, descriptor .new-descriptor .ensures, choice .descriptor-choice .ensures .0, sector0 .sector-of3 .ensures)
+      rw (entering .enter .ensures, index .index-with .ensures, sector1 .sector-of5 .ensures, marking .mark .ensures, copied .copy .ensures, copied .before .sector-of4 .ensures, descriptor .new-descriptor .ensures, choice .descriptor-choice .ensures .0, sector0 .sector-of3 .ensures)
           (met .1),
     )
 
@@ -182,14 +179,13 @@ create-new-spec =
     sector-of-requires-3
     descriptor-choice-requires
     new-descriptor-requires
-    sector-copy-requires
+    slice-aggregate-copy
+    sector-of-requires-4
+    copy-requires
     slice-aggregate-mark
     mark-requires
-    sector-of-requires-4
+    sector-of-requires-5
     index-with-requires
-    slice-aggregate-enter
-    slice-aggregate-enter-2
-    slice-aggregate-enter-3
     enter-requires
     same-length-3
     returns-4)

@@ -1,9 +1,10 @@
 -- `filing::deleting::delete_at` meets its contract. Assumes nothing.
-use mathlib.Core.Path.{_≡_}
+use mathlib.Core.Path.{_≡_, sym, ap, _∙_}
 use mathlib.Core.Bool.{true, false}
 use mathlib.Core.List.{List, [], _∷_}
 use Prim.Native.Nat.{ℕ}
 use native.Mathlib.Omega.{arith}
+use lib.ListN.{length}
 use Rattle.rules.specs.Sectors.{written, sectorOf}
 use Rattle.rules.specs.Map.{markedAll}
 use Rattle.rules.specs.Kind.{isProtected}
@@ -12,6 +13,7 @@ use Rattle.rules.specs.Index.{indexOf, without}
 use Rattle.rules.specs.Volume.{files, placesIn}
 use Rattle.rules.specs.Outcome.{write, done, refusal}
 use Rattle.rules.specs.Calls.Delete.{deleting}
+use Rattle.rules.proofs.Indexed.{index-length}
 use Rattle.rules.proofs.Changes.{refusal-meets, done-meets, in-volume, protected, unprotected}
 use borrow.Author.Needs.{needs}
 use Rattle.filing.proofs.deleting.delete_at.Statement.{statement}
@@ -55,11 +57,14 @@ sector-of-requires-2 c κs = search needs
 index-without-requires : tie.Need-index-without-requires
 index-without-requires c κs = search needs
 
+slice-aggregate-map-without : tie.Need-slice-aggregate-map-without
+slice-aggregate-map-without c = search needs
+
 map-without-requires : tie.Need-map-without-requires
 map-without-requires c κs = search needs
 
 slice-aggregate-write-sector : tie.Need-slice-aggregate-write-sector
-slice-aggregate-write-sector c = search needs
+slice-aggregate-write-sector c = sym (ap length (c .before .before .before .before .before .before .index-without .ensures) ∙ index-length _)
 
 write-sector-requires : tie.Need-write-sector-requires
 write-sector-requires c κs = search needs
@@ -78,10 +83,10 @@ unfolding written files
 returns-2 c =
     let second = c .before .before in
     let first = second .before .before .before .before .before in
-    let map = first .before .before .before in
-    let index = map .before .before in
+    let map = first .before .before .before .before in
+    let index = map .before .before .before in
     let sector1 = index .before in
-    let free = sector1 .before .before in
+    let free = sector1 .before .before .before in
     let a = free .before .before .before .before .before .args in
     let met = done-meets (a .image .now) (deleting (a .image .now) (a .k)) _ (passed _ _ (unprotected (sectorOf (a .image .now) (a .k)) _ (status-is (free .before)) (free .if1 .left))) in
     (met .0, rw (second .write-sector2 .ensures, first .write-sector .ensures, map .map-without .ensures, index .index-without .ensures, sector1 .sector-of2 .ensures) (met .1))
@@ -96,6 +101,7 @@ delete-at-spec =
     returns
     sector-of-requires-2
     index-without-requires
+    slice-aggregate-map-without
     map-without-requires
     slice-aggregate-write-sector
     write-sector-requires

@@ -1,8 +1,9 @@
 -- `filing::renaming::moved` meets its contract: the numbers that are left are those of sector 1 laid anew without k. Assumes nothing.
+use mathlib.Core.Path.{sym, ap, _∙_}
 use native.Mathlib.Omega.{arith}
-use Rattle.rules.specs.Index.{numbers, without}
+use lib.ListN.{length}
 use Rattle.rules.specs.Volume.{files}
-use Rattle.rules.proofs.Indexed.{left-numbers}
+use Rattle.rules.proofs.Indexed.{index-length, left-numbers}
 use Rattle.rules.proofs.Changes.{in-volume}
 use borrow.Author.Needs.{needs}
 use Rattle.filing.proofs.renaming.moved.Statement.{statement}
@@ -15,16 +16,16 @@ index-without-requires : tie.Need-index-without-requires
 index-without-requires c κs = search needs
 
 slice-aggregate-index-with : tie.Need-slice-aggregate-index-with
-slice-aggregate-index-with c = search needs
+slice-aggregate-index-with c = sym (ap length (c .before .before .index-without .ensures) ∙ index-length _)
 
 index-with-requires : tie.Need-index-with-requires
 index-with-requires c κs =
-    let file = c .before .before .before .before .before .pre in
-    omega (arith, in-volume _ _ file, file .sound .size)
+    let pre = c .before .before .before .before .before .before .before .pre in
+    (pre .0, omega (arith, in-volume _ _ (pre .1), pre .1 .sound .size))
 
 returns : tie.Need-returns
 unfolding files
-returns c = rw (c .index-with .ensures, c .before .before .index-without .ensures, c .before .before .before .sector-of .ensures, left-numbers _ _ (c .before .before .before .before .before .before .pre .sound))
+returns c = rw (c .index-with .ensures, c .before .before .before .index-without .ensures, c .before .before .before .before .sector-of .ensures, left-numbers _ _ (c .before .before .before .before .before .before .before .before .pre .1 .sound))
 
 pub moved-spec : {M : Type 1} → statement M
 moved-spec =

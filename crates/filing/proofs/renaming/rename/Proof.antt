@@ -115,8 +115,10 @@ rename-at-requires : tie.Need-rename-at-requires
 rename-at-requires c κs =
     let opened = c .before .before in
     let ruled = opened .before .before .before .before in
-    let a = ruled .before .before .before .before .before .before .before .before .before .before .args in
-    is-file (a .image .now) (a .old .now) _ _ (opens (a .image .now) (a .old .now) (a .new .now) (sound (ruled .before .before .before .before)) (named (ruled .before .before)) ∙ found opened)
+    let a = ruled .before .before .before .before .before .before .before .before .before .before .args in (
+      is-file (a .image .now) (a .old .now) _ _ (opens (a .image .now) (a .old .now) (a .new .now) (sound (ruled .before .before .before .before)) (named (ruled .before .before)) ∙ found opened),
+      named-new ruled,
+    )
 
 same-length-4 : tie.Need-same-length-4
 same-length-4 c = search needs

@@ -1,9 +1,10 @@
 -- `filing::renaming::rename_at` meets its contract. Assumes nothing.
-use mathlib.Core.Path.{_≡_, sym, _∙_}
+use mathlib.Core.Path.{_≡_, refl, sym, ap, _∙_}
 use mathlib.Core.Bool.{true, false}
 use mathlib.Core.List.{List, [], _∷_}
 use Prim.Native.Nat.{ℕ}
 use native.Mathlib.Omega.{arith}
+use lib.ListN.{length}
 use borrow.Author.Tests.{eq-eqb}
 use Rattle.rules.specs.Bytes.{splice}
 use Rattle.rules.specs.Sectors.{written, sectorOf}
@@ -14,6 +15,9 @@ use Rattle.rules.specs.Volume.{files, placed}
 use Rattle.rules.specs.Outcome.{write, done, refusal, findIn, adding}
 use Rattle.rules.specs.Calls.Rename.{renaming}
 use Rattle.rules.specs.declared.Opened.the-variants.{At, Refused}
+use Rattle.rules.proofs.Sectors.{sector-laid}
+use Rattle.rules.proofs.Name.{name-is}
+use Rattle.rules.proofs.Indexed.{index-length}
 use Rattle.rules.proofs.Outcome.{find-refused}
 use Rattle.rules.proofs.Changes.{refusal-meets, done-meets, in-volume, protected, unprotected}
 use borrow.Author.Needs.{needs}
@@ -57,7 +61,7 @@ enum-told-2 c = search needs
 
 sector-of-requires : tie.Need-sector-of-requires
 sector-of-requires c κs =
-    let file = c .before .before .before .before .before .before .before .pre in
+    let file = c .before .before .before .before .before .before .before .pre .0 in
     omega (arith, in-volume _ _ file, file .sound .size)
 
 byte-requires : tie.Need-byte-requires
@@ -72,25 +76,22 @@ returns c =
     refusal-meets (a .image .now) (renaming (a .image .now) (a .new .now) (a .k)) 10 (λ z. omega arith)
     (refused _ _ _ _ (absent (c .before .before .before .before)) (protected (sectorOf (a .image .now) (a .k)) _ (status-is (c .before)) (c .if1 .taken)))
 
-renamed-requires : tie.Need-renamed-requires
-renamed-requires c κs = search needs
-
 moved-requires : tie.Need-moved-requires
-moved-requires c κs = search needs
+moved-requires c κs = (refl, c .before .before .before .before .before .before .before .before .before .before .before .before .pre .0)
 
-slice-aggregate-write-sector : tie.Need-slice-aggregate-write-sector
-slice-aggregate-write-sector c = search needs
-
-write-sector-requires : tie.Need-write-sector-requires
-write-sector-requires c κs =
-    let file = c .before .before .before .before .before .before .before .before .before .before .before .before .before .before .before .before .pre in
+mul-lay : tie.Need-mul-lay
+mul-lay c =
+    let file = c .before .before .before .before .before .before .before .before .before .before .before .before .before .before .pre .0 in
     omega (arith, in-volume _ _ file, file .sound .size)
 
-slice-aggregate-write-sector-2 : tie.Need-slice-aggregate-write-sector-2
-slice-aggregate-write-sector-2 c = search needs
+lay-requires : tie.Need-lay-requires
+lay-requires c κs = search needs
 
-write-sector-requires-2 : tie.Need-write-sector-requires-2
-write-sector-requires-2 c κs = search needs
+slice-aggregate-write-sector : tie.Need-slice-aggregate-write-sector
+slice-aggregate-write-sector c = sym (ap length (c .before .before .before .before .before .before .moved .ensures) ∙ index-length _)
+
+write-sector-requires : tie.Need-write-sector-requires
+write-sector-requires c κs = search needs
 
 same-length-2 : tie.Need-same-length-2
 same-length-2 c = search needs
@@ -108,17 +109,18 @@ returns-3 : tie.Need-returns-3
 unfolding written
 returns-3 c =
     let second = c .before .before in
-    let first = second .before .before .before .before .before in
-    let index = first .before .before .before in
-    let descriptor = index .before .before in
-    let free = descriptor .before .before in
-    let told = free .before .before .before .before in
-    let a = told .before .before .before .before .before .before .args in
+    let first = c .before .before .before .before .before .before .before in
+    let index = c .before .before .before .before .before .before .before .before .before in
+    let free = c .before .before .before .before .before .before .before .before .before .before .before .before in
+    let told = c .before .before .before .before .before .before .before .before .before .before .before .before .before .before .before .before in
+    let start = c .before .before .before .before .before .before .before .before .before .before .before .before .before .before .before .before .before .before .before .before .before .before in
+    let a = start .args in
     let met =
     done-meets (a .image .now) (renaming (a .image .now) (a .new .now) (a .k)) _
     (passed _ _ _ _ (absent told) (unprotected (sectorOf (a .image .now) (a .k)) _ (status-is (free .before)) (free .if1 .left)))
     in
-    (met .0, rw (second .write-sector2 .ensures, first .write-sector .ensures, index .moved .ensures, descriptor .renamed .ensures) (met .1))
+    let named = first .lay .ensures ∙ sym (sector-laid (a .image .now) (a .k) (a .new .now) (omega (arith, name-is _ (start .pre .1) .ten))) in
+    (met .0, rw (second .write-sector .ensures, named, index .moved .ensures) (met .1))
 
 pub rename-at-spec : {M : Type 1} → statement M
 rename-at-spec =
@@ -131,12 +133,11 @@ rename-at-spec =
     byte-requires
     same-length
     returns
-    renamed-requires
     moved-requires
+    mul-lay
+    lay-requires
     slice-aggregate-write-sector
     write-sector-requires
-    slice-aggregate-write-sector-2
-    write-sector-requires-2
     same-length-2
     returns-2
     same-length-3
