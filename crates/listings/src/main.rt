@@ -81,14 +81,20 @@ fn write_listings(argument: &mut [u8], buffer: &mut [u8], text: &mut [u8]) -> bo
     true
 }
 
-// A text that cannot be written ends the run: no later one would do better.
-fn run(argument: &mut [u8], buffer: &mut [u8], text: &mut [u8]) {
+// A text that cannot be written ends the run: no later one would do better. The buffers are arrays
+// here, which have their lengths by their types; of a slice of a large array the prover would count
+// them.
+fn run(
+    argument: &mut [u8; ARGUMENT_ROOM],
+    buffer: &mut [u8; IMAGE_ROOM],
+    text: &mut [u8; TEXT_ROOM],
+) {
     if !write_listings(argument, buffer, text) {
         os::fail(b"standard output");
     }
 }
 
-// The buffers are lent from here, once, so that every other function works on plain slices.
+// The buffers are lent from here, once, so that every function below `run` works on plain slices.
 fn main() {
     let mut argument = [0u8; ARGUMENT_ROOM];
     let mut buffer = [0u8; IMAGE_ROOM];

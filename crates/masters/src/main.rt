@@ -163,14 +163,20 @@ fn write_lines(
     true
 }
 
-// A line that cannot be written ends the run: no later one would do better.
-fn run(argument: &mut [u8], source: &mut [u8], packed: &mut [u8], other: &mut [u8]) {
+// A line that cannot be written ends the run: no later one would do better. The buffers are arrays here, which have their lengths by
+// their types; of a slice of a large array the prover would count them.
+fn run(
+    argument: &mut [u8; ARGUMENT_ROOM],
+    source: &mut [u8; IMAGE_ROOM],
+    packed: &mut [u8; PACKED_ROOM],
+    other: &mut [u8; PACKED_ROOM],
+) {
     if !write_lines(argument, source, packed, other) {
         os::fail(b"standard output");
     }
 }
 
-// The buffers are lent from here, once, so that every other function works on plain slices.
+// The buffers are lent from here, once, so that every function below `run` works on plain slices.
 fn main() {
     let mut argument = [0u8; ARGUMENT_ROOM];
     let mut source = [0u8; IMAGE_ROOM];

@@ -127,7 +127,7 @@ slice-aggregate-spread-2 : tie.Need-slice-aggregate-spread-2
 slice-aggregate-spread-2 c = search needs
 
 spread-requires : tie.Need-spread-requires
-spread-requires c κs = search needs
+spread-requires c κs = (search needs, refl, search needs)
 
 same-length-3 : tie.Need-same-length-3
 same-length-3 c = search needs
