@@ -1,33 +1,23 @@
 -- Storing: which test gives which number, each where those before it have passed; and the writes where all have.
-use mathlib.Core.Path.{_≡_, refl, _∙_}
+use mathlib.Core.Path.{_≡_, refl}
 use mathlib.Core.Bool.{true, false}
-use mathlib.Core.List.{List, [], _∷_, _++_}
+use mathlib.Core.List.{List, _++_}
 use Prim.Native.Nat.{ℕ, _+_, _%_, _≤_, _<_}
 use native.Mathlib.Omega.{arith}
 use lib.ListN.{length}
 use borrow.Author.Tests.{lt-ltb, le-ltb, le-leb, lt-leb}
-use Rattle.rules.specs.Sectors.{Write, sectorOf, written}
+use Rattle.rules.specs.Sectors.{sectorOf}
 use Rattle.rules.specs.Map.{freeCount, marked, markedAll}
 use Rattle.rules.specs.Chain.{blocks, places}
 use Rattle.rules.specs.Choice.{descriptorChoice}
 use Rattle.rules.specs.Descriptor.{newDescriptor, withChain}
-use Rattle.rules.specs.Index.{indexOf}
-use Rattle.rules.specs.Volume.{files, placed}
-use Rattle.rules.specs.Outcome.{write, done, refusal, openOf}
+use Rattle.rules.specs.Volume.{files}
+use Rattle.rules.specs.Outcome.{done, refusal, openOf}
 use Rattle.rules.specs.Calls.Create.{entered}
 use Rattle.rules.specs.Calls.Store.{sectorsFor, dataWrites, storing, storeOf}
 use Rattle.rules.specs.declared.Opened.the-variants.{At, Refused}
-use Rattle.rules.proofs.Written.{written-both}
 use Rattle.rules.proofs.Changes.{add-present, add-refused, add-absent}
 use Rattle.storing.specs.Spread.{Spread}
-
--- the data, and behind them what enters the file
-pub written-entered : (image name : List ℕ) (k : ℕ) (first : List Write) (descriptor sector0 : List ℕ) (data-there made index after : List ℕ)
-    → data-there ≡ written image first → made ≡ descriptor → index ≡ indexOf (placed image name k (files image))
-    → after ≡ written data-there (write k made ∷ (write 0 sector0 ∷ (write 1 index ∷ []))) → after ≡ written image (first ++ entered image name k descriptor sector0)
-unfolding entered
-written-entered image name k first descriptor sector0 data-there made index after data-is made-is index-is after-is =
-    after-is ∙ rw (data-is, made-is, index-is) (written-both image first (entered image name k descriptor sector0))
 
 module _ (image name bytes : List ℕ) where
   pub too-long : 32768 < length bytes → storing image name bytes ≡ refusal 15
