@@ -2,16 +2,17 @@
 -- Assumes nothing.
 use mathlib.Core.Path.{_≡_, refl, sym, ap, _∙_}
 use mathlib.Core.Bool.{true, false}
-use mathlib.Core.List.{List}
+use mathlib.Core.List.{List, []}
 use Prim.Native.Nat.{ℕ, _<_}
 use native.Mathlib.Omega.{arith}
 use lib.ListN.{length}
 use borrow.Author.Tests.{le-ltb, lt-ltb, le-leb, lt-leb, not-true, not-false}
 use Rattle.rules.specs.Bytes.{wordAt}
-use Rattle.rules.specs.Sectors.{sectorOf}
+use Rattle.rules.specs.Sectors.{sectorOf, written}
 use Rattle.rules.specs.Map.{freeCount, marked}
 use Rattle.rules.specs.Descriptor.{newDescriptor}
-use Rattle.rules.specs.Volume.{files}
+use Rattle.rules.specs.Index.{numbers, indexOf}
+use Rattle.rules.specs.Volume.{files, placed}
 use Rattle.rules.specs.Choice.{descriptorChoice}
 use Rattle.rules.specs.Sound.{Sound}
 use Rattle.rules.specs.Outcome.{done, refusal}
@@ -19,6 +20,7 @@ use Rattle.rules.specs.Calls.Create.{createStatus, entered, creating}
 use Rattle.rules.proofs.Name.{name-is}
 use Rattle.rules.proofs.Outcome.{place-none, place-some, file-long}
 use Rattle.rules.proofs.Changes.{refusal-meets, done-meets}
+use Rattle.index.proofs.Entered.{written-entered}
 use borrow.Author.Needs.{needs}
 use Rattle.creating.proofs.create_new.Statement.{statement}
 use Rattle.creating.proofs.create_new.Tie as tie
@@ -42,10 +44,10 @@ module _ (image name : List ℕ) (status recordLength recordsPerSector : ℕ) wh
       unfolding creating
       taken none = rw (asked, lt-ltb (length (files image)) 127 few, lt-leb 1 (freeCount (sectorOf image 0)) (omega arith))
 
-      passed : (freeCount (sectorOf image 0) ≡ 0 → ⊥) → creating image name status recordLength recordsPerSector
-          ≡ done (entered image name (descriptorChoice (sectorOf image 0)) (newDescriptor name status recordsPerSector 0 recordLength) (marked 1 (sectorOf image 0) (descriptorChoice (sectorOf image 0))))
+      passed : (freeCount (sectorOf image 0) ≡ 0 → ⊥) → (k : ℕ) → k ≡ descriptorChoice (sectorOf image 0)
+          → creating image name status recordLength recordsPerSector ≡ done (entered image name k (newDescriptor name status recordsPerSector 0 recordLength) (marked 1 (sectorOf image 0) k))
       unfolding creating
-      passed some = rw (asked, lt-ltb (length (files image)) 127 few, le-leb 1 (freeCount (sectorOf image 0)) (omega (arith, some)))
+      passed some k is = rw (is, asked, lt-ltb (length (files image)) 127 few, le-leb 1 (freeCount (sectorOf image 0)) (omega (arith, some)))
 
 asked : (c : tie.Else1) → createStatus (c .before .before .before .before .args .status) ≡ true
 asked c = sym (c .before .create-status .ensures) ∙ not-false (c .before .create-status .result) (c .if1 .left)
@@ -139,7 +141,7 @@ same-length-3 : tie.Need-same-length-3
 same-length-3 c = search needs
 
 returns-4 : tie.Need-returns-4
-unfolding entered files
+unfolding files written
 returns-4 c =
     let entering = c .before .before in
     let index = entering .before .before .before .before .before in
@@ -148,18 +150,22 @@ returns-4 c =
     let copied = marking .before .before .before in
     let descriptor = copied .before .before .before .before in
     let choice = descriptor .before .before in
-    let sector0 = choice .before in
-    let some = sector0 .before .before in
+    let some = choice .before .before .before in
     let room = some .before .before .before .before in
     let start = room .before .before .before .before .before .before .before .before in
     let a = start .args in
+    let image = a .image .now in
+    let name = a .name .now in
+    let k = choice .descriptor-choice .result in
+    let chosen : k ≡ descriptorChoice (sectorOf image 0) = choice .descriptor-choice .ensures .0 ∙ ap descriptorChoice (choice .before .sector-of3 .ensures) in
+    let laid = marking .mark .ensures ∙ ap (λ (sector0 : List ℕ). marked 1 sector0 k) (copied .copy .ensures ∙ copied .before .sector-of4 .ensures) in
+    let indexed = index .index-with .ensures ∙ ap (λ (s : List ℕ). indexOf (placed image name k (numbers s))) (sector1 .sector-of5 .ensures) in
     let met =
-    done-meets (a .image .now) (creating (a .image .now) (a .name .now) (a .status) (a .record-length) (a .records-per-sector)) _
-    (passed _ _ _ _ _ (start .pre .0) (asked (room .before .before .before .before)) (sym (last-is (room .before)) ∙ room .if2 .left) (λ z. some .if3 .left (free-is (some .before) ∙ z)))
+    done-meets image (creating image name (a .status) (a .record-length) (a .records-per-sector)) _
+    (passed _ _ _ _ _ (start .pre .0) (asked (room .before .before .before .before)) (sym (last-is (room .before)) ∙ room .if2 .left) (λ z. some .if3 .left (free-is (some .before) ∙ z)) k chosen)
     in (
       met .0,
-      rw (entering .enter .ensures, index .index-with .ensures, sector1 .sector-of5 .ensures, marking .mark .ensures, copied .copy .ensures, copied .before .sector-of4 .ensures, descriptor .new-descriptor .ensures, choice .descriptor-choice .ensures .0, sector0 .sector-of3 .ensures)
-          (met .1),
+      written-entered image name k [] _ _ image _ _ _ _ refl (descriptor .new-descriptor .ensures) laid indexed (entering .enter .ensures) ∙ met .1,
     )
 
 pub create-new-spec : {M : Type 1} → statement M
