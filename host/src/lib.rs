@@ -9,6 +9,7 @@ pub mod images;
 pub mod library;
 pub mod outside;
 pub mod packing;
+mod paper;
 pub mod pnoelithe;
 pub mod random;
 pub mod reference;

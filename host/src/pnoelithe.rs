@@ -308,6 +308,12 @@ pub fn listing<'out>(image: &[u8], out: &'out mut [u8]) -> Result<&'out str, Ref
     Ok(std::str::from_utf8(&out[..length]).expect("names have bytes up to 126"))
 }
 
+/// The same text, with no buffer to lend.
+pub fn catalogue(image: &[u8]) -> Result<String, Refusal> {
+    let mut out = [0; LISTING_BYTES];
+    listing(image, &mut out).map(str::to_string)
+}
+
 /// Creates a data file without sectors.
 pub fn create(
     image: &mut [u8],

@@ -100,34 +100,32 @@ impl Calls {
 pub(crate) fn compared(call: &Call, image: &Image, random: &mut Random) -> Result<Answer, String> {
     let answer = call.by_reference(image.bytes);
     let planned = planned::answer(call, image);
-    let before = Lent::to(call, image.bytes, random);
-    let mut expected = before.clone();
+    let mut lent = Lent::to(call, image.bytes, random);
+    let (mut of_host, mut expected) = (lent.clone(), lent.clone());
     if let Ok(written) = &answer {
         expected.write(call, written);
     }
-    let mut lent = before.clone();
     let number = lent.call(call);
     let agreed = planned.as_ref().map_or(true, |planned| *planned == answer);
-    if !agreed || number != number_of(&answer) || lent != expected {
-        let planned = planned.map_or("not known".to_string(), |answer| describe(&answer));
-        let memory = lent.difference(&expected);
-        let memory = memory.unwrap_or_else(|| "memory as the reference has it".to_string());
-        let lines = [
-            format!("difference in {:?} on \"{}\"", call, image.what),
-            format!("library {}", number),
-            format!("reference {}", describe(&answer)),
-            format!("plan {}", planned),
-            memory,
-            format!("image kept as {}", image.keep()),
-        ];
-        return Err(lines.join("\n  "));
+    let is_right = agreed && number == number_of(&answer) && lent == expected;
+    // What a host calls takes the library at its word.
+    let by_host = is_right.then(|| of_host.call_of_host(call).map_or_else(Refusal::number, |()| 0));
+    if by_host == Some(number) && of_host == expected {
+        return Ok(answer);
     }
-    let mut lent = before;
-    let by_host = lent.call_of_host(call).map_or_else(Refusal::number, |()| 0);
-    if by_host != number || lent != expected {
-        return Err(format!("pnoelithe.rs gives otherwise than the library in {:?}", call));
-    }
-    Ok(answer)
+    let planned = planned.map_or("not known".to_string(), |answer| describe(&answer));
+    let by_host = by_host.map_or(String::new(), |number| format!(", by pnoelithe.rs {}", number));
+    let memory = if is_right { of_host } else { lent }.difference(&expected);
+    let memory = memory.unwrap_or_else(|| "memory as the reference has it".to_string());
+    let lines = [
+        format!("difference in {:?} on \"{}\"", call, image.what),
+        format!("library {}{}", number, by_host),
+        format!("reference {}", describe(&answer)),
+        format!("plan {}", planned),
+        memory,
+        format!("image kept as {}", image.keep()),
+    ];
+    Err(lines.join("\n  "))
 }
 
 /// How many calls are made on a disk as it was planned: few where there is little to read.

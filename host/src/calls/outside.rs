@@ -15,7 +15,7 @@ pub(super) fn files(image: &[u8]) -> Vec<(Name, usize)> {
 pub(super) fn texts(outside: &Outside) -> Result<(), String> {
     let Outside { name, image, rows, program, .. } = outside;
     let texts = [
-        ("listing by the library", rows, text(listing(image))),
+        ("listing by the library", rows, text(pnoelithe::catalogue(image))),
         ("summary and entries by the library", rows, text(summary_and_entries(image))),
         ("text of the catalogue program by the reference", program, reference::catalogue(image)),
     ];
@@ -29,11 +29,6 @@ pub(super) fn texts(outside: &Outside) -> Result<(), String> {
 
 fn text(lines: Result<String, Refusal>) -> String {
     lines.unwrap_or_else(|refusal| format!("REFUSED {}\n", refusal.number()))
-}
-
-fn listing(image: &[u8]) -> Result<String, Refusal> {
-    let mut out = [0; pnoelithe::LISTING_BYTES];
-    pnoelithe::listing(image, &mut out).map(str::to_string)
 }
 
 /// The same lines, put together from the calls that give their parts.

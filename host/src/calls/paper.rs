@@ -1,21 +1,18 @@
 //! What the paper itself prints and the calls so far can show, letter for letter.
 
-use crate::library;
+use crate::paper::{all_shown, formatted, CASE_M};
+use crate::pnoelithe::{self, Refusal};
 use crate::random::Random;
-use crate::reference::Geometry;
 use crate::volumes::{Disk, File, Name, Run, HEADER_BYTES, SECTOR_BYTES};
 
-const CASE_M: &str = "SHELF 64 57\nALPHA PROGRAM 300 2 U\nNOTES DIS/VAR 80 1 U\n";
-
 pub(super) fn cases(random: &mut Random) -> Result<(), String> {
-    let cases = [
-        ("case M", listing(&mut case_m(random).image) == CASE_M),
-        ("bench case 4", case_4()),
-        ("bench case 5", case_5()),
+    let listing = pnoelithe::catalogue(&case_m(random).image);
+    all_shown(&[
+        ("case M", listing == Ok(CASE_M.to_string())),
+        ("bench case 4", case_4() == Ok(true)),
+        ("bench case 5", case_5() == Ok(true)),
         ("bench case 10", case_10()),
-    ];
-    let wrong = cases.into_iter().find(|(_, shown)| !shown);
-    wrong.map_or(Ok(()), |(case, _)| Err(format!("the library does not show {}", case)))
+    ])
 }
 
 /// The disk of case M: the places are those of bench case 6.
@@ -42,39 +39,22 @@ fn header(name: &Name, status: u8, count: u8, end: u8, record_length: u8) -> [u8
 }
 
 /// "Map of an empty 35-sector volume: byte 56 is 03, byte 60 is F8; free 33."
-fn case_4() -> bool {
-    let (number, mut image) = formatted(35);
-    let mut free = 0;
-    let counted = library::free_count(&mut image, &mut free);
-    (number, image[56], image[60], counted, free) == (0, 0x03, 0xF8, 0, 33)
+fn case_4() -> Result<bool, Refusal> {
+    let image = formatted(35)?;
+    Ok((image[56], image[60], pnoelithe::free_count(&image)?) == (0x03, 0xF8, 33))
 }
 
 /// "Empty 360: bytes 57-100 are 00, 101-255 are FF."
-fn case_5() -> bool {
-    let (number, image) = formatted(360);
+fn case_5() -> Result<bool, Refusal> {
+    let image = formatted(360)?;
     let zeros = image[57..=100].iter().all(|byte| *byte == 0x00);
-    number == 0 && zeros && image[101..=255].iter().all(|byte| *byte == 0xFF)
+    Ok(zeros && image[101..=255].iter().all(|byte| *byte == 0xFF))
 }
 
 /// "Image of 512 bytes: 1; of 768 bytes, formatted: 0."
 fn case_10() -> bool {
-    let (two, three) = (formatted(2), formatted(3));
-    let judged = [&two.1, &three.1].map(|image| library::number(image));
-    (two.0, three.0, judged) == (1, 0, [1, 0])
-}
-
-/// An image of so many sectors after formatting, and the number that formatting gave.
-fn formatted(sectors: usize) -> (u32, Vec<u8>) {
-    let mut image = vec![0; SECTOR_BYTES * sectors];
-    let geometry = Geometry { sectors_per_track: 9, tracks: 40, sides: 1, density: 1 };
-    let number = library::format(&mut image, sectors, &mut b"SHELF     ".to_owned(), geometry);
-    (number, image)
-}
-
-/// The library's listing; of an image that it refuses, nothing.
-fn listing(image: &mut [u8]) -> String {
-    let (mut text, mut length) = (vec![0; 200], 0);
-    library::listing(image, &mut text, &mut length);
-    text.truncate(length);
-    String::from_utf8_lossy(&text).into_owned()
+    let of_512_bytes = pnoelithe::judge(&[0; 2 * SECTOR_BYTES]);
+    let of_768_bytes = formatted(3).and_then(|image| pnoelithe::judge(&image));
+    let refused = Err(Refusal::Length);
+    formatted(2).map(|_| ()) == refused && of_512_bytes == refused && of_768_bytes == Ok(())
 }

@@ -3,14 +3,11 @@
 use super::planned;
 use crate::calls::lent::Part;
 use crate::library;
-use crate::pnoelithe;
+use crate::pnoelithe::{self, catalogue};
 use crate::random::Random;
 use crate::reference::{self, Refusal};
 use crate::sequences::Shelf;
 use crate::suites::Image;
-
-/// Room for the text of any catalogue.
-const LISTING_BYTES: usize = 5000;
 
 /// The bytes of the target, or the number of a refusal.
 pub(super) type Answer = Result<Vec<u8>, u32>;
@@ -76,8 +73,10 @@ pub(super) fn compared(
 fn is_so_for_host(source: &[u8], answer: &Answer, mut target: Vec<u8>) -> bool {
     let before = target.clone();
     let done = pnoelithe::pack(source, &mut target).map_err(pnoelithe::Refusal::number);
-    target == *answer.as_ref().unwrap_or(&before)
-        && done == answer.as_ref().map_or_else(|number| Err(*number), |_| Ok(()))
+    match answer {
+        Ok(packed) => done == Ok(()) && target == *packed,
+        Err(number) => done == Err(*number) && target == before,
+    }
 }
 
 /// What packing must keep and has not, as far as the volume can be read.
@@ -87,7 +86,7 @@ fn not_kept(source: &[u8], packed: &[u8], random: &mut Random) -> Option<String>
         (number == 0, "is not sound"),
         (source[..56] == packed[..56], "has another label area"),
         (Shelf::of(source).is_on(packed), "has another catalogue"),
-        (listing(source) == listing(packed), "is listed otherwise"),
+        (catalogue(source) == catalogue(packed), "is listed otherwise"),
         (number != 0 || is_left_by_packing(packed, random), "is packed to other bytes again"),
     ];
     let broken = rules.into_iter().find(|(kept, _)| !kept);
@@ -99,12 +98,4 @@ fn is_left_by_packing(packed: &[u8], random: &mut Random) -> bool {
     let mut lent = expected.clone();
     expected.target.lent().copy_from_slice(packed);
     lent.pack() == 0 && lent.difference(&expected).is_none()
-}
-
-/// The library's listing, and the number that it gives.
-fn listing(image: &[u8]) -> (u32, Vec<u8>) {
-    let (mut text, mut length) = (vec![0; LISTING_BYTES], 0);
-    let number = library::listing(&mut image.to_vec(), &mut text, &mut length);
-    text.truncate(length);
-    (number, text)
 }

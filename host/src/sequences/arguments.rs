@@ -105,6 +105,7 @@ impl Desk<'_> {
         let new = match random.below(10) {
             0 => name.clone(),
             1 | 2 => self.present(|_| true, random),
+            3 => malformed(random),
             _ => self.new_name(random),
         };
         Write::Rename { name, new }
@@ -137,7 +138,7 @@ impl Desk<'_> {
         }
         match some_file(self.disk, |_| true, random) {
             Some(file) if random.once_in(2) => Given::whole(&file.name()),
-            _ => Given::whole(&random.pick(&[[b' '; 10], *b"A.B       ", *b"A B       "])),
+            _ => malformed(random),
         }
     }
 
@@ -152,6 +153,10 @@ impl Desk<'_> {
 
 fn is_open_data(file: &File) -> bool {
     file.count() > 0 && !is_protected(file) && !is_program(file)
+}
+
+fn malformed(random: &mut Random) -> Given {
+    Given::whole(&random.pick(&[[b' '; 10], *b"A.B       ", *b"A B       "]))
 }
 
 /// A name with another last letter.

@@ -6,24 +6,21 @@ use super::sequence::Sequence;
 use super::tally::Tally;
 use super::Write;
 use crate::calls::{Call, Given};
-use crate::library;
+use crate::paper::{all_shown, CASE_M};
+use crate::pnoelithe::{catalogue, padded};
 use crate::random::Random;
 use crate::reference::Geometry;
 use crate::volumes::{Disk, MOST_FILES, SECTOR_BYTES};
 
-const CASE_M: &str = "SHELF 64 57\nALPHA PROGRAM 300 2 U\nNOTES DIS/VAR 80 1 U\n";
-
 pub(super) fn cases(random: &mut Random, tally: &mut Tally) -> Result<(), String> {
     let mut bench = Bench { random, tally };
-    let cases = [
+    all_shown(&[
         ("case M and bench cases 6, 7 and 9", bench.case_m()?),
         ("bench case 11", bench.case_11()?),
         ("bench case 12", bench.case_12()?),
         ("bench case 13", bench.case_13()?),
         ("the four statuses of create", bench.statuses()?),
-    ];
-    let wrong = cases.into_iter().find(|(_, shown)| !shown);
-    wrong.map_or(Ok(()), |(case, _)| Err(format!("the library does not show {}", case)))
+    ])
 }
 
 struct Bench<'comparison> {
@@ -72,13 +69,14 @@ impl Bench<'_> {
             self.create(&mut sequence, "NOTES", 0x80)?,
             self.append(&mut sequence, "NOTES")?,
         ];
-        let image = &mut sequence.disk.image;
+        let image = &sequence.disk.image;
         let (alpha, notes) = (image[512..768].to_vec(), image[768..1024].to_vec());
         let placed = alpha[..5] == *b"ALPHA" && alpha[28..31] == [0x22, 0x10, 0x00];
         let listed = notes[..5] == *b"NOTES" && notes[28..31] == [0x24, 0x00, 0x00];
         let map = image[56] == 0x0F && image[60] == 0x1C;
         let length = alpha[14..17] == [0, 2, 44];
-        Ok(numbers == [0; 3] && placed && listed && map && length && listing(image) == CASE_M)
+        let is_listed = catalogue(image) == Ok(CASE_M.to_string());
+        Ok(numbers == [0; 3] && placed && listed && map && length && is_listed)
     }
 
     /// "Two sectors stored on an empty 35-sector volume: blocks 34 then 3."
@@ -128,13 +126,5 @@ impl Bench<'_> {
 }
 
 fn named(name: &str) -> Given {
-    Given::whole(format!("{:<10}", name).as_bytes())
-}
-
-/// The library's listing; of an image that it refuses, nothing.
-fn listing(image: &mut [u8]) -> String {
-    let (mut text, mut length) = (vec![0; 200], 0);
-    library::listing(image, &mut text, &mut length);
-    text.truncate(length);
-    String::from_utf8_lossy(&text).into_owned()
+    Given::whole(&padded(name))
 }

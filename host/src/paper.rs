@@ -1,0 +1,23 @@
+//! What the paper prints, as far as several parts of the comparison show it.
+
+use crate::pnoelithe::{self, Geometry, Refusal};
+use crate::volumes::SECTOR_BYTES;
+
+/// The listing of case M.
+pub(crate) const CASE_M: &str = "SHELF 64 57\nALPHA PROGRAM 300 2 U\nNOTES DIS/VAR 80 1 U\n";
+
+/// Fails where a case is not shown.
+pub(crate) fn all_shown(cases: &[(&str, bool)]) -> Result<(), String> {
+    match cases.iter().find(|(_, is_shown)| !is_shown) {
+        Some((case, _)) => Err(format!("the library does not show {}", case)),
+        None => Ok(()),
+    }
+}
+
+/// An empty volume of so many sectors.
+pub(crate) fn formatted(sectors: usize) -> Result<Vec<u8>, Refusal> {
+    let mut image = vec![0; SECTOR_BYTES * sectors];
+    let geometry = Geometry { sectors_per_track: 9, tracks: 40, sides: 1, density: 1 };
+    pnoelithe::format(&mut image, sectors, b"SHELF     ", geometry)?;
+    Ok(image)
+}
