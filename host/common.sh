@@ -51,6 +51,12 @@ prepare_c() {
     fi
 }
 
+# Compiles the example host.
+compile_example() {
+    "${compiler[@]}" -std=c11 -O2 -Wall -Wextra -Werror -pedantic -I"$top/include" \
+        "$host/example.c" "$archive" -o "$out/example"
+}
+
 # Sets $archive, made anew where a source is younger: that takes a proof.
 find_archive() {
     if [ -n "${PNO_ARCHIVE:-}" ]; then

@@ -6,6 +6,7 @@
  *     ./example IMAGE                        the catalogue
  *     ./example IMAGE judge                  whether it is a sound volume, and if not, why
  *     ./example IMAGE load NAME FILE         the program NAME into FILE
+ *     ./example IMAGE read NAME FILE         the sectors of NAME, whatever its kind, into FILE
  *     ./example IMAGE store NAME FILE        FILE as a new program NAME
  *     ./example IMAGE append NAME FILE       FILE at the end of the data file NAME, which is made where there is
  *                                            none; the rest of the last sector is zero
@@ -72,6 +73,18 @@ static uint32_t load(const uint8_t name[10], const char *path) {
     if (number == PNO_DONE)
         write_file(path, bytes, length);
     return number;
+}
+
+static uint32_t read_sectors(const uint8_t name[10], const char *path) {
+    uint32_t number;
+    size_t length = 0;
+    while ((number = pno_read(image, image_len, name, 10, length / SECTOR, bytes + length, SECTOR)) == PNO_DONE)
+        length += SECTOR;
+    if (number != PNO_SIZE)
+        return number;
+    /* There is no sector at that offset: it is past the last one. */
+    write_file(path, bytes, length);
+    return PNO_DONE;
 }
 
 static uint32_t store(const uint8_t name[10], const char *path) {
@@ -141,8 +154,8 @@ static const struct command {
     int words;  /* of the command line: the first after the command as a name, the last as a path */
     int writes; /* the image, which then goes back to its file */
     uint32_t (*call)(const uint8_t name[10], const char *path);
-} commands[] = {{"judge", 3, 0, judge},   {"load", 5, 0, load},     {"store", 5, 1, store},
-                {"append", 5, 1, append}, {"delete", 4, 1, delete}, {"pack", 4, 0, pack}};
+} commands[] = {{"judge", 3, 0, judge}, {"load", 5, 0, load},     {"read", 5, 0, read_sectors}, {"store", 5, 1, store},
+                {"pack", 4, 0, pack},   {"append", 5, 1, append}, {"delete", 4, 1, delete}};
 
 int main(int argc, char **argv) {
     const struct command *command = NULL;
@@ -150,7 +163,7 @@ int main(int argc, char **argv) {
         if (argc == commands[i].words && strcmp(argv[2], commands[i].word) == 0)
             command = &commands[i];
     if (argc != 2 && command == NULL) {
-        fprintf(stderr, "usage: example IMAGE [judge | (load | store | append) NAME FILE | delete NAME | pack FILE]\n");
+        fprintf(stderr, "usage: example IMAGE [judge | (load | read | store | append) NAME FILE | delete NAME | pack FILE]\n");
         return 2;
     }
     image_len = read_file(argv[1], image, sizeof image);

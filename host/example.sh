@@ -10,7 +10,6 @@ host=$(cd "$(dirname "${BASH_SOURCE[0]}")" && pwd)
 . "$host/common.sh"
 work=$out/example-files
 disk=$work/disk.dsk
-strict=(-Wall -Wextra -Werror -pedantic -I"$top/include")
 steps=0
 
 fail() {
@@ -18,13 +17,14 @@ fail() {
     exit 1
 }
 
-compile() {
-    "${compiler[@]}" -std=c11 -O2 "${strict[@]}" "$host/example.c" "$archive" -o "$out/example"
+# The header must be one for C++ too.
+compile_as_cpp() {
     if command -v g++ >/dev/null; then
-        echo '#include "pnoelithe.h"' | g++ -std=c++11 "${strict[@]}" -fsyntax-only -x c++ -
-        echo "the header compiles as C11 and as C++11"
+        echo '#include "pnoelithe.h"' |
+            g++ -std=c++11 -Wall -Wextra -Werror -pedantic -I"$top/include" -fsyntax-only -x c++ -
+        echo "the header compiles as C++11"
     else
-        echo "the header compiles as C11; as C++ it is left out, there is no g++"
+        echo "the header is not compiled as C++: there is no g++"
     fi
 }
 
@@ -127,6 +127,9 @@ TEXT DIS/FIX 128 2 U" "$disk"
     from_sector "$disk" 41 768 >"$work/found"
     { cat "$work/text" && head -c 212 /dev/zero && cat "$work/note"; } >"$work/expected"
     must_be_same "$work/expected" "$work/found"
+    step 0 "" "$disk" read NOTES "$work/found"
+    { from_sector "$disk" 36 256 && cat "$work/note"; } >"$work/expected"
+    must_be_same "$work/expected" "$work/found"
 }
 
 # 48 sectors are free; the example appends them one by one, and keeps none where the next is refused.
@@ -142,7 +145,8 @@ be_refused() {
     refusal "number 14: the file is of another kind" "$disk" load NOTES "$work/nothing"
     refusal "number 14: the file is of another kind" "$disk" append BETA "$work/note"
     refusal "number 15: that is too long" "$disk" store LONG "$work/too-long"
-    [ ! -e "$work/nothing" ] || fail "a refused load has written a file"
+    refusal "number 8: there is no such file" "$disk" read GAMMA "$work/nothing"
+    [ ! -e "$work/nothing" ] || fail "a refused call has written a file"
 }
 
 # Sectors 2, 34 and 35 are free again, and ALPHA's bytes still lie there.
@@ -198,7 +202,8 @@ judge_others() {
 
 prepare_c
 find_archive
-compile
+compile_example
+compile_as_cpp
 sample=$top/crates/catalogue/stdin
 if [ ! -f "$sample" ]; then
     echo "the example host is not run: the repository has no crates/catalogue"
