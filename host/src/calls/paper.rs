@@ -12,7 +12,30 @@ pub(super) fn cases(random: &mut Random) -> Result<(), String> {
         ("bench case 4", case_4() == Ok(true)),
         ("bench case 5", case_5() == Ok(true)),
         ("bench case 10", case_10()),
+        ("the paper's numbers in pnoelithe.rs", numbers()),
     ])
+}
+
+/// The table of numbers, in its order.
+fn numbers() -> bool {
+    let refusals = [
+        (Refusal::Length, 1),
+        (Refusal::Label, 2),
+        (Refusal::Index, 3),
+        (Refusal::Descriptor, 4),
+        (Refusal::TwoHolders, 5),
+        (Refusal::Map, 6),
+        (Refusal::Name, 7),
+        (Refusal::NotFound, 8),
+        (Refusal::Present, 9),
+        (Refusal::Protected, 10),
+        (Refusal::NotProgram, 14),
+        (Refusal::Size, 15),
+        (Refusal::IndexFull, 11),
+        (Refusal::DiskFull, 12),
+        (Refusal::ChainFull, 13),
+    ];
+    refusals.into_iter().all(|(refusal, number)| refusal.number() == number)
 }
 
 /// The disk of case M: the places are those of bench case 6.
