@@ -144,7 +144,7 @@ uint32_t pno_load(const uint8_t *image, size_t image_len, const uint8_t *name, s
  * newline at the end of each line; no byte of zero ends the text.
  *
  * Numbers: 1 to 6; 15 where out_len is below the length of the text. 4,593 bytes are always enough.
- * Stack: at most 6,568 bytes.
+ * Stack: at most 1,816 bytes.
  */
 uint32_t pno_listing(const uint8_t *image, size_t image_len, uint8_t *out, size_t out_len, size_t *length);
 
@@ -178,7 +178,7 @@ uint32_t pno_create(uint8_t *image, size_t image_len, const uint8_t *name, size_
  *
  * Numbers: 1 to 6; 7; 8; 10; 14 for a program; 15 where data_len is not 256; 12; 13, which is not due where
  * the sector that is taken follows the file's last one.
- * Stack: at most 2,776 bytes.
+ * Stack: at most 2,520 bytes.
  */
 uint32_t pno_append(uint8_t *image, size_t image_len, const uint8_t *name, size_t name_len,
                     const uint8_t *data, size_t data_len);
@@ -200,7 +200,7 @@ uint32_t pno_overwrite(uint8_t *image, size_t image_len, const uint8_t *name, si
  *
  * Numbers: 1 to 6; 7; 9; 15 where bytes_len is above 32,768; 11; 12, the descriptor's sector being counted;
  * 13.
- * Stack: at most 3,848 bytes.
+ * Stack: at most 3,352 bytes.
  */
 uint32_t pno_store(uint8_t *image, size_t image_len, const uint8_t *name, size_t name_len,
                    const uint8_t *bytes, size_t bytes_len);
@@ -210,7 +210,7 @@ uint32_t pno_store(uint8_t *image, size_t image_len, const uint8_t *name, size_t
  * themselves keep their bytes.
  *
  * Numbers: 1 to 6; 7; 8; 10.
- * Stack: at most 2,712 bytes.
+ * Stack: at most 2,456 bytes.
  */
 uint32_t pno_delete(uint8_t *image, size_t image_len, const uint8_t *name, size_t name_len);
 
@@ -218,7 +218,7 @@ uint32_t pno_delete(uint8_t *image, size_t image_len, const uint8_t *name, size_
  * Renames a file: the ten bytes of its name, and its place in sector 1.
  *
  * Numbers: 1 to 6; 7 for either name; 8 for the old one; 9 for the new one, also where it is the old one; 10.
- * Stack: at most 2,968 bytes.
+ * Stack: at most 2,456 bytes.
  */
 uint32_t pno_rename(uint8_t *image, size_t image_len, const uint8_t *old, size_t old_len,
                     const uint8_t *new_name, size_t new_len);
@@ -227,7 +227,7 @@ uint32_t pno_rename(uint8_t *image, size_t image_len, const uint8_t *old, size_t
  * Protects a file, and unprotects it: one bit of its status. Either may be done again.
  *
  * Numbers: 1 to 6; 7; 8.
- * Stack: at most 2,440 bytes.
+ * Stack: at most 1,896 bytes.
  */
 uint32_t pno_protect(uint8_t *image, size_t image_len, const uint8_t *name, size_t name_len);
 uint32_t pno_unprotect(uint8_t *image, size_t image_len, const uint8_t *name, size_t name_len);
@@ -241,7 +241,7 @@ uint32_t pno_unprotect(uint8_t *image, size_t image_len, const uint8_t *name, si
  * and packing what was packed changes nothing. The source is read and never changed.
  *
  * Numbers: 1 to 6 for the source; 15 where target_len is not source_len.
- * Stack: at most 2,456 bytes.
+ * Stack: at most 2,392 bytes.
  */
 uint32_t pno_pack(const uint8_t *source, size_t source_len, uint8_t *target, size_t target_len);
 
