@@ -64,7 +64,8 @@ find_archive() {
         return
     fi
     archive=$top/target/staticlib/libpnoelithe.a
-    if [ ! -f "$archive" ] || [ -n "$(find "$top/crates" -name '*.rt' -newer "$archive")" ]; then
+    if [ ! -f "$archive" ] ||
+        [ -n "$(find "$top/crates" -name '*.rt' -newer "$archive" 2>/dev/null)" ]; then
         (cd "$top" && rt staticlib pnoelithe >&2)
     fi
 }
