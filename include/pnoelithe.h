@@ -10,7 +10,7 @@
  *   - The name begins with pno_.
  *   - A buffer is a pointer and, right after it, its length in bytes. An empty buffer may have any pointer
  *     that is not null.
- *   - Buffers of one call do not overlap.
+ *   - A buffer that a call writes, the image among them, overlaps no other buffer of that call.
  *   - Counts, places and offsets are size_t; a value goes back through a pointer.
  *   - The result is one of the numbers below. With any number but 0 the call has written nothing: no byte of
  *     a buffer, and nothing behind a pointer.
