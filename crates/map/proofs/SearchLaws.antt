@@ -7,10 +7,9 @@ use native.Mathlib.Omega.{arith}
 use native.Mathlib.Nat.{mod-lt}
 use native.Mathlib.Decide.{decLt, ℕ-discrete}
 use lib.ListN.{length}
-use borrow.Author.Tests.{lt-ltb, le-ltb}
 use Rattle.rules.specs.Bytes.{byteAt, bitOf}
 use Rattle.rules.specs.Map.{mapBit, marked}
-use Rattle.rules.specs.Choice.{lowestFree, dataChoice}
+use Rattle.rules.specs.Choice.{lowestFree}
 use Rattle.rules.proofs.Map.{by-eight}
 use Rattle.rules.proofs.Marking.{marked-here, marked-other}
 use Rattle.rules.proofs.Choice.{lowest-step, lowest-from, lowest-to, lowest-first}
@@ -59,15 +58,7 @@ lowest-on sector0 from at end low high full =
     let f : from + (at - from) ≡ at = omega arith in
     rw e (sym (rw f at (lowest-past sector0 (at - from) (end - at) from (λ i l h. full i l (omega (arith, f))))))
 
--- what the search finds
-pub found-high : (sector0 : List ℕ) → lowestFree sector0 1566 34 < 1600 → dataChoice sector0 ≡ lowestFree sector0 1566 34
-unfolding dataChoice
-found-high sector0 h = rw (lt-ltb (lowestFree sector0 1566 34) 1600 h)
-
-pub found-low : (sector0 : List ℕ) → 1600 ≤ lowestFree sector0 1566 34 → dataChoice sector0 ≡ lowestFree sector0 32 2
-unfolding dataChoice
-found-low sector0 h = rw (le-ltb (lowestFree sector0 1566 34) 1600 h)
-
+-- a sector taken meanwhile leaves what was passed
 pub searched-marked : (sector0 : List ℕ) (search : Search) (k : ℕ) → length sector0 ≡ 256 → Searched sector0 search → Searched (marked 1 sector0 k) search
 searched-marked sector0 search k long is =
     let kept : (i : ℕ) → i < 1600 → mapBit (marked 1 sector0 k) i ≡ 0 → mapBit sector0 i ≡ 0 = still in

@@ -1,11 +1,10 @@
 -- Where a descriptor and data go: the search for a free sector a sector at a time, the range of what it finds, and that what is chosen was free.
 use mathlib.Core.Path.{_≡_, refl, sym, ap, _∙_}
-use mathlib.Core.Bool.{Bool, true, false, cond}
+use mathlib.Core.Bool.{Bool, cond}
 use mathlib.Core.List.{List, [], _∷_}
 use Prim.Native.Nat.{ℕ, zero, suc, _+_, _≤_, _<_}
 use native.Mathlib.Omega.{arith}
 use native.Mathlib.Decide.{decLt, ℕ-discrete}
-use lib.Dec.{ltb}
 use lib.ListN.{length}
 use borrow.Author.Tests.{eq-eqb, ne-eqb, lt-ltb, le-ltb}
 use Rattle.rules.specs.Sectors.{sectorOf, sectorCount}
@@ -75,14 +74,22 @@ lowest-of sector0 many from k low high free =
       | no behind ↦ omega arith
     ]
 
+-- the choice of data by its cases: from 34 up while a sector is free there, then from 2 up
+pub data-choice-high : (sector0 : List ℕ) → lowestFree sector0 1566 34 < 1600 → dataChoice sector0 ≡ lowestFree sector0 1566 34
+unfolding dataChoice
+data-choice-high sector0 found = ap (λ (t : Bool). cond t (lowestFree sector0 1566 34) (lowestFree sector0 32 2)) (lt-ltb (lowestFree sector0 1566 34) 1600 found)
+
+pub data-choice-full : (sector0 : List ℕ) → 1600 ≤ lowestFree sector0 1566 34 → dataChoice sector0 ≡ lowestFree sector0 32 2
+unfolding dataChoice
+data-choice-full sector0 full = ap (λ (t : Bool). cond t (lowestFree sector0 1566 34) (lowestFree sector0 32 2)) (le-ltb (lowestFree sector0 1566 34) 1600 full)
+
 -- whatever the map says, what is chosen is never sector 0 or 1
 pub data-choice-range : (sector0 : List ℕ) → (2 ≤ dataChoice sector0) × (dataChoice sector0 ≤ 1600)
-unfolding dataChoice
-data-choice-range sector0 = go (ltb (lowestFree sector0 1566 34) 1600)
-  where
-    go : (t : Bool) → (2 ≤ cond t (lowestFree sector0 1566 34) (lowestFree sector0 32 2)) × (cond t (lowestFree sector0 1566 34) (lowestFree sector0 32 2) ≤ 1600)
-    go true = (omega (arith, lowest-from sector0 1566 34), lowest-to sector0 1566 34)
-    go false = (lowest-from sector0 32 2, omega (arith, lowest-to sector0 32 2))
+data-choice-range sector0 =
+    elim (decLt (lowestFree sector0 1566 34) 1600) [
+      | yes found ↦ rw (data-choice-high sector0 found) (omega (arith, lowest-from sector0 1566 34), lowest-to sector0 1566 34)
+      | no full ↦ rw (data-choice-full sector0 (omega arith)) (lowest-from sector0 32 2, omega (arith, lowest-to sector0 32 2))
+    ]
 
 -- and it is the lowest: of a descriptor from 2 up, of data from 34 up, and below 34 only when none is left there
 pub descriptor-choice-lowest : (sector0 : List ℕ) (k : ℕ) → 2 ≤ k → k < 1600 → mapBit sector0 k ≡ 0 → descriptorChoice sector0 ≤ k
@@ -90,17 +97,15 @@ unfolding descriptorChoice
 descriptor-choice-lowest sector0 k low high free = lowest-of sector0 1598 2 k low high free
 
 pub data-choice-lowest : (sector0 : List ℕ) (k : ℕ) → 34 ≤ k → k < 1600 → mapBit sector0 k ≡ 0 → (34 ≤ dataChoice sector0) × (dataChoice sector0 ≤ k)
-unfolding dataChoice
 data-choice-lowest sector0 k low high free =
     let here = lowest-of sector0 1566 34 k low high free in
-    rw (lt-ltb (lowestFree sector0 1566 34) 1600 (omega (arith, here))) (lowest-from sector0 1566 34, here)
+    rw (data-choice-high sector0 (omega (arith, here))) (lowest-from sector0 1566 34, here)
 
 pub data-choice-low : (sector0 : List ℕ) → ((k : ℕ) → 34 ≤ k → k < 1600 → mapBit sector0 k ≡ 0 → ⊥) → (k : ℕ) → 2 ≤ k → k < 34 → mapBit sector0 k ≡ 0 → dataChoice sector0 ≤ k
-unfolding dataChoice
 data-choice-low sector0 none k low high free =
     elim (decLt (lowestFree sector0 1566 34) 1600) [
       | yes found ↦ absurd (none (lowestFree sector0 1566 34) (lowest-from sector0 1566 34) found (lowest-is-free sector0 1566 34 found))
-      | no full ↦ rw (le-ltb (lowestFree sector0 1566 34) 1600 (omega arith)) (lowest-of sector0 32 2 k low high free)
+      | no full ↦ rw (data-choice-full sector0 (omega arith)) (lowest-of sector0 32 2 k low high free)
     ]
 
 -- several choices, one at a time
@@ -187,11 +192,10 @@ module _ (n : ℕ) (sector0 : List ℕ) (fence : Fenced n sector0) where
         free-chosen (lowestFree sector0 1598 2) (lowest-from sector0 1598 2) found (lowest-is-free sector0 1598 2 found)
 
     pub data-choice-free : Chosen n sector0 (dataChoice sector0)
-    unfolding dataChoice
     data-choice-free =
         elim (decLt (lowestFree sector0 1566 34) 1600) [
           | yes high ↦
-              rw (lt-ltb (lowestFree sector0 1566 34) 1600 high)
+              rw (data-choice-high sector0 high)
               (free-chosen (lowestFree sector0 1566 34) (omega (arith, lowest-from sector0 1566 34)) high (lowest-is-free sector0 1566 34 high))
           | no none ↦
               let empty : zeroBits sector0 1566 34 ≡ 0 =
@@ -201,7 +205,7 @@ module _ (n : ℕ) (sector0 : List ℕ) (fence : Fenced n sector0) where
               ]
               in
               let found = lowest-found sector0 32 2 (omega (arith, free-from-two, zeros-split sector0 32 1566 2)) in
-              rw (le-ltb (lowestFree sector0 1566 34) 1600 (omega arith))
+              rw (data-choice-full sector0 (omega arith))
               (free-chosen (lowestFree sector0 32 2) (lowest-from sector0 32 2) (omega arith) (lowest-is-free sector0 32 2 found))
         ]
 
