@@ -1,3 +1,4 @@
+-- What is shown of the rules: the words of the demands, the demands, and the versions that they shut out.
 pub mod Catalogue
 pub mod Effects
 pub mod Call

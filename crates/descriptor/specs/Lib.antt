@@ -1,1 +1,2 @@
+-- The cursor over a chain.
 pub mod Cursor

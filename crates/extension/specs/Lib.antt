@@ -1,2 +1,3 @@
+-- A chain with one sector more.
 pub mod Tip
 pub mod Built

@@ -1,1 +1,2 @@
+-- What the drive is like.
 pub mod Geometry

@@ -1,1 +1,2 @@
+-- What the text leaves in its buffer.
 pub mod Laid

@@ -1,1 +1,2 @@
+-- How far a search has come.
 pub mod Search

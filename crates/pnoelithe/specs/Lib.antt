@@ -1,1 +1,2 @@
+-- How values cross to C.
 pub mod Crossing

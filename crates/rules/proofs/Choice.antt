@@ -97,9 +97,10 @@ unfolding descriptorChoice
 descriptor-choice-lowest sector0 k low high free = lowest-of sector0 1598 2 k low high free
 
 pub data-choice-lowest : (sector0 : List ℕ) (k : ℕ) → 34 ≤ k → k < 1600 → mapBit sector0 k ≡ 0 → (34 ≤ dataChoice sector0) × (dataChoice sector0 ≤ k)
+unfolding dataChoice
 data-choice-lowest sector0 k low high free =
     let here = lowest-of sector0 1566 34 k low high free in
-    rw (data-choice-high sector0 (omega (arith, here))) (lowest-from sector0 1566 34, here)
+    rw (lt-ltb (lowestFree sector0 1566 34) 1600 (omega (arith, here))) (lowest-from sector0 1566 34, here)
 
 pub data-choice-low : (sector0 : List ℕ) → ((k : ℕ) → 34 ≤ k → k < 1600 → mapBit sector0 k ≡ 0 → ⊥) → (k : ℕ) → 2 ≤ k → k < 34 → mapBit sector0 k ≡ 0 → dataChoice sector0 ≤ k
 data-choice-low sector0 none k low high free =

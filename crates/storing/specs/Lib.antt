@@ -1,1 +1,2 @@
+-- A program spread over free sectors.
 pub mod Spread
