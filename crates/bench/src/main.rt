@@ -7,7 +7,7 @@
 use appending::append;
 use creating::create;
 use descriptor::chain::place_at;
-use filing::delete;
+use deleting::delete;
 use formatting::format::Geometry;
 use formatting::format::format;
 use judge::judge;

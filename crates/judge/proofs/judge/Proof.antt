@@ -10,7 +10,8 @@ use Rattle.rules.specs.Label.{labelRule}
 use Rattle.rules.specs.Index.{indexRule}
 use Rattle.rules.specs.Map.{taken, mapRule}
 use Rattle.rules.specs.Volume.{files, holders}
-use Rattle.rules.specs.Verdict.{sizeRule, descriptorsRule, heldTwice, verdict}
+use Rattle.rules.specs.Tests.{firstOf}
+use Rattle.rules.specs.Verdict.{sizeRule, descriptorsRule, heldTwice, volumeTests, verdict}
 use Rattle.rules.proofs.Bytes.{part-length}
 use Rattle.rules.proofs.Sectors.{sector-length, sector-below}
 use Rattle.rules.proofs.Map.{bits-agree}
@@ -23,15 +24,15 @@ use Rattle.judge.proofs.judge.Statement.{statement}
 use Rattle.judge.proofs.judge.Tie as tie
 
 returns : tie.Need-returns
-unfolding verdict sizeRule
+unfolding verdict volumeTests firstOf sizeRule
 returns c = rw (ne-eqb _ _ (c .if1 .taken))
 
 returns-2 : tie.Need-returns-2
-unfolding verdict sizeRule
+unfolding verdict volumeTests firstOf sizeRule
 returns-2 c = rw (eq-eqb _ _ (c .before .if1 .left), lt-leb _ _ (c .if2 .taken))
 
 returns-3 : tie.Need-returns-3
-unfolding verdict sizeRule
+unfolding verdict volumeTests firstOf sizeRule
 returns-3 c = rw (eq-eqb _ _ (c .before .before .if1 .left), le-leb _ _ (c .before .if2 .left), lt-leb _ _ (c .if3 .taken))
 
 sector-of-requires : tie.Need-sector-of-requires
@@ -70,7 +71,7 @@ described : (c : tie.Else6) →
 described c = sym (c .before .descriptors-rule .ensures) ∙ not-false (c .before .descriptors-rule .result) (c .if6 .left)
 
 returns-4 : tie.Need-returns-4
-unfolding verdict
+unfolding verdict volumeTests firstOf
 returns-4 c = rw (sized (c .before .before .before), label-is (c .before), not-true (c .before .label-rule .result) (c .if4 .taken))
 
 sector-of-requires-2 : tie.Need-sector-of-requires-2
@@ -80,7 +81,7 @@ index-rule-requires : tie.Need-index-rule-requires
 index-rule-requires c κs = search needs
 
 returns-5 : tie.Need-returns-5
-unfolding verdict
+unfolding verdict volumeTests firstOf
 returns-5 c =
     let i = c .before in
     let l = i .before .before in
@@ -90,7 +91,7 @@ descriptors-rule-requires : tie.Need-descriptors-rule-requires
 descriptors-rule-requires c κs = search needs
 
 returns-6 : tie.Need-returns-6
-unfolding verdict
+unfolding verdict volumeTests firstOf
 returns-6 c =
     let d = c .before in
     let i = d .before in
@@ -152,7 +153,7 @@ map-result c =
     ∙ bits-agree _ _ _ 1600 0 (λ k low high. marks-result (f .before) (f .if7 .left) k (omega arith)))
 
 returns-7 : tie.Need-returns-7
-unfolding verdict
+unfolding verdict volumeTests firstOf
 returns-7 c =
     let e = c .before .before .before .before .before in
     rw (passed e .0, passed e .1, passed e .2, passed e .3, twice-result (c .before) ∙ c .if7 .taken)
@@ -169,7 +170,7 @@ map-rule-requires c κs =
     (rw (c .before .part .ensures, s .sector-of .ensures) (part-length (sectorOf (s .before .before .before .before .before .args .image .now) 0) 56 200 (omega (arith, long))), small-marks (f .before) (f .if7 .left))
 
 returns-8 : tie.Need-returns-8
-unfolding verdict
+unfolding verdict volumeTests firstOf
 returns-8 c =
     let m = c .before in
     let f = m .before .before .before in
@@ -177,7 +178,7 @@ returns-8 c =
     rw (passed e .0, passed e .1, passed e .2, passed e .3, twice-result (f .before) ∙ f .if7 .left, map-result m ∙ not-true (m .map-rule .result) (c .if8 .taken))
 
 returns-9 : tie.Need-returns-9
-unfolding verdict
+unfolding verdict volumeTests firstOf
 returns-9 c =
     let m = c .before in
     let f = m .before .before .before in

@@ -1,0 +1,111 @@
+-- `deleting::delete_at` meets its contract. Assumes nothing.
+use mathlib.Core.Path.{_≡_, sym, ap, _∙_}
+use mathlib.Core.Bool.{true, false}
+use mathlib.Core.List.{List, [], _∷_}
+use Prim.Native.Nat.{ℕ}
+use native.Mathlib.Omega.{arith}
+use lib.ListN.{length}
+use Rattle.rules.specs.Sectors.{written, sectorOf}
+use Rattle.rules.specs.Map.{markedAll}
+use Rattle.rules.specs.Kind.{isProtected}
+use Rattle.rules.specs.Descriptor.{statusOf}
+use Rattle.rules.specs.Index.{indexOf, without}
+use Rattle.rules.specs.Volume.{files, placesIn}
+use Rattle.rules.specs.Outcome.{write, done, refusal}
+use Rattle.rules.specs.Calls.Delete.{deleting}
+use Rattle.rules.proofs.Indexed.{index-length}
+use Rattle.rules.proofs.Changes.{refusal-meets, done-meets, in-volume, protected, unprotected}
+use borrow.Author.Needs.{needs}
+use Rattle.deleting.proofs.delete_at.Statement.{statement}
+use Rattle.deleting.proofs.delete_at.Tie as tie
+
+-- which test gives which number
+module _ (image : List ℕ) (k : ℕ) where
+  refused : isProtected (statusOf (sectorOf image k)) ≡ true → deleting image k ≡ refusal 10
+  unfolding deleting
+  refused e = rw e
+
+  passed : isProtected (statusOf (sectorOf image k)) ≡ false
+      → deleting image k ≡ done (write 1 (indexOf (without k (files image))) ∷ (write 0 (markedAll 0 (sectorOf image 0) (k ∷ placesIn image k)) ∷ []))
+  unfolding deleting
+  passed e = rw e
+
+status-is : (c : tie.After-byte) →
+    let a = c .before .before .before .before .args in
+    c .byte .result ≡ statusOf (sectorOf (a .image .now) (a .k))
+status-is c = rw (c .byte .ensures .0, c .before .sector-of .ensures)
+
+sector-of-requires : tie.Need-sector-of-requires
+sector-of-requires c κs =
+    let file = c .before .before .pre in
+    omega (arith, in-volume _ _ file, file .sound .size)
+
+byte-requires : tie.Need-byte-requires
+byte-requires c κs = search needs
+
+same-length : tie.Need-same-length
+same-length c = search needs
+
+returns : tie.Need-returns
+returns c =
+    let a = c .before .before .before .before .before .args in
+    refusal-meets (a .image .now) (deleting (a .image .now) (a .k)) 10 (λ z. omega arith) (refused _ _ (protected (sectorOf (a .image .now) (a .k)) _ (status-is (c .before)) (c .if1 .taken)))
+
+sector-of-requires-2 : tie.Need-sector-of-requires-2
+sector-of-requires-2 c κs = search needs
+
+index-without-requires : tie.Need-index-without-requires
+index-without-requires c κs = search needs
+
+slice-aggregate-map-without : tie.Need-slice-aggregate-map-without
+slice-aggregate-map-without c = search needs
+
+map-without-requires : tie.Need-map-without-requires
+map-without-requires c κs = search needs
+
+slice-aggregate-write-sector : tie.Need-slice-aggregate-write-sector
+slice-aggregate-write-sector c = sym (ap length (c .before .before .before .before .before .before .index-without .ensures) ∙ index-length _)
+
+write-sector-requires : tie.Need-write-sector-requires
+write-sector-requires c κs = search needs
+
+slice-aggregate-write-sector-2 : tie.Need-slice-aggregate-write-sector-2
+slice-aggregate-write-sector-2 c = search needs
+
+write-sector-requires-2 : tie.Need-write-sector-requires-2
+write-sector-requires-2 c κs = search needs
+
+same-length-2 : tie.Need-same-length-2
+same-length-2 c = search needs
+
+returns-2 : tie.Need-returns-2
+unfolding written files
+returns-2 c =
+    let second = c .before .before in
+    let first = second .before .before .before .before .before in
+    let map = first .before .before .before .before in
+    let index = map .before .before .before in
+    let sector1 = index .before in
+    let free = sector1 .before .before .before in
+    let a = free .before .before .before .before .before .args in
+    let met = done-meets (a .image .now) (deleting (a .image .now) (a .k)) _ (passed _ _ (unprotected (sectorOf (a .image .now) (a .k)) _ (status-is (free .before)) (free .if1 .left))) in
+    (met .0, rw (second .write-sector2 .ensures, first .write-sector .ensures, map .map-without .ensures, index .index-without .ensures, sector1 .sector-of2 .ensures) (met .1))
+
+pub delete-at-spec : {M : Type 1} → statement M
+delete-at-spec =
+    tie.close
+    (tie.spec
+    sector-of-requires
+    byte-requires
+    same-length
+    returns
+    sector-of-requires-2
+    index-without-requires
+    slice-aggregate-map-without
+    map-without-requires
+    slice-aggregate-write-sector
+    write-sector-requires
+    slice-aggregate-write-sector-2
+    write-sector-requires-2
+    same-length-2
+    returns-2)
