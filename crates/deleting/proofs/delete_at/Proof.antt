@@ -1,34 +1,23 @@
--- `deleting::delete_at` meets its contract. Assumes nothing.
-use mathlib.Core.Path.{_≡_, sym, ap, _∙_}
-use mathlib.Core.Bool.{true, false}
-use mathlib.Core.List.{List, [], _∷_}
-use Prim.Native.Nat.{ℕ}
+-- `deleting::delete_at` meets its contract: the sectors made are those of the definition, and they are written in its order. Assumes nothing.
+use mathlib.Core.Path.{_≡_, refl, sym, ap, _∙_}
+use mathlib.Core.List.{[], _∷_}
 use native.Mathlib.Omega.{arith}
 use lib.ListN.{length}
 use Rattle.rules.specs.Sectors.{written, sectorOf}
 use Rattle.rules.specs.Map.{markedAll}
-use Rattle.rules.specs.Kind.{isProtected}
 use Rattle.rules.specs.Descriptor.{statusOf}
 use Rattle.rules.specs.Index.{indexOf, without}
 use Rattle.rules.specs.Volume.{files, placesIn}
-use Rattle.rules.specs.Outcome.{write, done, refusal}
-use Rattle.rules.specs.Calls.Delete.{deleting}
+use Rattle.rules.specs.Tests.{firstOf, unlessMet}
+use Rattle.rules.specs.Outcome.{write}
+use Rattle.rules.specs.Calls.Delete.{deleteTests, deleting}
 use Rattle.rules.proofs.Indexed.{index-length}
-use Rattle.rules.proofs.Changes.{refusal-meets, done-meets, in-volume, protected, unprotected}
+use Rattle.rules.proofs.Status.{protected, unprotected}
+use Rattle.rules.proofs.Outcome.{refusal-meets, done-meets}
+use Rattle.rules.proofs.Opening.{in-volume}
 use borrow.Author.Needs.{needs}
 use Rattle.deleting.proofs.delete_at.Statement.{statement}
 use Rattle.deleting.proofs.delete_at.Tie as tie
-
--- which test gives which number
-module _ (image : List ℕ) (k : ℕ) where
-  refused : isProtected (statusOf (sectorOf image k)) ≡ true → deleting image k ≡ refusal 10
-  unfolding deleting
-  refused e = rw e
-
-  passed : isProtected (statusOf (sectorOf image k)) ≡ false
-      → deleting image k ≡ done (write 1 (indexOf (without k (files image))) ∷ (write 0 (markedAll 0 (sectorOf image 0) (k ∷ placesIn image k)) ∷ []))
-  unfolding deleting
-  passed e = rw e
 
 status-is : (c : tie.After-byte) →
     let a = c .before .before .before .before .args in
@@ -47,9 +36,10 @@ same-length : tie.Need-same-length
 same-length c = search needs
 
 returns : tie.Need-returns
+unfolding deleting deleteTests firstOf unlessMet
 returns c =
     let a = c .before .before .before .before .before .args in
-    refusal-meets (a .image .now) (deleting (a .image .now) (a .k)) 10 (λ z. omega arith) (refused _ _ (protected (sectorOf (a .image .now) (a .k)) _ (status-is (c .before)) (c .if1 .taken)))
+    rw (protected (sectorOf (a .image .now) (a .k)) _ (status-is (c .before)) (c .if1 .taken)) (refusal-meets (a .image .now) _ 10 (λ z. omega arith) refl)
 
 sector-of-requires-2 : tie.Need-sector-of-requires-2
 sector-of-requires-2 c κs = search needs
@@ -79,7 +69,7 @@ same-length-2 : tie.Need-same-length-2
 same-length-2 c = search needs
 
 returns-2 : tie.Need-returns-2
-unfolding written files
+unfolding deleting deleteTests firstOf unlessMet written files
 returns-2 c =
     let second = c .before .before in
     let first = second .before .before .before .before .before in
@@ -88,8 +78,14 @@ returns-2 c =
     let sector1 = index .before in
     let free = sector1 .before .before .before in
     let a = free .before .before .before .before .before .args in
-    let met = done-meets (a .image .now) (deleting (a .image .now) (a .k)) _ (passed _ _ (unprotected (sectorOf (a .image .now) (a .k)) _ (status-is (free .before)) (free .if1 .left))) in
-    (met .0, rw (second .write-sector2 .ensures, first .write-sector .ensures, map .map-without .ensures, index .index-without .ensures, sector1 .sector-of2 .ensures) (met .1))
+    let image = a .image .now in
+    let writes = write 1 (indexOf (without (a .k) (files image))) ∷ (write 0 (markedAll 0 (sectorOf image 0) (a .k ∷ placesIn image (a .k))) ∷ []) in
+    let met = done-meets image _ writes refl in
+    rw (unprotected (sectorOf image (a .k)) _ (status-is (free .before)) (free .if1 .left))
+    (record {
+      said = met .said;
+      left = rw (second .write-sector2 .ensures, first .write-sector .ensures, map .map-without .ensures, index .index-without .ensures, sector1 .sector-of2 .ensures);
+    })
 
 pub delete-at-spec : {M : Type 1} → statement M
 delete-at-spec =

@@ -1,11 +1,10 @@
--- `deleting::map_without` meets its contract. Assumes nothing.
+-- `deleting::map_without` meets its contract: a copy of sector 0, with the bits that `clear_file` clears. Assumes nothing.
 use mathlib.Core.Path.{sym, ap, _∙_}
 use native.Mathlib.Omega.{arith}
 use lib.ListN.{length}
 use Rattle.rules.specs.Descriptor.{chainOf}
 use Rattle.rules.specs.Volume.{placesIn}
-use Rattle.rules.proofs.Outcome.{file-long}
-use Rattle.rules.proofs.Changes.{in-volume}
+use Rattle.rules.proofs.Opening.{in-volume, file-long}
 use borrow.Author.Needs.{needs}
 use Rattle.deleting.proofs.map_without.Statement.{statement}
 use Rattle.deleting.proofs.map_without.Tie as tie
@@ -35,7 +34,12 @@ same-length c = search needs
 
 returns : tie.Need-returns
 unfolding placesIn chainOf
-returns c = rw (c .before .before .clear-file .ensures, c .before .before .before .part .ensures, c .before .before .before .before .sector-of2 .ensures, c .before .before .before .before .before .before .before .before .copy .ensures, c .before .before .before .before .before .before .before .before .before .sector-of .ensures)
+returns c =
+    let cleared = c .before .before in
+    let chain = cleared .before in
+    let descriptor = chain .before in
+    let copied = descriptor .before .before .before .before in
+    rw (cleared .clear-file .ensures, chain .part .ensures, descriptor .sector-of2 .ensures, copied .copy .ensures, copied .before .sector-of .ensures)
 
 pub map-without-spec : {M : Type 1} → statement M
 map-without-spec =

@@ -4,7 +4,7 @@ use native.Mathlib.Omega.{arith}
 use lib.ListN.{length}
 use Rattle.rules.specs.Volume.{files}
 use Rattle.rules.proofs.Indexed.{index-length, left-numbers}
-use Rattle.rules.proofs.Changes.{in-volume}
+use Rattle.rules.proofs.Opening.{in-volume}
 use borrow.Author.Needs.{needs}
 use Rattle.renaming.proofs.moved.Statement.{statement}
 use Rattle.renaming.proofs.moved.Tie as tie

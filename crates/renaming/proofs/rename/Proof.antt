@@ -1,65 +1,78 @@
--- `renaming::rename` meets its contract: each refusal gives the number of the first test that failed, the tests before it having passed.
--- Assumes nothing.
+-- `renaming::rename` meets its contract: the tests of both names one after the other, then a case for each thing that the search for the old one can say. Assumes nothing.
 use mathlib.Core.Path.{_≡_, sym, _∙_}
-use mathlib.Core.Bool.{true, false}
-use mathlib.Core.List.{List}
+use mathlib.Core.Bool.{true, false, not}
+use mathlib.Core.List.{List, [], _∷_}
 use Prim.Native.Nat.{ℕ}
 use native.Mathlib.Omega.{arith}
-use borrow.Author.Tests.{eq-eqb, ne-eqb, not-true, not-false}
+use borrow.Author.Tests.{not-true, not-false}
 use Rattle.rules.specs.Name.{nameRule}
-use Rattle.rules.specs.Volume.{files}
 use Rattle.rules.specs.Verdict.{verdict}
-use Rattle.rules.specs.Outcome.{refusal, findIn, openOf, changing}
-use Rattle.rules.specs.Calls.Rename.{renaming, renameOf}
-use Rattle.rules.specs.declared.Opened.the-variants.{At, Refused}
-use Rattle.rules.proofs.Outcome.{find-refused}
-use Rattle.rules.proofs.Changes.{refusal-meets, is-file, handed-on}
+use Rattle.rules.specs.Tests.{refuse, firstOf}
+use Rattle.rules.specs.Opening.{nameTests, opening}
+use Rattle.rules.specs.Calls.Rename.{namesTests, renameOf}
+use Rattle.rules.specs.declared.Opened.the-variants.{At}
+use Rattle.rules.proofs.Tests.{first-met, first-passed}
+use Rattle.rules.proofs.Opening.{find-looks, opening-passed, opening-met, unsound-number, unnamed-number, named-number, open-passed, is-file, change-refused, change-absent, change-found}
 use borrow.Author.Needs.{needs}
 use Rattle.renaming.proofs.rename.Statement.{statement}
 use Rattle.renaming.proofs.rename.Tie as tie
 
 -- which test gives which number
 module _ (image old new : List ℕ) where
-  unsound : (verdict image ≡ 0 → ⊥) → renameOf image old new ≡ refusal (verdict image)
-  unfolding renameOf
-  unsound some = rw (ne-eqb (verdict image) 0 some)
+  unsound : (verdict image ≡ 0 → ⊥) → firstOf (namesTests image old new) ≡ verdict image
+  unfolding namesTests
+  unsound some = let first = unsound-number image old some in first-met _ _ (λ z. some (sym first ∙ z)) ∙ first
 
   module _ (sound : verdict image ≡ 0) where
-    misnamed : nameRule old ≡ false → renameOf image old new ≡ refusal 7
-    unfolding renameOf
-    misnamed unruled = rw (eq-eqb (verdict image) 0 sound, unruled)
+    misnamed : nameRule old ≡ false → firstOf (namesTests image old new) ≡ 7
+    unfolding namesTests
+    misnamed broken = let first = unnamed-number image old sound broken in first-met _ _ (λ z. omega (arith, first, z)) ∙ first
 
-    module _ (ruled : nameRule old ≡ true) where
-      misnamed-new : nameRule new ≡ false → renameOf image old new ≡ refusal 7
-      unfolding renameOf
-      misnamed-new unruled = rw (eq-eqb (verdict image) 0 sound, ruled, unruled)
+    misnamed-new : nameRule old ≡ true → nameRule new ≡ false → firstOf (namesTests image old new) ≡ 7
+    unfolding namesTests firstOf
+    misnamed-new ruled broken = first-passed (nameTests image old) (refuse 7 (not (nameRule new)) ∷ []) (named-number image old sound ruled) ∙ rw broken
 
-      opens : openOf image old ≡ findIn image old 0 (files image)
-      unfolding openOf
-      opens = rw (eq-eqb (verdict image) 0 sound, ruled)
+    named-both : nameRule old ≡ true → nameRule new ≡ true → firstOf (namesTests image old new) ≡ 0
+    unfolding namesTests firstOf
+    named-both ruled ruled-new = first-passed (nameTests image old) (refuse 7 (not (nameRule new)) ∷ []) (named-number image old sound ruled) ∙ rw ruled-new
 
-      module _ (ruled-new : nameRule new ≡ true) where
-        absent : (number : ℕ) → findIn image old 0 (files image) ≡ Refused number → renameOf image old new ≡ refusal number
-        unfolding renameOf changing
-        absent number e = rw (eq-eqb (verdict image) 0 sound, ruled, ruled-new, e)
+-- the ways back: to each test that was passed
+abbrev start : tie.After-judge → tie.Start
+start c = c .before .before .before .before .before
 
-        passed : (p k : ℕ) → findIn image old 0 (files image) ≡ At p k → renameOf image old new ≡ renaming image new k
-        unfolding renameOf changing
-        passed p k e = rw (eq-eqb (verdict image) 0 sound, ruled, ruled-new, e)
+abbrev start₂ : tie.Else2 → tie.Start
+start₂ c = start (c .before .before .before)
 
-sound : (c : tie.Else1) → verdict (c .before .before .before .before .before .before .args .image .now) ≡ 0
+abbrev start₃ : tie.Else3 → tie.Start
+start₃ c = start₂ (c .before .before)
+
+abbrev ruled : tie.After-find-in → tie.Else3
+ruled c = c .before .before
+
+sound : (c : tie.Else1) → verdict (start (c .before) .args .image .now) ≡ 0
 sound c = sym (c .before .judge .ensures) ∙ c .if1 .left
 
-named : (c : tie.Else2) → nameRule (c .before .before .before .before .before .before .before .before .args .old .now) ≡ true
+named : (c : tie.Else2) → nameRule (start₂ c .args .old .now) ≡ true
 named c = sym (c .before .name-rule .ensures) ∙ not-false (c .before .name-rule .result) (c .if2 .left)
 
-named-new : (c : tie.Else3) → nameRule (c .before .before .before .before .before .before .before .before .before .before .args .new .now) ≡ true
+named-new : (c : tie.Else3) → nameRule (start₃ c .args .new .now) ≡ true
 named-new c = sym (c .before .name-rule2 .ensures) ∙ not-false (c .before .name-rule2 .result) (c .if3 .left)
 
+-- both names passed: what the search gives
+passed : (c : tie.Else3) →
+    let a = start₃ c .args in
+    firstOf (namesTests (a .image .now) (a .old .now) (a .new .now)) ≡ 0
+passed c = let e = c .before .before in named-both _ _ _ (sound (e .before .before)) (named e) (named-new c)
+
+opens : (c : tie.After-find-in) →
+    let a = start₃ (ruled c) .args in
+    opening (namesTests (a .image .now) (a .old .now) (a .new .now)) (a .image .now) (a .old .now) ≡ c .find-in .result
+opens c = opening-passed _ _ _ (passed (ruled c)) ∙ sym (c .find-in .ensures)
+
 found : (c : tie.After-opened2) →
-    let a = c .before .before .before .before .before .before .before .before .before .before .before .before .before .before .args in
-    findIn (a .image .now) (a .old .now) 0 (files (a .image .now)) ≡ At (c .opened2 .given .0 .0) (c .opened2 .given .0 .1 .0)
-found c = sym (c .before .before .find-in .ensures) ∙ c .opened2 .given .1
+    let a = start₃ (ruled (c .before .before)) .args in
+    opening (namesTests (a .image .now) (a .old .now) (a .new .now)) (a .image .now) (a .old .now) ≡ At (c .opened2 .given .0 .0) (c .opened2 .given .0 .1 .0)
+found c = opens (c .before .before) ∙ c .opened2 .given .1
 
 judge-requires : tie.Need-judge-requires
 judge-requires c κs = search needs
@@ -68,11 +81,12 @@ same-length : tie.Need-same-length
 same-length c = search needs
 
 returns : tie.Need-returns
+unfolding renameOf
 returns c =
-    let a = c .before .before .before .before .before .before .args in
-    let j = c .before .judge in
-    let some : verdict (a .image .now) ≡ 0 → ⊥ = λ z. c .if1 .taken (j .ensures ∙ z) in
-    rw (j .ensures) (refusal-meets (a .image .now) (renameOf (a .image .now) (a .old .now) (a .new .now)) (verdict (a .image .now)) some (unsound _ _ _ some))
+    let j = c .before in
+    let a = start j .args in
+    change-refused (a .image .now) _ _ _
+    (opening-met (namesTests (a .image .now) (a .old .now) (a .new .now)) _ _ _ (unsound _ _ _ (λ z. c .if1 .taken (j .judge .ensures ∙ z)) ∙ sym (j .judge .ensures)) (c .if1 .taken)) (c .if1 .taken)
 
 name-rule-requires : tie.Need-name-rule-requires
 name-rule-requires c κs = search needs
@@ -81,11 +95,12 @@ same-length-2 : tie.Need-same-length-2
 same-length-2 c = search needs
 
 returns-2 : tie.Need-returns-2
+unfolding renameOf
 returns-2 c =
-    let a = c .before .before .before .before .before .before .before .before .args in
-    let n = c .before .name-rule in
-    refusal-meets (a .image .now) (renameOf (a .image .now) (a .old .now) (a .new .now)) 7 (λ z. omega arith)
-    (misnamed _ _ _ (sound (c .before .before)) (sym (n .ensures) ∙ not-true (n .result) (c .if2 .taken)))
+    let n = c .before in
+    let a = start (n .before .before) .args in
+    let broken = sym (n .name-rule .ensures) ∙ not-true (n .name-rule .result) (c .if2 .taken) in
+    change-refused (a .image .now) _ _ 7 (opening-met (namesTests (a .image .now) (a .old .now) (a .new .now)) _ _ 7 (misnamed _ _ _ (sound (n .before)) broken) (λ z. omega arith)) (λ z. omega arith)
 
 name-rule-requires-2 : tie.Need-name-rule-requires-2
 name-rule-requires-2 c κs = search needs
@@ -94,13 +109,13 @@ same-length-3 : tie.Need-same-length-3
 same-length-3 c = search needs
 
 returns-3 : tie.Need-returns-3
+unfolding renameOf
 returns-3 c =
-    let tested = c .before in
-    let ruled = tested .before in
-    let a = ruled .before .before .before .before .before .before .before .before .args in
-    let new = tested .name-rule2 in
-    refusal-meets (a .image .now) (renameOf (a .image .now) (a .old .now) (a .new .now)) 7 (λ z. omega arith)
-    (misnamed-new _ _ _ (sound (ruled .before .before)) (named ruled) (sym (new .ensures) ∙ not-true (new .result) (c .if3 .taken)))
+    let n = c .before in
+    let e = n .before in
+    let a = start₂ e .args in
+    let broken = sym (n .name-rule2 .ensures) ∙ not-true (n .name-rule2 .result) (c .if3 .taken) in
+    change-refused (a .image .now) _ _ 7 (opening-met (namesTests (a .image .now) (a .old .now) (a .new .now)) _ _ 7 (misnamed-new _ _ _ (sound (e .before .before)) (named e) broken) (λ z. omega arith)) (λ z. omega arith)
 
 find-in-requires : tie.Need-find-in-requires
 find-in-requires c κs = search needs
@@ -108,39 +123,45 @@ find-in-requires c κs = search needs
 enum-known-opened : tie.Need-enum-known-opened
 enum-known-opened c = search needs
 
+enum-told : tie.Need-enum-told
+enum-told c = search needs
+
 enum-known-opened-2 : tie.Need-enum-known-opened-2
 enum-known-opened-2 c = search needs
 
 rename-at-requires : tie.Need-rename-at-requires
 rename-at-requires c κs =
-    let opened = c .before .before in
-    let ruled = opened .before .before .before .before in
-    let a = ruled .before .before .before .before .before .before .before .before .before .before .args in (
-      is-file (a .image .now) (a .old .now) _ _ (opens (a .image .now) (a .old .now) (a .new .now) (sound (ruled .before .before .before .before)) (named (ruled .before .before)) ∙ found opened),
-      named-new ruled,
-    )
+    let o = c .before .before in
+    let f = o .before .before in
+    let r = ruled f in
+    let e = r .before .before in
+    (is-file _ _ _ _ (open-passed _ _ (named-number _ _ (sound (e .before .before)) (named e)) ∙ sym (f .find-in .ensures) ∙ o .opened2 .given .1), named-new r)
 
 same-length-4 : tie.Need-same-length-4
 same-length-4 c = search needs
 
 returns-4 : tie.Need-returns-4
 returns-4 c =
-    let opened = c .before in
-    let ruled = opened .before .before .before .before in
-    let a = ruled .before .before .before .before .before .before .before .before .before .before .args in
-    let e = sym (opened .before .before .find-in .ensures) ∙ opened .opened .given .1 in
-    refusal-meets (a .image .now) (renameOf (a .image .now) (a .old .now) (a .new .now)) _ (λ z. omega (arith, z, find-refused _ _ _ _ _ e))
-    (absent _ _ _ (sound (ruled .before .before .before .before)) (named (ruled .before .before)) (named-new ruled) _ e)
+    let o = c .before in
+    absurd (find-looks _ _ _ _ _ (sym (o .before .before .find-in .ensures) ∙ o .opened .given .1))
 
 same-length-5 : tie.Need-same-length-5
 same-length-5 c = search needs
 
 returns-5 : tie.Need-returns-5
+unfolding renameOf
 returns-5 c =
-    let renamed = c .before .before in
-    let opened = renamed .before .before .before in
-    let ruled = opened .before .before .before .before in
-    handed-on _ _ _ _ _ (passed _ _ _ (sound (ruled .before .before .before .before)) (named (ruled .before .before)) (named-new ruled) _ _ (found opened)) (renamed .rename-at .ensures)
+    let f = c .before .before in
+    change-absent (start₃ (ruled f) .args .image .now) _ _ (opens f ∙ c .enum-told .given .1)
+
+same-length-6 : tie.Need-same-length-6
+same-length-6 c = search needs
+
+returns-6 : tie.Need-returns-6
+unfolding renameOf
+returns-6 c =
+    let done = c .before .before in
+    change-found _ _ _ _ _ (found (done .before .before .before)) _ _ (done .rename-at .ensures)
 
 pub rename-spec : {M : Type 1} → statement M
 rename-spec =
@@ -157,9 +178,12 @@ rename-spec =
     returns-3
     find-in-requires
     enum-known-opened
+    enum-told
     enum-known-opened-2
     rename-at-requires
     same-length-4
     returns-4
     same-length-5
-    returns-5)
+    returns-5
+    same-length-6
+    returns-6)

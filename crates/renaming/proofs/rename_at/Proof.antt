@@ -1,57 +1,55 @@
--- `renaming::rename_at` meets its contract. Assumes nothing.
+-- `renaming::rename_at` meets its contract: a case for each thing that the search for the new name can say; the name laid over the image and sector 1 anew are the definition's writes. Assumes nothing.
 use mathlib.Core.Path.{_≡_, refl, sym, ap, _∙_}
-use mathlib.Core.Bool.{true, false}
 use mathlib.Core.List.{List, [], _∷_}
 use Prim.Native.Nat.{ℕ}
 use native.Mathlib.Omega.{arith}
 use lib.ListN.{length}
-use borrow.Author.Tests.{eq-eqb}
-use Rattle.rules.specs.Bytes.{splice}
+use Rattle.rules.specs.Bytes.{byteAt, splice}
 use Rattle.rules.specs.Sectors.{written, sectorOf}
-use Rattle.rules.specs.Kind.{isProtected}
 use Rattle.rules.specs.Descriptor.{statusOf}
 use Rattle.rules.specs.Index.{indexOf, without}
 use Rattle.rules.specs.Volume.{files, placed}
-use Rattle.rules.specs.Outcome.{write, done, refusal, findIn, adding}
-use Rattle.rules.specs.Calls.Rename.{renaming}
-use Rattle.rules.specs.declared.Opened.the-variants.{At, Refused}
+use Rattle.rules.specs.Tests.{firstOf, unlessMet}
+use Rattle.rules.specs.Outcome.{write}
+use Rattle.rules.specs.Opening.{findIn}
+use Rattle.rules.specs.Calls.Rename.{renameTests, renaming}
+use Rattle.rules.specs.declared.Opened.the-variants.{Absent}
 use Rattle.rules.proofs.Sectors.{sector-laid}
 use Rattle.rules.proofs.Name.{name-is}
 use Rattle.rules.proofs.Indexed.{index-length}
-use Rattle.rules.proofs.Outcome.{find-refused}
-use Rattle.rules.proofs.Changes.{refusal-meets, done-meets, in-volume, protected, unprotected}
+use Rattle.rules.proofs.Status.{protected, unprotected}
+use Rattle.rules.proofs.Outcome.{refusal-meets, done-meets}
+use Rattle.rules.proofs.Opening.{find-looks, in-volume, add-present, add-absent}
 use borrow.Author.Needs.{needs}
 use Rattle.renaming.proofs.rename_at.Statement.{statement}
 use Rattle.renaming.proofs.rename_at.Tie as tie
 
--- which test gives which number
-module _ (image new : List ℕ) (k : ℕ) where
-  present : (p j : ℕ) → findIn image new 0 (files image) ≡ At p j → renaming image new k ≡ refusal 9
-  unfolding renaming adding
-  present p j e = rw e
+-- the ways back: to the search, and from the status that was read
+abbrev start : tie.After-find-in → tie.Start
+start c = c .before .before .before .before
 
-  module _ (number : ℕ) (absent : findIn image new 0 (files image) ≡ Refused number) where
-    refused : isProtected (statusOf (sectorOf image k)) ≡ true → renaming image new k ≡ refusal 10
-    unfolding renaming adding
-    refused e = rw (absent, eq-eqb number 8 (find-refused image new 0 (files image) number absent), e)
+abbrev told : tie.After-byte → tie.After-enum-told2
+told c = c .before .before .before
 
-    passed : isProtected (statusOf (sectorOf image k)) ≡ false
-        → renaming image new k ≡ done (write k (splice (sectorOf image k) 0 new) ∷ (write 1 (indexOf (placed image new k (without k (files image)))) ∷ []))
-    unfolding renaming adding
-    passed e = rw (absent, eq-eqb number 8 (find-refused image new 0 (files image) number absent), e)
+abbrev start₂ : tie.After-enum-told2 → tie.Start
+start₂ c = start (c .before .before)
 
-status-is : (c : tie.After-byte) →
-    let a = c .before .before .before .before .before .before .before .before .before .args in
-    c .byte .result ≡ statusOf (sectorOf (a .image .now) (a .k))
-status-is c = rw (c .byte .ensures .0, c .before .sector-of .ensures)
+abbrev start₃ : tie.After-byte → tie.Start
+start₃ c = start₂ (told c)
 
 absent : (c : tie.After-enum-told2) →
-    let a = c .before .before .before .before .before .before .args in
-    findIn (a .image .now) (a .new .now) 0 (files (a .image .now)) ≡ Refused (c .enum-told2 .given .0 .0)
+    let a = start₂ c .args in
+    findIn (a .image .now) (a .new .now) 0 (files (a .image .now)) ≡ Absent
 absent c = sym (c .before .before .find-in .ensures) ∙ c .enum-told2 .given .1
+
+status-is : (c : tie.After-byte) → c .byte .result ≡ statusOf (sectorOf (start₃ c .args .image .now) (start₃ c .args .k))
+status-is c = c .byte .ensures .0 ∙ ap (λ (s : List ℕ). byteAt s 12) (c .before .sector-of .ensures)
 
 find-in-requires : tie.Need-find-in-requires
 find-in-requires c κs = search needs
+
+enum-known-present : tie.Need-enum-known-present
+enum-known-present c = search needs
 
 enum-told : tie.Need-enum-told
 enum-told c = search needs
@@ -60,9 +58,7 @@ enum-told-2 : tie.Need-enum-told-2
 enum-told-2 c = search needs
 
 sector-of-requires : tie.Need-sector-of-requires
-sector-of-requires c κs =
-    let file = c .before .before .before .before .before .before .before .pre .0 in
-    omega (arith, in-volume _ _ file, file .sound .size)
+sector-of-requires c κs = let file = start₂ (c .before) .pre .0 in omega (arith, in-volume _ _ file, file .sound .size)
 
 byte-requires : tie.Need-byte-requires
 byte-requires c κs = search needs
@@ -71,18 +67,18 @@ same-length : tie.Need-same-length
 same-length c = search needs
 
 returns : tie.Need-returns
+unfolding renaming renameTests firstOf unlessMet
 returns c =
-    let a = c .before .before .before .before .before .before .before .before .before .before .args in
-    refusal-meets (a .image .now) (renaming (a .image .now) (a .new .now) (a .k)) 10 (λ z. omega arith)
-    (refused _ _ _ _ (absent (c .before .before .before .before)) (protected (sectorOf (a .image .now) (a .k)) _ (status-is (c .before)) (c .if1 .taken)))
+    let b = c .before in
+    let a = start₃ b .args in
+    add-absent (a .image .now) _ _ (absent (told b)) _ _
+    (rw (protected (sectorOf (a .image .now) (a .k)) _ (status-is b) (c .if1 .taken)) (refusal-meets (a .image .now) _ 10 (λ z. omega arith) refl))
 
 moved-requires : tie.Need-moved-requires
-moved-requires c κs = (refl, c .before .before .before .before .before .before .before .before .before .before .before .before .pre .0)
+moved-requires c κs = (refl, start₃ (c .before .before .before) .pre .0)
 
 mul-lay : tie.Need-mul-lay
-mul-lay c =
-    let file = c .before .before .before .before .before .before .before .before .before .before .before .before .before .before .pre .0 in
-    omega (arith, in-volume _ _ file, file .sound .size)
+mul-lay c = let file = start₃ (c .before .before .before .before .before) .pre .0 in omega (arith, in-volume _ _ file, file .sound .size)
 
 lay-requires : tie.Need-lay-requires
 lay-requires c κs = search needs
@@ -98,35 +94,44 @@ same-length-2 c = search needs
 
 returns-2 : tie.Need-returns-2
 returns-2 c =
-    let a = c .before .before .before .before .before .before .args in
-    refusal-meets (a .image .now) (renaming (a .image .now) (a .new .now) (a .k)) 9 (λ z. omega arith)
-    (present _ _ _ _ _ (sym (c .before .before .find-in .ensures) ∙ c .enum-told .given .1))
+    let o = c .before in
+    absurd (find-looks _ _ _ _ _ (sym (o .before .before .find-in .ensures) ∙ o .present .given .1))
 
 same-length-3 : tie.Need-same-length-3
 same-length-3 c = search needs
 
 returns-3 : tie.Need-returns-3
-unfolding written
+unfolding renaming
 returns-3 c =
+    let f = c .before .before in
+    add-present (start f .args .image .now) _ _ _ _ (sym (f .find-in .ensures) ∙ c .enum-told .given .1)
+
+same-length-4 : tie.Need-same-length-4
+same-length-4 c = search needs
+
+returns-4 : tie.Need-returns-4
+unfolding renaming renameTests firstOf unlessMet written
+returns-4 c =
     let second = c .before .before in
-    let first = c .before .before .before .before .before .before .before in
-    let index = c .before .before .before .before .before .before .before .before .before in
-    let free = c .before .before .before .before .before .before .before .before .before .before .before .before in
-    let told = c .before .before .before .before .before .before .before .before .before .before .before .before .before .before .before .before in
-    let start = c .before .before .before .before .before .before .before .before .before .before .before .before .before .before .before .before .before .before .before .before .before .before in
-    let a = start .args in
-    let met =
-    done-meets (a .image .now) (renaming (a .image .now) (a .new .now) (a .k)) _
-    (passed _ _ _ _ (absent told) (unprotected (sectorOf (a .image .now) (a .k)) _ (status-is (free .before)) (free .if1 .left)))
-    in
-    let named = first .lay .ensures ∙ sym (sector-laid (a .image .now) (a .k) (a .new .now) (omega (arith, name-is _ (start .pre .1) .ten))) in
-    (met .0, rw (second .write-sector .ensures, named, index .moved .ensures) (met .1))
+    let first = second .before .before .before .before .before in
+    let index = first .before .before in
+    let free = index .before .before .before in
+    let b = free .before in
+    let s = start₃ b in
+    let a = s .args in
+    let image = a .image .now in
+    let met = done-meets image _ (write (a .k) (splice (sectorOf image (a .k)) 0 (a .new .now)) ∷ (write 1 (indexOf (placed image (a .new .now) (a .k) (without (a .k) (files image)))) ∷ [])) refl in
+    let named = first .lay .ensures ∙ sym (sector-laid image (a .k) (a .new .now) (omega (arith, name-is _ (s .pre .1) .ten))) in
+    add-absent image _ _ (absent (told b)) _ _
+    (rw (unprotected (sectorOf image (a .k)) _ (status-is b) (free .if1 .left))
+    (record { said = met .said; left = rw (second .write-sector .ensures, named, index .moved .ensures) }))
 
 pub rename-at-spec : {M : Type 1} → statement M
 rename-at-spec =
     tie.close
     (tie.spec
     find-in-requires
+    enum-known-present
     enum-told
     enum-told-2
     sector-of-requires
@@ -141,4 +146,6 @@ rename-at-spec =
     same-length-2
     returns-2
     same-length-3
-    returns-3)
+    returns-3
+    same-length-4
+    returns-4)
