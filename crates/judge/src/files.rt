@@ -7,8 +7,8 @@ ghost use Rattle.rules.specs.Kind.{kindRule};
 ghost use Rattle.rules.specs.Verdict.{descriptorsRule};
 ghost use Rattle.rules.specs.Volume.{files};
 ghost use Rattle.judge.specs.Rest.{chainEnd};
-use descriptor::chain::block_of;
-use descriptor::chain::ends_chain;
+use descriptor::chain::Met;
+use descriptor::chain::block_at;
 use descriptor::kind::kind_of;
 use descriptor::kind::status_rule;
 use descriptor::name::name_rule;
@@ -36,14 +36,7 @@ fn chain_rule(n: usize, c: usize, chain: &[u8]) -> bool
 {
     let mut at = 0;
     let mut next = 0;
-    while at + 3 <= chain.len() {
-        let low = chain[at];
-        let middle = chain[at + 1];
-        let high = chain[at + 2];
-        if ends_chain(low, middle, high) {
-            return chain_end(c, chain, at, next);
-        }
-        let block = block_of(low, middle, high);
+    while let Met::Found(block) = block_at(chain, at) {
         let start = block.start;
         let last = block.last;
         if start < 2 {
