@@ -19,6 +19,7 @@ use sector::bytes::byte;
 use sector::bytes::part;
 use sector::bytes::sector_of;
 use sector::bytes::word;
+use sector::numbers::number_at;
 
 // Past the last block: c sectors are covered, and the rest is zero.
 fn chain_end(c: usize, chain: &[u8], at: usize, next: usize) -> bool
@@ -94,8 +95,8 @@ pub(crate) fn descriptors_rule(n: usize, image: &[u8]) -> bool
     let sector1 = sector_of(image, 1);
     let mut previous = part(image, 0, 0);
     let mut at = 0;
-    while at + 2 <= sector1.len() {
-        let k = word(sector1, at);
+    loop {
+        let k = number_at(sector1, at);
         if k == 0 {
             return true;
         }
@@ -110,5 +111,4 @@ pub(crate) fn descriptors_rule(n: usize, image: &[u8]) -> bool
         previous = name;
         at += 2;
     }
-    true
 }
