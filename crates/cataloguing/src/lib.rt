@@ -1,10 +1,13 @@
-// A catalogue entry: the 28 header bytes and the row of the file at a place.
+// A catalogue entry: the 28 header bytes and the row of the file at a place. The call takes any image and any arguments, and gives what the
+// rules' definition of it says: its number first, in the table's order, and with 0 its row and bytes. A refusal writes nothing.
 ghost use mathlib.Core.Path.{_≡_};
 ghost use lib.ListN.{length};
-ghost use Rattle.rules.specs.Bytes.{splice};
-ghost use Rattle.rules.specs.Calls.Catalogue.{noRow, entryOf, entryAnswer};
-use crate::row::no_row;
-use crate::row::row_of;
+ghost use Rattle.rules.specs.Outcome.{Gives};
+ghost use Rattle.rules.specs.Calls.Entry.{noRow, entryOf, entryRow, EntrySays};
+mod row;
+
+use row::no_row;
+use row::row_of;
 use rules::Answer;
 use rules::Entry;
 use sector::buffer::lay;
@@ -22,7 +25,7 @@ fn refused(number: u32) -> Entry
 }
 
 pub fn entry(image: &[u8], place: usize, header: &mut [u8]) -> Entry
-    ensures { λ r. ⌜ (r ≡ entryAnswer (now (image .entry)) place (length (now (header .entry)))) × (now (header .exit) ≡ splice (now (header .entry)) 0 (entryOf (now (image .entry)) place (length (now (header .entry))) .bytes)) ⌝ }
+    ensures { λ r. ⌜ Gives (EntrySays (entryRow (now (image .entry)) place (length (now (header .entry))))) (entryOf (now (image .entry)) place (length (now (header .entry)))) r (now (header .entry)) (now (header .exit)) ⌝ }
 {
     let number = judge::judge(image);
     if number != 0 {

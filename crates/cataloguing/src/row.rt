@@ -1,7 +1,7 @@
 // A row of the catalogue, from a descriptor.
 ghost use mathlib.Core.Path.{_≡_};
 ghost use lib.ListN.{length};
-ghost use Rattle.rules.specs.Calls.Catalogue.{rowOf, noRow};
+ghost use Rattle.rules.specs.Calls.Entry.{rowOf, noRow};
 use descriptor::kind::kind_of;
 use rules::Kind;
 use rules::Row;

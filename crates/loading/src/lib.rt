@@ -1,4 +1,5 @@
-// A load: the bytes of a program.
+// A load: the bytes of a program. The call takes any image and any arguments, and gives what the rules' definition of it says: its number
+// first, in the table's order, and with 0 its bytes. A refusal writes nothing.
 ghost use mathlib.Core.Path.{_≡_};
 ghost use mathlib.Core.List.{map};
 ghost use Prim.Native.Nat.{_<_};
@@ -7,7 +8,7 @@ ghost use Rattle.rules.specs.Bytes.{splice};
 ghost use Rattle.rules.specs.Sectors.{sectorOf};
 ghost use Rattle.rules.specs.Chain.{places};
 ghost use Rattle.rules.specs.Calls.Load.{joined, loading, loadOf};
-ghost use Rattle.rules.specs.Outcome.{amountOf};
+ghost use Rattle.rules.specs.Outcome.{AmountSays, Gives};
 use descriptor::chain::Cursor;
 use descriptor::chain::Step;
 use descriptor::kind::kind_of;
@@ -41,7 +42,7 @@ fn join(image: &[u8], chain: &[u8], size: usize, out: &mut [u8])
 // Of the file whose descriptor is in sector k.
 fn load_at(image: &[u8], k: usize, out: &mut [u8]) -> Amount
     requires { ⌜ k < 65536 ⌝ }
-    ensures { λ r. ⌜ (r ≡ amountOf (loading (now (image .entry)) (length (now (out .entry))) k)) × (now (out .exit) ≡ splice (now (out .entry)) 0 (loading (now (image .entry)) (length (now (out .entry))) k .bytes)) ⌝ }
+    ensures { λ r. ⌜ Gives AmountSays (loading (now (image .entry)) (length (now (out .entry))) k) r (now (out .entry)) (now (out .exit)) ⌝ }
 {
     let descriptor = sector_of(image, k);
     let kind = kind_of(
@@ -70,11 +71,12 @@ fn load_at(image: &[u8], k: usize, out: &mut [u8]) -> Amount
 }
 
 pub fn load(image: &[u8], name: &[u8], out: &mut [u8]) -> Amount
-    ensures { λ r. ⌜ (r ≡ amountOf (loadOf (now (image .entry)) (now (name .entry)) (length (now (out .entry))))) × (now (out .exit) ≡ splice (now (out .entry)) 0 (loadOf (now (image .entry)) (now (name .entry)) (length (now (out .entry))) .bytes)) ⌝ }
+    ensures { λ r. ⌜ Gives AmountSays (loadOf (now (image .entry)) (now (name .entry)) (length (now (out .entry)))) r (now (out .entry)) (now (out .exit)) ⌝ }
 {
     let opened = find(image, name);
     match opened {
         Opened::Refused(number) => Amount::Refused(number),
+        Opened::Absent => Amount::Refused(8),
         Opened::At(_, k) => load_at(image, k, out),
     }
 }

@@ -1,9 +1,8 @@
-// A sector read: one sector of a file, by its offset in the file.
-ghost use mathlib.Core.Path.{_≡_};
+// A sector read: one sector of a file, by its offset in the file. The call takes any image and any arguments, and gives what the rules'
+// definition of it says: its number first, in the table's order, and with 0 its bytes. A refusal writes nothing.
 ghost use lib.ListN.{length};
-ghost use Rattle.rules.specs.Bytes.{splice};
-ghost use Rattle.rules.specs.Calls.Read.{readOf};
-ghost use Rattle.rules.specs.Outcome.{answerOf};
+ghost use Rattle.rules.specs.Outcome.{Gives};
+ghost use Rattle.rules.specs.Calls.Read.{readOf, ReadSays};
 use descriptor::chain::place_at;
 use opening::find;
 use rules::Answer;
@@ -14,11 +13,12 @@ use sector::bytes::sector_of;
 use sector::bytes::word;
 
 pub fn read(image: &[u8], name: &[u8], offset: usize, out: &mut [u8]) -> Answer
-    ensures { λ r. ⌜ (r ≡ answerOf (readOf (now (image .entry)) (now (name .entry)) offset (length (now (out .entry))) .number)) × (now (out .exit) ≡ splice (now (out .entry)) 0 (readOf (now (image .entry)) (now (name .entry)) offset (length (now (out .entry))) .bytes)) ⌝ }
+    ensures { λ r. ⌜ Gives ReadSays (readOf (now (image .entry)) (now (name .entry)) offset (length (now (out .entry)))) r (now (out .entry)) (now (out .exit)) ⌝ }
 {
     let opened = find(image, name);
     match opened {
         Opened::Refused(number) => Answer::Refused(number),
+        Opened::Absent => Answer::Refused(8),
         Opened::At(_, k) => {
             let descriptor = sector_of(image, k);
             if offset >= word(descriptor, 14) {

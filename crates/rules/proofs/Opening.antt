@@ -239,9 +239,10 @@ module _ (before : List ℕ) (opened : Opened) (reading : ℕ → Report) where
   unfolding onFile
   file-absent e = rw e (read-refused before (refuses 8) 8 (λ z. omega arith) refl)
 
-  pub on-found : (p k : ℕ) → opened ≡ At p k → onFile opened reading ≡ reading k
+  pub on-found : {Given : Type 0} (Says : Given → Report → Type 0) (p k : ℕ) → opened ≡ At p k → (given : Given) (after : List ℕ)
+      → Gives Says (reading k) given before after → Gives Says (onFile opened reading) given before after
   unfolding onFile
-  on-found p k e = rw e
+  on-found Says p k e given after gives = rw e gives
 
 -- a change of it
 module _ (image : List ℕ) (opened : Opened) (change : ℕ → Outcome) where

@@ -1,10 +1,10 @@
-// The free count, and a volume's summary.
+// The free count, and a volume's summary. Each call takes any image, and gives what the rules' definition of it says: its number first, in
+// the table's order, and with 0 its values and bytes. A refusal writes nothing.
 ghost use mathlib.Core.Path.{_≡_};
 ghost use lib.ListN.{length};
-ghost use Rattle.rules.specs.Bytes.{splice};
 ghost use Rattle.rules.specs.Index.{numbers};
-ghost use Rattle.rules.specs.Outcome.{amountOf};
-ghost use Rattle.rules.specs.Calls.Free.{freeCountOf, summaryOf, summaryName};
+ghost use Rattle.rules.specs.Outcome.{AmountSays, Gives};
+ghost use Rattle.rules.specs.Calls.Summary.{freeCountOf, summaryOf, SummarySays};
 use map::free::free_count_of;
 use rules::Amount;
 use rules::Summary;
@@ -14,7 +14,7 @@ use sector::bytes::sector_of;
 use sector::bytes::word;
 
 pub fn free_count(image: &[u8]) -> Amount
-    ensures { λ r. ⌜ r ≡ amountOf (freeCountOf (now (image .entry))) ⌝ }
+    ensures { λ r. ⌜ AmountSays r (freeCountOf (now (image .entry))) ⌝ }
 {
     let number = judge::judge(image);
     if number != 0 {
@@ -40,7 +40,7 @@ fn file_count(sector1: &[u8]) -> usize
 }
 
 pub fn summary(image: &[u8], name: &mut [u8; 10]) -> Summary
-    ensures { λ r. ⌜ (r ≡ summaryOf (now (image .entry))) × (now (name .exit) ≡ splice (now (name .entry)) 0 (summaryName (now (image .entry)))) ⌝ }
+    ensures { λ r. ⌜ Gives (SummarySays (now (image .entry))) (summaryOf (now (image .entry))) r (now (name .entry)) (now (name .exit)) ⌝ }
 {
     let number = judge::judge(image);
     if number != 0 {

@@ -7,9 +7,9 @@ use Rattle.rules.specs.Bytes.{splice}
 use Rattle.rules.specs.Sectors.{sectorOf}
 use Rattle.rules.specs.Descriptor.{chainOf, fileKind}
 use Rattle.rules.specs.Volume.{placesIn, contentsIn}
-use Rattle.rules.specs.Outcome.{Reading}
 use Rattle.rules.specs.Calls.Load.{programIn}
-use Rattle.loading.proofs.ReadLaws.{amount-refused, amount-given, fixed-apart, variable-apart, load-data, load-size, load-short, load-given}
+use Rattle.rules.proofs.Outcome.{amount-refused, amount-given}
+use Rattle.loading.proofs.LoadLaws.{fixed-apart, variable-apart, load-data, load-size, load-short, load-given}
 use borrow.Author.Needs.{needs}
 use Rattle.loading.proofs.load_at.Statement.{statement}
 use Rattle.loading.proofs.load_at.Tie as tie
@@ -51,7 +51,7 @@ returns c =
     let e = c .before .before in
     let k = e .before .before in
     let a = k .before .before .before .before .before .before .before .before .args in
-    amount-refused _ 15 (load-short (a .image .now) (length (a .out .now)) (a .k) _ (kind-is k ∙ e .kind .given .1) (c .if1 .taken)) (λ z. omega (arith, z)) (a .out .now)
+    amount-refused (a .out .now) _ 15 (λ z. omega (arith, z)) (load-short (a .image .now) (length (a .out .now)) (a .k) _ (kind-is k ∙ e .kind .given .1) (c .if1 .taken))
 
 part-requires : tie.Need-part-requires
 part-requires c κs = search needs
@@ -79,23 +79,26 @@ returns-2 c =
     let s = k .before .before .before .before .before in
     let a = s .before .before .before .args in
     let is = kind-is k ∙ e .kind .given .1 in
-    let given = load-given (a .image .now) (length (a .out .now)) (a .k) _ is (f .if1 .left) in (
-      amount-given _ _ _ given,
-      j .join .ensures
-          ∙ ap (splice (a .out .now) 0) (rw (p .part .ensures, s .sector-of .ensures, load-size (a .image .now) (length (a .out .now)) (a .k) _ is) (sym (ap (λ (r : Reading). r .bytes) given))),
-    )
+    let given = amount-given (a .out .now) _ _ _ (load-given (a .image .now) (length (a .out .now)) (a .k) _ is (f .if1 .left)) in
+    record {
+      said = given .said;
+      left =
+          j .join .ensures
+          ∙ ap (splice (a .out .now) 0) (rw (p .part .ensures, s .sector-of .ensures, load-size (a .image .now) (length (a .out .now)) (a .k) _ is))
+          ∙ given .left;
+    }
 
 returns-3 : tie.Need-returns-3
 returns-3 c =
     let k = c .before .before in
     let a = k .before .before .before .before .before .before .before .before .args in
-    amount-refused _ 14 (load-data (a .image .now) (length (a .out .now)) (a .k) _ (kind-is k ∙ c .enum-told .given .1) (fixed-apart _ _)) (λ z. omega (arith, z)) (a .out .now)
+    amount-refused (a .out .now) _ 14 (λ z. omega (arith, z)) (load-data (a .image .now) (length (a .out .now)) (a .k) _ (kind-is k ∙ c .enum-told .given .1) (fixed-apart _ _))
 
 returns-4 : tie.Need-returns-4
 returns-4 c =
     let k = c .before .before in
     let a = k .before .before .before .before .before .before .before .before .args in
-    amount-refused _ 14 (load-data (a .image .now) (length (a .out .now)) (a .k) _ (kind-is k ∙ c .enum-told2 .given .1) (variable-apart _ _)) (λ z. omega (arith, z)) (a .out .now)
+    amount-refused (a .out .now) _ 14 (λ z. omega (arith, z)) (load-data (a .image .now) (length (a .out .now)) (a .k) _ (kind-is k ∙ c .enum-told2 .given .1) (variable-apart _ _))
 
 pub load-at-spec : {M : Type 1} → statement M
 load-at-spec =

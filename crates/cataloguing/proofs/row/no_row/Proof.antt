@@ -1,6 +1,6 @@
 -- `cataloguing::row::no_row` meets its contract. Assumes nothing.
 use mathlib.Core.Path.{refl}
-use Rattle.rules.specs.Calls.Catalogue.{noRow}
+use Rattle.rules.specs.Calls.Entry.{noRow}
 use Rattle.cataloguing.proofs.row.no_row.Statement.{statement}
 use Rattle.cataloguing.proofs.row.no_row.Tie as tie
 

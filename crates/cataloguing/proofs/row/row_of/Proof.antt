@@ -8,7 +8,7 @@ use lib.Dec.{eqb}
 use lib.ListN.{replicate}
 use Rattle.rules.specs.Bytes.{part, splice}
 use Rattle.rules.specs.Descriptor.{nameOf, fileKind}
-use Rattle.rules.specs.Calls.Catalogue.{rowOf}
+use Rattle.rules.specs.Calls.Entry.{rowOf}
 use Rattle.rules.specs.declared.Kind.{Kind}
 use Rattle.rules.specs.declared.Row.{Row}
 use Rattle.rules.proofs.Bytes.{part-length}
