@@ -11,19 +11,10 @@ use borrow.Author.Needs.{needs}
 use Rattle.packing.proofs.write_packed.Statement.{statement}
 use Rattle.packing.proofs.write_packed.Tie as tie
 
-extent-of-requires : tie.Need-extent-of-requires
-extent-of-requires c κs = search needs
-
 lay-system-requires : tie.Need-lay-system-requires
 lay-system-requires c κs =
     let is = c .before .before .before .before .pre .0 in
     (omega (arith, c .before .extent-of .ensures .0, files-few _ is), label-length _ _ (is .whole) (omega (arith, is .size)))
-
-lay-descriptors-requires : tie.Need-lay-descriptors-requires
-lay-descriptors-requires c κs = search needs
-
-lay-data-requires : tie.Need-lay-data-requires
-lay-data-requires c κs = search needs
 
 mul-end : tie.Need-mul-end
 mul-end c =
@@ -48,15 +39,6 @@ sub-fill-free c = room c
 part-fill-free-start : tie.Need-part-fill-free-start
 part-fill-free-start c = room c
 
-part-fill-free-end : tie.Need-part-fill-free-end
-part-fill-free-end c = search needs
-
-fill-free-requires : tie.Need-fill-free-requires
-fill-free-requires c κs = search needs
-
-same-length : tie.Need-same-length
-same-length c = search needs
-
 returns : tie.Need-returns
 returns c =
     let d = c .before .before .before .before .before .before in
@@ -76,14 +58,14 @@ pub write-packed-spec : {M : Type 1} → statement M
 write-packed-spec =
     tie.close
     (tie.spec
-    extent-of-requires
+    (λ c κs. search needs)
     lay-system-requires
-    lay-descriptors-requires
-    lay-data-requires
+    (λ c κs. search needs)
+    (λ c κs. search needs)
     mul-end
     sub-fill-free
     part-fill-free-start
-    part-fill-free-end
-    fill-free-requires
-    same-length
+    (λ c. search needs)
+    (λ c κs. search needs)
+    (λ c. search needs)
     returns)

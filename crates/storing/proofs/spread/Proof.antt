@@ -14,9 +14,6 @@ Inv-loop sector0₀ chain₀ many search₀ tip₀ left₀ sector0 chain search 
 abbrev μ-loop : tie.MeasureT-loop
 μ-loop sector0₀ chain₀ many search₀ tip₀ left₀ sector0 chain search tip left = left
 
-first-requires : tie.Need-first-requires Inv-loop μ-loop
-first-requires c κs = search needs
-
 loop-holds : tie.Need-loop-holds Inv-loop μ-loop
 loop-holds c =
     let pre = c .before .before .before .pre in
@@ -43,9 +40,6 @@ returns c =
 extend-requires : tie.Need-extend-requires Inv-loop μ-loop
 extend-requires c κs =
     room-for _ _ _ _ _ _ _ (c .before .before .before .before .before .before .before .loop .inv) (c .before .before .before .before .before .before .loop-test .taken) _ (c .before .before .before .before .next .ensures .0) (c .before .before .before .before .before .before .before .before .before .before .before .pre .2) _ (c .before .before .before .tip-with .ensures) (c .before .if1 .left)
-
-mark-requires : tie.Need-mark-requires Inv-loop μ-loop
-mark-requires c κs = search needs
 
 sub-left : tie.Need-sub-left Inv-loop μ-loop
 sub-left c = omega (arith, c .before .before .before .before .before .before .before .before .before .before .before .before .before .loop-test .taken)
@@ -74,7 +68,7 @@ spread-spec =
     (tie.spec
     Inv-loop
     μ-loop
-    first-requires
+    (λ c κs. search needs)
     loop-holds
     next-requires
     tip-with-requires
@@ -82,7 +76,7 @@ spread-spec =
     same-length-2
     returns
     extend-requires
-    mark-requires
+    (λ c κs. search needs)
     sub-left
     loop-less
     loop-again

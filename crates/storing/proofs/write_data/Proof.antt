@@ -43,9 +43,6 @@ stepped c =
     let l = c .before .before .before in
     subst (λ (s : Step). Stepped (l .before .before .before .before .before .args .chain .now) (l .loop .cursor) s) (c .place .given .1) (c .before .before .step .ensures)
 
-first-requires : tie.Need-first-requires Inv-loop μ-loop
-first-requires c κs = search needs
-
 loop-holds : tie.Need-loop-holds Inv-loop μ-loop
 loop-holds c =
     let e = c .first .ensures in (
@@ -57,21 +54,6 @@ loop-holds c =
 
 step-requires : tie.Need-step-requires Inv-loop μ-loop
 step-requires c κs = c .loop .inv .1
-
-enum-known-place : tie.Need-enum-known-place Inv-loop μ-loop
-enum-known-place c = search needs
-
-slice-aggregate-lay : tie.Need-slice-aggregate-lay Inv-loop μ-loop
-slice-aggregate-lay c = search needs
-
-part-requires : tie.Need-part-requires Inv-loop μ-loop
-part-requires c κs = search needs
-
-lay-requires : tie.Need-lay-requires Inv-loop μ-loop
-lay-requires c κs = search needs
-
-slice-aggregate-write-sector : tie.Need-slice-aggregate-write-sector Inv-loop μ-loop
-slice-aggregate-write-sector c = search needs
 
 write-sector-requires : tie.Need-write-sector-requires Inv-loop μ-loop
 unfolding Stepped
@@ -102,9 +84,6 @@ loop-again c =
           ∙ l .inv .3),
     )
 
-enum-told : tie.Need-enum-told Inv-loop μ-loop
-enum-told c = search needs
-
 same-length : tie.Need-same-length Inv-loop μ-loop
 same-length c = c .before .before .before .loop .inv .0
 
@@ -120,18 +99,18 @@ write-data-spec =
     (tie.spec
     Inv-loop
     μ-loop
-    first-requires
+    (λ c κs. search needs)
     loop-holds
     step-requires
-    enum-known-place
-    slice-aggregate-lay
-    part-requires
-    lay-requires
-    slice-aggregate-write-sector
+    (λ c. search needs)
+    (λ c. search needs)
+    (λ c κs. search needs)
+    (λ c κs. search needs)
+    (λ c. search needs)
     write-sector-requires
     add-at
     loop-less
     loop-again
-    enum-told
+    (λ c. search needs)
     same-length
     returns)

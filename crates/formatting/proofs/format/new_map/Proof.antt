@@ -21,18 +21,6 @@ abbrev μ-loop : tie.MeasureT-loop
 loop-holds : tie.Need-loop-holds Inv-loop μ-loop
 loop-holds c = (refl, omega arith, refl)
 
-map-byte-requires : tie.Need-map-byte-requires Inv-loop μ-loop
-map-byte-requires c κs = search needs
-
-array-write-map : tie.Need-array-write-map Inv-loop μ-loop
-array-write-map c = search needs
-
-add-i : tie.Need-add-i Inv-loop μ-loop
-add-i c = search needs
-
-loop-less : tie.Need-loop-less Inv-loop μ-loop
-loop-less c = search needs
-
 loop-again : tie.Need-loop-again Inv-loop μ-loop
 unfolding mapOf
 loop-again c =
@@ -56,9 +44,9 @@ new-map-spec =
     Inv-loop
     μ-loop
     loop-holds
-    map-byte-requires
-    array-write-map
-    add-i
-    loop-less
+    (λ c κs. search needs)
+    (λ c. search needs)
+    (λ c. search needs)
+    (λ c. search needs)
     loop-again
     returns)

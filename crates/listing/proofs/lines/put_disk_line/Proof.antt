@@ -8,26 +8,14 @@ use borrow.Author.Needs.{needs}
 use Rattle.listing.proofs.lines.put_disk_line.Statement.{statement}
 use Rattle.listing.proofs.lines.put_disk_line.Tie as tie
 
-sector-of-requires : tie.Need-sector-of-requires
-sector-of-requires c κs = search needs
-
-part-requires : tie.Need-part-requires
-part-requires c κs = search needs
-
 put-name-requires : tie.Need-put-name-requires
 put-name-requires c κs = (search needs, rw (c .part .ensures, length-take) (omega arith))
 
 put-number-requires : tie.Need-put-number-requires
 put-number-requires c κs = omega (arith, c .before .before .before .put-name .ensures .ends, c .before .before .before .put-name .ensures .short)
 
-free-count-of-requires : tie.Need-free-count-of-requires
-free-count-of-requires c κs = search needs
-
 put-number-requires-2 : tie.Need-put-number-requires-2
 put-number-requires-2 c κs = omega (arith, c .before .before .before .before .before .before .before .before .put-name .ensures .ends, c .before .before .before .before .before .before .before .before .put-name .ensures .short, c .before .before .before .before .put-number .ensures .ends, c .before .before .before .before .put-number .ensures .short)
-
-same-length : tie.Need-same-length
-same-length c = search needs
 
 returns : tie.Need-returns
 unfolding diskLine
@@ -39,11 +27,11 @@ pub put-disk-line-spec : {M : Type 1} → statement M
 put-disk-line-spec =
     tie.close
     (tie.spec
-    sector-of-requires
-    part-requires
+    (λ c κs. search needs)
+    (λ c κs. search needs)
     put-name-requires
     put-number-requires
-    free-count-of-requires
+    (λ c κs. search needs)
     put-number-requires-2
-    same-length
+    (λ c. search needs)
     returns)

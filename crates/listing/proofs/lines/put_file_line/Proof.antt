@@ -9,24 +9,6 @@ use borrow.Author.Needs.{needs}
 use Rattle.listing.proofs.lines.put_file_line.Statement.{statement}
 use Rattle.listing.proofs.lines.put_file_line.Tie as tie
 
-byte-requires : tie.Need-byte-requires
-byte-requires c κs = search needs
-
-word-requires : tie.Need-word-requires
-word-requires c κs = search needs
-
-byte-requires-2 : tie.Need-byte-requires-2
-byte-requires-2 c κs = search needs
-
-byte-requires-3 : tie.Need-byte-requires-3
-byte-requires-3 c κs = search needs
-
-kind-of-requires : tie.Need-kind-of-requires
-kind-of-requires c κs = search needs
-
-part-requires : tie.Need-part-requires
-part-requires c κs = search needs
-
 put-name-requires : tie.Need-put-name-requires
 put-name-requires c κs = (search needs, rw (c .part .ensures, length-take) (omega arith))
 
@@ -34,9 +16,6 @@ put-kind-requires : tie.Need-put-kind-requires
 put-kind-requires c κs =
     let name = c .before .before .before .put-name .ensures in
     omega (arith, c .before .before .before .before .before .before .before .before .before .before .before .before .before .pre, name .ends, name .short)
-
-kind-length-requires : tie.Need-kind-length-requires
-kind-length-requires c κs = search needs
 
 put-number-requires : tie.Need-put-number-requires
 put-number-requires c κs =
@@ -58,9 +37,6 @@ put-protection-requires c κs =
     let long = c .before .before .before .before .before .before .before .put-number .ensures in
     let many = c .before .before .before .put-number2 .ensures in
     omega (arith, c .before .before .before .before .before .before .before .before .before .before .before .before .before .before .before .before .before .before .before .before .before .before .before .before .before .before .pre, name .ends, name .short, word .ends, word .short, long .ends, long .short, many .ends, many .short)
-
-same-length : tie.Need-same-length
-same-length c = search needs
 
 returns : tie.Need-returns
 unfolding fileLine nameOf fileKind
@@ -87,17 +63,17 @@ pub put-file-line-spec : {M : Type 1} → statement M
 put-file-line-spec =
     tie.close
     (tie.spec
-    byte-requires
-    word-requires
-    byte-requires-2
-    byte-requires-3
-    kind-of-requires
-    part-requires
+    (λ c κs. search needs)
+    (λ c κs. search needs)
+    (λ c κs. search needs)
+    (λ c κs. search needs)
+    (λ c κs. search needs)
+    (λ c κs. search needs)
     put-name-requires
     put-kind-requires
-    kind-length-requires
+    (λ c κs. search needs)
     put-number-requires
     put-number-requires-2
     put-protection-requires
-    same-length
+    (λ c. search needs)
     returns)

@@ -16,17 +16,8 @@ Inv-loop text₀ at image sector1 next₀ place₀ text next place = Ahead image
 abbrev μ-loop : tie.MeasureT-loop
 μ-loop text₀ at image sector1 next₀ place₀ text next place = length sector1 - place
 
-sector-of-requires : tie.Need-sector-of-requires Inv-loop μ-loop
-sector-of-requires c κs = search needs
-
 loop-holds : tie.Need-loop-holds Inv-loop μ-loop
 loop-holds c = ahead-start _ _ _ _ (c .sector-of .ensures)
-
-add-loop : tie.Need-add-loop Inv-loop μ-loop
-add-loop c = search needs
-
-word-requires : tie.Need-word-requires Inv-loop μ-loop
-word-requires c κs = search needs
 
 same-length : tie.Need-same-length Inv-loop μ-loop
 same-length c = c .before .before .before .loop .inv .kept
@@ -36,19 +27,10 @@ returns c =
     let l = c .before .before .before .loop in
     ahead-end (l .inv) (numbers-end _ _ (c .before .before .loop-test .taken) (sym (c .before .word .ensures .0) ∙ c .if1 .taken)) (sector-short _ _ _ (c .before .before .before .before .sector-of .ensures))
 
-sector-of-requires-2 : tie.Need-sector-of-requires-2 Inv-loop μ-loop
-sector-of-requires-2 c κs = search needs
-
 put-file-line-requires : tie.Need-put-file-line-requires Inv-loop μ-loop
 put-file-line-requires c κs =
     let l = c .before .before .before .before .before .loop in
     omega (arith, c .before .before .before .before .before .before .before .before .before .pre, l .inv .near, l .inv .inside, sector-short _ _ _ (c .before .before .before .before .before .before .sector-of .ensures))
-
-add-place : tie.Need-add-place Inv-loop μ-loop
-add-place c = search needs
-
-loop-less : tie.Need-loop-less Inv-loop μ-loop
-loop-less c = search needs
 
 loop-again : tie.Need-loop-again Inv-loop μ-loop
 loop-again c =
@@ -67,16 +49,16 @@ put-file-lines-spec =
     (tie.spec
     Inv-loop
     μ-loop
-    sector-of-requires
+    (λ c κs. search needs)
     loop-holds
-    add-loop
-    word-requires
+    (λ c. search needs)
+    (λ c κs. search needs)
     same-length
     returns
-    sector-of-requires-2
+    (λ c κs. search needs)
     put-file-line-requires
-    add-place
-    loop-less
+    (λ c. search needs)
+    (λ c. search needs)
     loop-again
     same-length-2
     returns-2)

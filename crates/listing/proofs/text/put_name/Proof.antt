@@ -9,23 +9,14 @@ use borrow.Author.Needs.{needs}
 use Rattle.listing.proofs.text.put_name.Statement.{statement}
 use Rattle.listing.proofs.text.put_name.Tie as tie
 
-unpadded-requires : tie.Need-unpadded-requires
-unpadded-requires c κs = search needs
-
 put-requires : tie.Need-put-requires
 put-requires c κs = (search needs, rw (c .unpadded .ensures) (omega (arith, unpadded-short (c .before .before .before .before .args .name .now), c .before .before .before .before .pre .1)))
-
-slice-aggregate-put : tie.Need-slice-aggregate-put
-slice-aggregate-put c = search needs
 
 put-requires-2 : tie.Need-put-requires-2
 put-requires-2 c κs =
     let few = unpadded-short (c .before .before .before .before .before .before .before .before .before .args .name .now) in
     let long = ap length (c .before .before .before .before .before .unpadded .ensures) in
     (omega (arith, few, long, c .before .before .before .before .before .before .before .before .before .pre .0, c .before .before .before .before .before .before .before .before .before .pre .1, c .before .before .before .before .put .ensures .ends), search needs)
-
-same-length : tie.Need-same-length
-same-length c = search needs
 
 returns : tie.Need-returns
 returns c =
@@ -37,9 +28,9 @@ pub put-name-spec : {M : Type 1} → statement M
 put-name-spec =
     tie.close
     (tie.spec
-    unpadded-requires
+    (λ c κs. search needs)
     put-requires
-    slice-aggregate-put
+    (λ c. search needs)
     put-requires-2
-    same-length
+    (λ c. search needs)
     returns)

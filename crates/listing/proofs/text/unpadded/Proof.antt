@@ -20,24 +20,12 @@ abbrev μ-loop : tie.MeasureT-loop
 loop-holds : tie.Need-loop-holds Inv-loop μ-loop
 loop-holds c = (search needs, refl)
 
-shared-slice-read-if1 : tie.Need-shared-slice-read-if1 Inv-loop μ-loop
-shared-slice-read-if1 c = search needs
-
-part-requires : tie.Need-part-requires Inv-loop μ-loop
-part-requires c κs = search needs
-
 returns : tie.Need-returns Inv-loop μ-loop
 returns c =
     let name = c .before .before .before .before .before .before .args .name .now in
     let l = c .before .before .before .before .loop in
     let none = name-space name (l .i) (c .before .before .before .loop-test .taken) (c .before .if1 .taken) in
     c .part .ensures ∙ sym (append-nil (take (l .i) name)) ∙ ap (λ (rest : List ℕ). take (l .i) name ++ rest) (sym none) ∙ l .inv .1
-
-add-i : tie.Need-add-i Inv-loop μ-loop
-add-i c = search needs
-
-loop-less : tie.Need-loop-less Inv-loop μ-loop
-loop-less c = search needs
 
 loop-again : tie.Need-loop-again Inv-loop μ-loop
 loop-again c =
@@ -59,10 +47,10 @@ unpadded-spec =
     Inv-loop
     μ-loop
     loop-holds
-    shared-slice-read-if1
-    part-requires
+    (λ c. search needs)
+    (λ c κs. search needs)
     returns
-    add-i
-    loop-less
+    (λ c. search needs)
+    (λ c. search needs)
     loop-again
     returns-2)

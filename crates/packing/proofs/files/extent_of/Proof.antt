@@ -29,17 +29,11 @@ stepped c =
     let read = rest-read (w .before .before .loop .inv .rest) (w .before .loop-test .taken) (w .word .ensures .0) (e .if1 .left) in
     counted-step (w .before .before .loop .inv) read (c .word2 .ensures .0 ∙ ap (λ (s : List ℕ). wordAt s 14) (d .sector-of2 .ensures))
 
-sector-of-requires : tie.Need-sector-of-requires Inv-loop μ-loop
-sector-of-requires c κs = search needs
-
 loop-holds : tie.Need-loop-holds Inv-loop μ-loop
 loop-holds c = counted-start _ _ (c .before .before .pre) (c .sector-of .ensures)
 
 add-loop : tie.Need-add-loop Inv-loop μ-loop
 add-loop c = omega (arith, c .loop .inv .rest .inside, c .loop .inv .rest .short)
-
-word-requires : tie.Need-word-requires Inv-loop μ-loop
-word-requires c κs = search needs
 
 returns : tie.Need-returns Inv-loop μ-loop
 returns c = counted-end (c .before .before .before .loop .inv) (numbers-end _ _ (c .before .before .loop-test .taken) (sym (c .before .word .ensures .0) ∙ c .if1 .taken))
@@ -47,23 +41,8 @@ returns c = counted-end (c .before .before .before .loop .inv) (numbers-end _ _ 
 add-files : tie.Need-add-files Inv-loop μ-loop
 add-files c = omega (arith, c .before .before .before .loop .inv .few, c .before .before .before .loop .inv .rest .inside, c .before .before .before .loop .inv .rest .short)
 
-sector-of-requires-2 : tie.Need-sector-of-requires-2 Inv-loop μ-loop
-sector-of-requires-2 c κs = search needs
-
-word-requires-2 : tie.Need-word-requires-2 Inv-loop μ-loop
-word-requires-2 c κs = search needs
-
-add-used : tie.Need-add-used Inv-loop μ-loop
-add-used c = search needs
-
 add-used-2 : tie.Need-add-used-2 Inv-loop μ-loop
 add-used-2 c = omega (arith, stepped c .used-is, used-inside _ (c .before .before .before .before .before .before .before .before .pre), c .before .before .before .before .before .before .before .before .pre .size)
-
-add-at : tie.Need-add-at Inv-loop μ-loop
-add-at c = search needs
-
-loop-less : tie.Need-loop-less Inv-loop μ-loop
-loop-less c = search needs
 
 loop-again : tie.Need-loop-again Inv-loop μ-loop
 loop-again c = stepped c
@@ -77,17 +56,17 @@ extent-of-spec =
     (tie.spec
     Inv-loop
     μ-loop
-    sector-of-requires
+    (λ c κs. search needs)
     loop-holds
     add-loop
-    word-requires
+    (λ c κs. search needs)
     returns
     add-files
-    sector-of-requires-2
-    word-requires-2
-    add-used
+    (λ c κs. search needs)
+    (λ c κs. search needs)
+    (λ c. search needs)
     add-used-2
-    add-at
-    loop-less
+    (λ c. search needs)
+    (λ c. search needs)
     loop-again
     returns-2)

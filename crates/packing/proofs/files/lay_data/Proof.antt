@@ -29,9 +29,6 @@ read c =
     let w = c .before in
     rest-read (w .before .before .loop .inv .rest) (w .before .loop-test .taken) (w .word .ensures .0) (c .if1 .left)
 
-sector-of-requires : tie.Need-sector-of-requires Inv-loop μ-loop
-sector-of-requires c κs = search needs
-
 mul-to : tie.Need-mul-to Inv-loop μ-loop
 mul-to c = omega (arith, c .before .before .before .pre .1, files-few _ (c .before .before .before .pre .0))
 
@@ -44,20 +41,11 @@ loop-holds c = joined-start _ _ _ _ (c .before .before .before .pre .0) (c .sect
 add-loop : tie.Need-add-loop Inv-loop μ-loop
 add-loop c = omega (arith, c .loop .inv .rest .inside, c .loop .inv .rest .short)
 
-word-requires : tie.Need-word-requires Inv-loop μ-loop
-word-requires c κs = search needs
-
 same-length : tie.Need-same-length Inv-loop μ-loop
 same-length c = c .before .before .before .loop .inv .kept
 
 returns : tie.Need-returns Inv-loop μ-loop
 returns c = joined-end (c .before .before .before .loop .inv) (numbers-end _ _ (c .before .before .loop-test .taken) (sym (c .before .word .ensures .0) ∙ c .if1 .taken))
-
-sector-of-requires-2 : tie.Need-sector-of-requires-2 Inv-loop μ-loop
-sector-of-requires-2 c κs = search needs
-
-part-requires : tie.Need-part-requires Inv-loop μ-loop
-part-requires c κs = search needs
 
 lay-sectors-requires : tie.Need-lay-sectors-requires Inv-loop μ-loop
 lay-sectors-requires c κs =
@@ -69,12 +57,6 @@ lay-sectors-requires c κs =
     let here = ap (λ (sectors : List (List ℕ)). length (joined sectors)) contents in
     let is = start .pre .0 in
     omega (arith, joined-ahead (l .loop .inv) (read e), here, start .pre .1, data-ends _ is, used-inside _ is, is .size)
-
-add-at : tie.Need-add-at Inv-loop μ-loop
-add-at c = search needs
-
-loop-less : tie.Need-loop-less Inv-loop μ-loop
-loop-less c = search needs
 
 loop-again : tie.Need-loop-again Inv-loop μ-loop
 loop-again c =
@@ -98,19 +80,19 @@ lay-data-spec =
     (tie.spec
     Inv-loop
     μ-loop
-    sector-of-requires
+    (λ c κs. search needs)
     mul-to
     add-to
     loop-holds
     add-loop
-    word-requires
+    (λ c κs. search needs)
     same-length
     returns
-    sector-of-requires-2
-    part-requires
+    (λ c κs. search needs)
+    (λ c κs. search needs)
     lay-sectors-requires
-    add-at
-    loop-less
+    (λ c. search needs)
+    (λ c. search needs)
     loop-again
     same-length-2
     returns-2)

@@ -43,9 +43,6 @@ few c =
     let start = l .before .before .before .before in
     omega (arith, described-ahead (l .loop .inv) (read c) (count c), used-inside _ (start .pre .0), start .pre .0 .size)
 
-sector-of-requires : tie.Need-sector-of-requires Inv-loop μ-loop
-sector-of-requires c κs = search needs
-
 add-start : tie.Need-add-start Inv-loop μ-loop
 add-start c = omega (arith, c .before .before .before .pre .1, files-few _ (c .before .before .before .pre .0))
 
@@ -55,26 +52,11 @@ loop-holds c = described-start _ _ _ _ (c .before .before .before .pre .0) (c .s
 add-loop : tie.Need-add-loop Inv-loop μ-loop
 add-loop c = omega (arith, c .loop .inv .rest .inside, c .loop .inv .rest .short)
 
-word-requires : tie.Need-word-requires Inv-loop μ-loop
-word-requires c κs = search needs
-
 same-length : tie.Need-same-length Inv-loop μ-loop
 same-length c = c .before .before .before .loop .inv .kept
 
 returns : tie.Need-returns Inv-loop μ-loop
 returns c = rw (c .before .before .before .before .before .before .before .pre .1) (described-end (c .before .before .before .loop .inv) (numbers-end _ _ (c .before .before .loop-test .taken) (sym (c .before .word .ensures .0) ∙ c .if1 .taken)))
-
-sector-of-requires-2 : tie.Need-sector-of-requires-2 Inv-loop μ-loop
-sector-of-requires-2 c κs = search needs
-
-word-requires-2 : tie.Need-word-requires-2 Inv-loop μ-loop
-word-requires-2 c κs = search needs
-
-slice-aggregate-packed-descriptor : tie.Need-slice-aggregate-packed-descriptor Inv-loop μ-loop
-slice-aggregate-packed-descriptor c = search needs
-
-part-requires : tie.Need-part-requires Inv-loop μ-loop
-part-requires c κs = search needs
 
 packed-descriptor-requires : tie.Need-packed-descriptor-requires Inv-loop μ-loop
 packed-descriptor-requires c κs =
@@ -83,12 +65,6 @@ packed-descriptor-requires c κs =
     let header = header-read (start .args .source .now) _ _ (w .before .sector-of2 .ensures) _ (c .part .ensures) in
     (refl, ap length header ∙ header-length _ _ (start .pre .0 .whole) _ (read w .inside), omega (arith, few w), omega (arith, few w))
 
-slice-aggregate-lay : tie.Need-slice-aggregate-lay Inv-loop μ-loop
-slice-aggregate-lay c = search needs
-
-lay-requires : tie.Need-lay-requires Inv-loop μ-loop
-lay-requires c κs = search needs
-
 add-start-2 : tie.Need-add-start-2 Inv-loop μ-loop
 add-start-2 c = omega (arith, few (c .before .before .before .before .before .before .before .before .before))
 
@@ -96,12 +72,6 @@ add-to : tie.Need-add-to Inv-loop μ-loop
 add-to c =
     let l = c .before .before .before .before .before .before .before .before .before .before .before .before .before .before .loop in
     omega (arith, l .inv .to-is, l .inv .rest .inside, l .inv .rest .short)
-
-add-at : tie.Need-add-at Inv-loop μ-loop
-add-at c = search needs
-
-loop-less : tie.Need-loop-less Inv-loop μ-loop
-loop-less c = search needs
 
 loop-again : tie.Need-loop-again Inv-loop μ-loop
 loop-again c =
@@ -127,24 +97,24 @@ lay-descriptors-spec =
     (tie.spec
     Inv-loop
     μ-loop
-    sector-of-requires
+    (λ c κs. search needs)
     add-start
     loop-holds
     add-loop
-    word-requires
+    (λ c κs. search needs)
     same-length
     returns
-    sector-of-requires-2
-    word-requires-2
-    slice-aggregate-packed-descriptor
-    part-requires
+    (λ c κs. search needs)
+    (λ c κs. search needs)
+    (λ c. search needs)
+    (λ c κs. search needs)
     packed-descriptor-requires
-    slice-aggregate-lay
-    lay-requires
+    (λ c. search needs)
+    (λ c κs. search needs)
     add-start-2
     add-to
-    add-at
-    loop-less
+    (λ c. search needs)
+    (λ c. search needs)
     loop-again
     same-length-2
     returns-2)

@@ -51,9 +51,6 @@ stepped c =
     let l = c .before .before .before in
     subst (λ (s : Step). Stepped (l .before .before .before .before .before .args .chain .now) (l .loop .cursor) s) (c .place .given .1) (c .before .before .step .ensures)
 
-first-requires : tie.Need-first-requires Inv-loop μ-loop
-first-requires c κs = search needs
-
 loop-holds : tie.Need-loop-holds Inv-loop μ-loop
 loop-holds c =
     let all = at-first (c .before .before .before .before .args .chain .now) in
@@ -62,15 +59,9 @@ loop-holds c =
 step-requires : tie.Need-step-requires Inv-loop μ-loop
 step-requires c κs = c .loop .inv .1
 
-enum-known-place : tie.Need-enum-known-place Inv-loop μ-loop
-enum-known-place c = search needs
-
 sector-of-requires : tie.Need-sector-of-requires Inv-loop μ-loop
 unfolding Stepped
 sector-of-requires c κs = omega (arith, stepped (c .before) .2)
-
-lay-requires : tie.Need-lay-requires Inv-loop μ-loop
-lay-requires c κs = search needs
 
 -- the place after the sector, and what is laid from there on
 further : (c : tie.After-lay Inv-loop μ-loop) →
@@ -106,9 +97,6 @@ loop-again c =
     let l = e .before .before .before .loop in
     (ap length (y .lay .ensures) ∙ splice-length (l .target) (l .to) _ ∙ l .inv .0, stepped e .1, further y .0, further y .1)
 
-enum-told : tie.Need-enum-told Inv-loop μ-loop
-enum-told c = search needs
-
 same-length : tie.Need-same-length Inv-loop μ-loop
 same-length c = c .before .before .before .loop .inv .0
 
@@ -126,15 +114,15 @@ lay-sectors-spec =
     (tie.spec
     Inv-loop
     μ-loop
-    first-requires
+    (λ c κs. search needs)
     loop-holds
     step-requires
-    enum-known-place
+    (λ c. search needs)
     sector-of-requires
-    lay-requires
+    (λ c κs. search needs)
     add-to
     loop-less
     loop-again
-    enum-told
+    (λ c. search needs)
     same-length
     returns)

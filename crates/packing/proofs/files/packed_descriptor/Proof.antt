@@ -30,9 +30,6 @@ one header start sectors long some =
     ∙ append-assoc header block (replicate 225 0)
     ∙ ap (λ (m : ℕ). header ++ over (replicate 228 0) (blocksBytes (oneBlock start m))) (sym e)
 
-lay-requires : tie.Need-lay-requires
-lay-requires c κs = search needs
-
 -- the header, in front of zeros
 headed : (c : tie.After-lay) →
     let a = c .before .before .before .before .args in
@@ -41,40 +38,10 @@ headed c =
     let start = c .before .before .before .before in
     c .lay .ensures ∙ ap (λ (d : List ℕ). splice d 0 (start .args .header .now)) (start .pre .0)
 
-same-length : tie.Need-same-length
-same-length c = search needs
-
 returns : tie.Need-returns
 returns c =
     let start = c .before .before .before .before .before .before .before in
     rw (c .if1 .taken) (headed (c .before .before .before) ∙ empty (start .args .header .now) (start .args .start) (start .pre .1))
-
-sub-last : tie.Need-sub-last
-sub-last c = search needs
-
-cast-low : tie.Need-cast-low
-cast-low c = search needs
-
-mul-middle : tie.Need-mul-middle
-mul-middle c = search needs
-
-add-middle : tie.Need-add-middle
-add-middle c = search needs
-
-cast-middle : tie.Need-cast-middle
-cast-middle c = search needs
-
-cast-high : tie.Need-cast-high
-cast-high c = search needs
-
-slice-aggregate-lay : tie.Need-slice-aggregate-lay
-slice-aggregate-lay c = search needs
-
-lay-requires-2 : tie.Need-lay-requires-2
-lay-requires-2 c κs = search needs
-
-same-length-2 : tie.Need-same-length-2
-same-length-2 c = search needs
 
 returns-2 : tie.Need-returns-2
 unfolding blockBytes
@@ -89,16 +56,16 @@ pub packed-descriptor-spec : {M : Type 1} → statement M
 packed-descriptor-spec =
     tie.close
     (tie.spec
-    lay-requires
-    same-length
+    (λ c κs. search needs)
+    (λ c. search needs)
     returns
-    sub-last
-    cast-low
-    mul-middle
-    add-middle
-    cast-middle
-    cast-high
-    slice-aggregate-lay
-    lay-requires-2
-    same-length-2
+    (λ c. search needs)
+    (λ c. search needs)
+    (λ c. search needs)
+    (λ c. search needs)
+    (λ c. search needs)
+    (λ c. search needs)
+    (λ c. search needs)
+    (λ c κs. search needs)
+    (λ c. search needs)
     returns-2)
