@@ -9,6 +9,7 @@ pub mod Map
 pub mod Chain
 pub mod Status
 pub mod Descriptor
+pub mod Fields
 pub mod Index
 pub mod Volume
 pub mod Indexed
@@ -22,5 +23,6 @@ pub mod Choice
 pub mod Outcome
 pub mod Changes
 pub mod Formatted
+pub mod MapMade
 pub mod Listing
 pub mod Packing
