@@ -1,4 +1,4 @@
--- `listing::text::put_kind` meets its contract, case by case. Assumes nothing.
+-- `listing::text::put_kind` meets its contract: in each case of the kind the bytes laid are its word and a space. Assumes nothing.
 use native.Mathlib.Omega.{arith}
 use Rattle.rules.specs.Calls.Listing.{kindWord}
 use Rattle.listing.proofs.LaidLaws.{laid-as}
@@ -9,27 +9,36 @@ use Rattle.listing.proofs.text.put_kind.Tie as tie
 returns : tie.Need-returns
 unfolding kindWord
 returns c =
-    laid-as (rw (c .before .before .before .before .before .before .before .kind .given .1, c .before .before .before .before .before .if1 .taken)) (omega arith) (c .before .before .put2 .ensures)
+    let p = c .before .before in
+    let t = p .before .before .before in
+    laid-as (rw (t .before .before .kind .given .1, t .if1 .taken)) (omega arith) (p .put2 .ensures)
 
 returns-2 : tie.Need-returns-2
 unfolding kindWord
 returns-2 c =
-    laid-as (rw (c .before .before .before .before .before .before .before .kind2 .given .1, c .before .before .before .before .before .if2 .taken)) (omega arith) (c .before .before .put4 .ensures)
+    let p = c .before .before in
+    let t = p .before .before .before in
+    laid-as (rw (t .before .before .kind2 .given .1, t .if2 .taken)) (omega arith) (p .put4 .ensures)
 
 returns-3 : tie.Need-returns-3
 unfolding kindWord
 returns-3 c =
-    laid-as (rw (c .before .before .before .before .before .enum-told .given .1)) (omega arith) (c .before .before .put .ensures)
+    let p = c .before .before in
+    laid-as (rw (p .before .before .before .enum-told .given .1)) (omega arith) (p .put .ensures)
 
 returns-4 : tie.Need-returns-4
 unfolding kindWord
 returns-4 c =
-    laid-as (rw (c .before .before .before .before .before .before .before .kind .given .1, c .before .before .before .before .before .if1 .left)) (omega arith) (c .before .before .put3 .ensures)
+    let p = c .before .before in
+    let t = p .before .before .before in
+    laid-as (rw (t .before .before .kind .given .1, t .if1 .left)) (omega arith) (p .put3 .ensures)
 
 returns-5 : tie.Need-returns-5
 unfolding kindWord
 returns-5 c =
-    laid-as (rw (c .before .before .before .before .before .before .before .kind2 .given .1, c .before .before .before .before .before .if2 .left)) (omega arith) (c .before .before .put5 .ensures)
+    let p = c .before .before in
+    let t = p .before .before .before in
+    laid-as (rw (t .before .before .kind2 .given .1, t .if2 .left)) (omega arith) (p .put5 .ensures)
 
 pub put-kind-spec : {M : Type 1} → statement M
 put-kind-spec =
