@@ -2,6 +2,7 @@
 pub mod Tests
 pub mod Bytes
 pub mod Splice
+pub mod Pieces
 pub mod Sectors
 pub mod Name
 pub mod Label

@@ -1,4 +1,4 @@
--- `packing::system::bit` meets its contract. Assumes nothing.
+-- `packing::system::bit` meets its contract: a sector below `used` is in the run from 0 on, one past the end counts as held, and any other is neither. Assumes nothing.
 use mathlib.Core.Path.{sym}
 use native.Mathlib.Omega.{arith}
 use Rattle.rules.proofs.Map.{taken-past}
