@@ -1,4 +1,4 @@
--- `listing::lines::put_file_lines` meets its contract. The loop's invariant: the lines of the numbers from byte `place` on, laid from `next` on, give what all lines give (`Ahead`).
+-- `listing::lines::put_file_lines` meets its contract. The loop's invariant: the lines of the numbers from byte `place` on are left, and go to `next` (`Ahead`).
 -- The measure is what is left of sector 1. Assumes nothing.
 use mathlib.Core.Path.{sym, _∙_}
 use Prim.Native.Nat.{_-_, _≤_}
@@ -30,7 +30,7 @@ short : (c : tie.At-loop Inv-loop μ-loop) → length (c .before .sector-of .res
 short c = sector-short _ _ _ (c .before .sector-of .ensures)
 
 same-length : tie.Need-same-length Inv-loop μ-loop
-same-length c = c .before .before .before .loop .inv .kept
+same-length c = c .before .before .before .loop .inv .pieces .kept
 
 returns : tie.Need-returns Inv-loop μ-loop
 returns c =
@@ -52,7 +52,7 @@ loop-again c =
     ahead-step (turn w .loop .inv) (w .before .loop-test .taken) (w .word .ensures .0) (e .if1 .left) (d .sector-of2 .ensures) (p .put-file-line .ensures)
 
 same-length-2 : tie.Need-same-length-2 Inv-loop μ-loop
-same-length-2 c = c .before .loop .inv .kept
+same-length-2 c = c .before .loop .inv .pieces .kept
 
 returns-2 : tie.Need-returns-2 Inv-loop μ-loop
 returns-2 c =

@@ -51,12 +51,14 @@ put-requires c κs = (search needs, rw (c .part .ensures) (rw length-take (omega
 
 returns : tie.Need-returns Inv-loop μ-loop
 returns c =
-    let l = c .before .before .before .before .before .before .before .before .loop in
-    let figures = set (l .figures) (l .first) (c .before .before .before .before .before .before .digit2 .result) in
+    let p = c .before .before in
+    let d = p .before .before .before .before in
+    let l = d .before .before .loop in
+    let figures = set (l .figures) (l .first) (d .digit2 .result) in
     let few : length (drop (l .first) figures) ≤ 21 = simp (length-drop, length-set) (omega (arith, l .inv .0)) in
-    let all = c .before .before .before .part .ensures ∙ take-all 21 (drop (l .first) figures) few in
-    let last = digit-last (l .figures) (l .first) (l .left) (c .before .before .before .before .before .before .digit2 .result) (omega (arith, l .inv .0, l .inv .1)) (c .before .before .before .before .before .before .before .loop-test .left) (c .before .before .before .before .before .before .digit2 .ensures) in
-    laid-as (all ∙ last ∙ l .inv .3) (rw all few) (c .before .before .put .ensures)
+    let all = p .before .part .ensures ∙ take-all 21 (drop (l .first) figures) few in
+    let last = digit-last (l .figures) (l .first) (l .left) (d .digit2 .result) (omega (arith, l .inv .0, l .inv .1)) (d .before .loop-test .left) (d .digit2 .ensures) in
+    laid-as (all ∙ last ∙ l .inv .3) (rw all few) (p .put .ensures)
 
 pub put-number-spec : {M : Type 1} → statement M
 put-number-spec =
