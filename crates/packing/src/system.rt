@@ -1,7 +1,7 @@
 // Sectors 0 and 1 of the packed form: the label area as it was, the map of the sectors below `used`, the numbers from 2 on.
 ghost use mathlib.Core.Path.{_≡_};
 ghost use mathlib.Core.List.{_++_};
-ghost use Prim.Native.Nat.{_≤_, _<_, _*_};
+ghost use Prim.Native.Nat.{_+_, _*_, _≤_, _<_};
 ghost use lib.ListN.{length};
 ghost use Rattle.rules.specs.Bytes.{splice};
 ghost use Rattle.rules.specs.Sectors.{sectorCount};
@@ -26,20 +26,20 @@ fn bit(n: usize, used: usize, k: usize) -> u8
     0
 }
 
+// The bits of four sectors from k on, the lowest first.
+fn four_bits(n: usize, used: usize, k: usize) -> u8
+    requires { ⌜ k < 1604 ⌝ }
+    ensures { λ r. ⌜ (r ≡ taken n (run 0 used) k + 2 * taken n (run 0 used) (k + 1) + 4 * taken n (run 0 used) (k + 2) + 8 * taken n (run 0 used) (k + 3)) × (r ≤ 15) ⌝ }
+{
+    bit(n, used, k) + 2 * bit(n, used, k + 1) + 4 * bit(n, used, k + 2) + 8 * bit(n, used, k + 3)
+}
+
 // The byte of the map from sector k on.
 fn map_byte(n: usize, used: usize, k: usize) -> u8
     requires { ⌜ k < 1600 ⌝ }
     ensures { λ r. ⌜ r ≡ byteOf (taken n (run 0 used)) k ⌝ }
 {
-    let low = bit(n, used, k)
-        + 2 * bit(n, used, k + 1)
-        + 4 * bit(n, used, k + 2)
-        + 8 * bit(n, used, k + 3);
-    let high = 16 * bit(n, used, k + 4)
-        + 32 * bit(n, used, k + 5)
-        + 64 * bit(n, used, k + 6)
-        + 128 * bit(n, used, k + 7);
-    low + high
+    four_bits(n, used, k) + 16 * four_bits(n, used, k + 4)
 }
 
 // Bytes 56 to 255 of sector 0.

@@ -1,11 +1,10 @@
 -- `packing::files::lay_sectors` meets its contract. The loop's invariant: the sectors of the places ahead of the cursor are left, and go to `to` (`Pieces`).
 -- The measure is the number of places ahead. Assumes nothing.
-use mathlib.Core.Path.{_≡_, sym, ap, _∙_}
+use mathlib.Core.Path.{_≡_, ap}
 use mathlib.Core.List.{List, [], _∷_, _++_, map}
 use Prim.Native.Nat.{ℕ, _+_}
 use native.Mathlib.Omega.{arith}
 use lib.ListN.{length}
-use Rattle.rules.specs.Bytes.{splice}
 use Rattle.rules.specs.Sectors.{sectorOf}
 use Rattle.rules.specs.Chain.{places}
 use Rattle.rules.specs.Calls.Load.{joined}

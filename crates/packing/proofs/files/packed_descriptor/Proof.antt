@@ -1,7 +1,7 @@
 -- `packing::files::packed_descriptor` meets its contract: header and block laid one behind the other over zeros. Assumes nothing.
 use mathlib.Core.Path.{_≡_, sym, ap, _∙_}
 use mathlib.Core.List.{List, _++_, append-assoc}
-use Prim.Native.Nat.{ℕ, suc, _+_, _-_}
+use Prim.Native.Nat.{ℕ, suc, _-_}
 use native.Mathlib.Omega.{arith}
 use lib.ListN.{length, drop, replicate, length-append}
 use Rattle.rules.specs.Bytes.{over, splice}
@@ -30,27 +30,29 @@ one header start sectors long some =
     ∙ append-assoc header block (replicate 225 0)
     ∙ ap (λ (m : ℕ). header ++ over (replicate 228 0) (blocksBytes (oneBlock start m))) (sym e)
 
--- the header, in front of zeros
-headed : (c : tie.After-lay) →
-    let a = c .before .before .before .before .args in
-    c .lay .last .0 ≡ splice (replicate 256 0) 0 (a .header .now)
-headed c =
-    let start = c .before .before .before .before in
-    c .lay .ensures ∙ ap (λ (d : List ℕ). splice d 0 (start .args .header .now)) (start .pre .0)
+-- the start of the call, and the header laid in front of zeros
+abbrev start : tie.After-lay → tie.Start
+start c = c .before .before .before .before
+
+headed : (c : tie.After-lay) → c .lay .last .0 ≡ splice (replicate 256 0) 0 (start c .args .header .now)
+headed c = c .lay .ensures ∙ ap (λ (d : List ℕ). splice d 0 (start c .args .header .now)) (start c .pre .0)
 
 returns : tie.Need-returns
 returns c =
-    let start = c .before .before .before .before .before .before .before in
-    rw (c .if1 .taken) (headed (c .before .before .before) ∙ empty (start .args .header .now) (start .args .start) (start .pre .1))
+    let y = c .before .before .before in
+    let a = start y .args in
+    rw (c .if1 .taken) (headed y ∙ empty (a .header .now) (a .start) (start y .pre .1))
 
 returns-2 : tie.Need-returns-2
 unfolding blockBytes
 returns-2 c =
-    let start = c .before .before .before .before .before .before .before .before .before .before .before .before in
-    let a = start .args in
-    c .before .before .lay2 .ensures
-    ∙ ap (λ (d : List ℕ). splice d 28 (blockBytes (record { start = a .start; last = a .sectors - 1 }))) (headed (c .before .before .before .before .before .before .before .before))
-    ∙ one (a .header .now) (a .start) (a .sectors) (start .pre .1) (c .before .before .before .before .before .if1 .left)
+    let z = c .before .before in
+    let e = z .before .before .before in
+    let y = e .before .before .before in
+    let a = start y .args in
+    z .lay2 .ensures
+    ∙ ap (λ (d : List ℕ). splice d 28 (blockBytes (record { start = a .start; last = a .sectors - 1 }))) (headed y)
+    ∙ one (a .header .now) (a .start) (a .sectors) (start y .pre .1) (e .if1 .left)
 
 pub packed-descriptor-spec : {M : Type 1} → statement M
 packed-descriptor-spec =

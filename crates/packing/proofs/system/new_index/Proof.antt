@@ -1,10 +1,9 @@
 -- `packing::system::new_index` meets its contract. The loop's invariant: the numbers from the p-th on are left, and go to byte 2 × p (`Pieces`). The measure is the number of files left. Assumes nothing.
-use mathlib.Core.Path.{_≡_, sym, ap, _∙_}
+use mathlib.Core.Path.{_≡_, ap, _∙_}
 use mathlib.Core.List.{List, [], _∷_, _++_}
 use Prim.Native.Nat.{ℕ, _+_, _*_, _/_, _%_, _≤_, _<_, _-_}
 use native.Mathlib.Omega.{arith}
-use lib.ListN.{length, replicate}
-use Rattle.rules.specs.Bytes.{wordBytes}
+use lib.ListN.{replicate}
 use Rattle.rules.specs.Chain.{run}
 use Rattle.rules.specs.Index.{numbersBytes}
 use Rattle.rules.proofs.Pieces.{Pieces, pieces-first, pieces-next, pieces-last}

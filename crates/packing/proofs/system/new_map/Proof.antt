@@ -1,6 +1,5 @@
 -- `packing::system::new_map` meets its contract. The loop's invariant: the first i bytes are the map's (`MapMade`). The measure is what is left of the 200. Assumes nothing.
 use Prim.Native.Nat.{_-_}
-use native.Mathlib.Omega.{arith}
 use Rattle.rules.specs.Chain.{run}
 use Rattle.rules.proofs.MapMade.{MapMade, made-none, made-byte, map-made}
 use borrow.Author.Needs.{needs}
