@@ -5,6 +5,7 @@ use Prim.Native.Nat.{ℕ}
 use native.Mathlib.Omega.{arith}
 use lib.ListN.{length, replicate, length-append}
 use Rattle.rules.specs.Bytes.{splice}
+use Rattle.rules.specs.Chain.{run}
 use Rattle.rules.proofs.Splice.{splice-whole}
 use Rattle.rules.proofs.Formatted.{laid-next, map-length, label-length}
 use Rattle.formatting.specs.Geometry.{geometryOf}
@@ -18,6 +19,7 @@ laid label map long long′ =
     laid-next (replicate 256 0) label map 56 long ∙ splice-whole (replicate 256 0) (label ++ map) (length-append label map ∙ omega arith)
 
 returns : tie.Need-returns
+unfolding run
 returns c =
     let first = c .before .before .before .before .before .lay .ensures in
     let mapped = c .before .before .before .before .before .before .before .before in

@@ -7,12 +7,17 @@ use lib.ListN.{replicate}
 use Rattle.rules.specs.Chain.{run}
 use Rattle.rules.specs.Index.{numbersBytes}
 use Rattle.rules.proofs.Pieces.{Pieces, pieces-first, pieces-next, pieces-last}
-use Rattle.rules.proofs.Chain.{run-none}
+use Rattle.rules.proofs.Chain.{run-none, run-step}
 use Rattle.rules.proofs.Indexed.{laid-index}
-use Rattle.packing.proofs.RunLaws.{run-first}
 use borrow.Author.Needs.{needs}
 use Rattle.packing.proofs.system.new_index.Statement.{statement}
 use Rattle.packing.proofs.system.new_index.Tie as tie
+
+-- a run that is not over begins with its first number
+run-first : (s many : ℕ) → 0 < many → run s many ≡ s ∷ run (s + 1) (many - 1)
+run-first s many h =
+    let e : many ≡ many - 1 + 1 = omega arith in
+    ap (run s) e ∙ run-step s (many - 1)
 
 -- the numbers of the files from the p-th on
 abbrev left : ℕ → ℕ → List ℕ

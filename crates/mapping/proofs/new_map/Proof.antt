@@ -1,16 +1,16 @@
--- `formatting::format::new_map` meets its contract. The loop's invariant: the first i bytes are the map's (`MapMade`). The measure is what is left of the 200. Assumes nothing.
-use mathlib.Core.List.{[], _∷_}
+-- `mapping::new_map` meets its contract. The loop's invariant: the first i bytes are the map's (`MapMade`). The measure is what is left of the 200. Assumes nothing.
 use Prim.Native.Nat.{_-_}
+use Rattle.rules.specs.Chain.{run}
 use Rattle.rules.proofs.MapMade.{MapMade, made-none, made-byte, map-made}
 use borrow.Author.Needs.{needs}
-use Rattle.formatting.proofs.format.new_map.Statement.{statement}
-use Rattle.formatting.proofs.format.new_map.Tie as tie
+use Rattle.mapping.proofs.new_map.Statement.{statement}
+use Rattle.mapping.proofs.new_map.Tie as tie
 
 abbrev Inv-loop : tie.InvT-loop
-Inv-loop n map₀ i₀ map i = MapMade n (0 ∷ (1 ∷ [])) map i
+Inv-loop n used map₀ i₀ map i = MapMade n (run 0 used) map i
 
 abbrev μ-loop : tie.MeasureT-loop
-μ-loop n map₀ i₀ map i = 200 - i
+μ-loop n used map₀ i₀ map i = 200 - i
 
 loop-holds : tie.Need-loop-holds Inv-loop μ-loop
 loop-holds c = made-none _ _
@@ -28,6 +28,7 @@ new-map-spec =
     Inv-loop
     μ-loop
     loop-holds
+    (λ c. search needs)
     (λ c κs. search needs)
     (λ c. search needs)
     (λ c. search needs)
