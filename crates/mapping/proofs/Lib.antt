@@ -1,2 +1,2 @@
 -- The laws that the proofs share.
-mod EmptyMap
+mod HeldBytes
