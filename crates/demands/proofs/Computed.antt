@@ -18,7 +18,7 @@ use Rattle.rules.specs.Kind.{statusRule, programLength, kindOf, kindRule}
 use Rattle.rules.specs.Descriptor.{nameOf, chainOf, fileKind, descriptorRule, newDescriptor, withChain}
 use Rattle.rules.specs.Index.{numbers, rangeRule, indexRule, numbersBytes, indexOf, without}
 use Rattle.rules.specs.Volume.{files, nameIn, placesIn, fileHolders, holders, placed, headerIn, contentsIn, fileIn, catalogue}
-use Rattle.rules.specs.Packing.{labelArea, oneBlock, packedDescriptor, packedDescriptors, packedData, dataSectors, packedSectors, packed}
+use Rattle.rules.specs.Calls.Pack.{labelArea, oneBlock, packedDescriptor, packedDescriptors, packedData, dataSectors, packedSectors, packed}
 use Rattle.rules.specs.Calls.Load.{joined}
 use Rattle.rules.specs.Verdict.{sizeRule, descriptorsRule, heldTwice, verdict}
 use Rattle.rules.specs.Choice.{lowestFree, descriptorChoice, dataChoice, dataChoices}

@@ -12,7 +12,7 @@ use Rattle.rules.specs.Sectors.{sectorCount}
 use Rattle.rules.specs.Volume.{File, catalogue}
 use Rattle.rules.specs.Verdict.{verdict}
 use Rattle.rules.specs.Sound.{Sound}
-use Rattle.rules.specs.Packing.{labelArea, packed, packNumber, afterPack}
+use Rattle.rules.specs.Calls.Pack.{labelArea, packed, packNumber, afterPack}
 use Rattle.rules.proofs.Verdict.{sound, passes}
 use Rattle.demands.specs.Demand3.{Packable, Demand3, packs}
 use Rattle.demands.proofs.Packing.{label-byte, packedImage, same-size, same-label, same-catalogue, packed-sound}

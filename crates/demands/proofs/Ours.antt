@@ -30,7 +30,7 @@ use Rattle.rules.specs.Calls.Protect.{protectOf, unprotectOf}
 use Rattle.rules.specs.Calls.Store.{storeOf}
 use Rattle.rules.specs.Calls.Delete.{deleteOf}
 use Rattle.rules.specs.Calls.Rename.{renameOf}
-use Rattle.rules.specs.Packing.{packNumber}
+use Rattle.rules.specs.Calls.Pack.{packNumber}
 use Rattle.rules.specs.declared.Summary.the-variants as summary
 use Rattle.rules.proofs.Splice.{splice-none}
 use Rattle.rules.proofs.Name.{name-is}

@@ -28,7 +28,7 @@ use Rattle.rules.specs.Calls.Format.{Geometry, formatNumber}
 use Rattle.rules.specs.Calls.Create.{createStatus, creating, createOf}
 use Rattle.rules.specs.Calls.Append.{appending, appendOf}
 use Rattle.rules.specs.Calls.Store.{sectorsFor, storing, storeOf}
-use Rattle.rules.specs.Packing.{packNumber}
+use Rattle.rules.specs.Calls.Pack.{packNumber}
 use Rattle.rules.specs.Calls.Rename.{renaming, renameOf}
 use Rattle.rules.specs.Calls.Protect.{protecting, protectOf, unprotectOf}
 use Rattle.rules.specs.Calls.Delete.{deleting, deleteOf}

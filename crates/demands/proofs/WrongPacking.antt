@@ -22,7 +22,7 @@ use Rattle.rules.specs.Outcome.{findIn, openOf, changing, adding}
 use Rattle.rules.specs.Calls.Format.{newLabel, formatted}
 use Rattle.rules.specs.Calls.Create.{createStatus, entered, creating, createOf}
 use Rattle.rules.specs.Calls.Delete.{deleting, deleteOf}
-use Rattle.rules.specs.Packing.{labelArea, dataSectors, packedSectors, packed, packNumber}
+use Rattle.rules.specs.Calls.Pack.{labelArea, dataSectors, packedSectors, packed, packNumber}
 use Rattle.rules.proofs.Bytes.{same-is}
 use Rattle.rules.proofs.Formatted.{formatted-length}
 use Rattle.rules.proofs.Written.{written-length}

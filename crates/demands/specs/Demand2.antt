@@ -11,7 +11,7 @@ use Rattle.rules.specs.Calls.Catalogue.{rowOf}
 use Rattle.rules.specs.Calls.Format.{Geometry, newLabel}
 use Rattle.rules.specs.Calls.Load.{joined}
 use Rattle.rules.specs.Calls.Listing.{listingText}
-use Rattle.rules.specs.Packing.{labelArea}
+use Rattle.rules.specs.Calls.Pack.{labelArea}
 use Rattle.rules.specs.declared.Amount.{Amount}
 use Rattle.rules.specs.declared.Amount.the-variants as amount
 use Rattle.rules.specs.declared.Answer.the-variants as answer

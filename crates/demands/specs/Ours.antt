@@ -19,7 +19,7 @@ use Rattle.rules.specs.Calls.Protect.{protectOf, unprotectOf}
 use Rattle.rules.specs.Calls.Store.{storeOf}
 use Rattle.rules.specs.Calls.Delete.{deleteOf}
 use Rattle.rules.specs.Calls.Rename.{renameOf}
-use Rattle.rules.specs.Packing.{packNumber, afterPack}
+use Rattle.rules.specs.Calls.Pack.{packNumber, afterPack}
 use Rattle.demands.specs.Call.{Version, Call, judge, format, freeCount, summarize, entry, read, load, list, create, append, overwrite, protect, unprotect, store, delete, rename, pack}
 
 unfoldable pub ours : Version
