@@ -1,4 +1,4 @@
--- `extension::block_bytes` meets its contract. Assumes nothing.
+-- `extension::block_bytes` meets its contract: the three bytes are the definition's, and small numbers keep each in its byte. Assumes nothing.
 use mathlib.Core.Path.{refl}
 use Rattle.rules.specs.Chain.{blockBytes}
 use borrow.Author.Needs.{needs}

@@ -1,4 +1,4 @@
--- `judge::files::chain_end` meets its contract. Assumes nothing.
+-- `judge::files::chain_end` meets its contract: its two ways out are the definition's two tests. Assumes nothing.
 use borrow.Author.Tests.{eq-eqb, ne-eqb}
 use borrow.Author.Needs.{needs}
 use Rattle.judge.proofs.files.chain_end.Statement.{statement}

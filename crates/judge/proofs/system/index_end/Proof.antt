@@ -1,4 +1,4 @@
--- `judge::system::index_end` meets its contract. Assumes nothing.
+-- `judge::system::index_end` meets its contract: its two ways out are the definition's two tests. Assumes nothing.
 use borrow.Author.Tests.{le-ltb, lt-ltb}
 use borrow.Author.Needs.{needs}
 use Rattle.judge.proofs.system.index_end.Statement.{statement}
