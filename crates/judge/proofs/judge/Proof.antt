@@ -2,7 +2,7 @@
 -- are laws of the claims. Assumes nothing.
 use mathlib.Core.Path.{_≡_, sym, _∙_}
 use mathlib.Core.Bool.{true}
-use mathlib.Core.List.{List, []}
+use mathlib.Core.List.{List}
 use Prim.Native.Nat.{ℕ, _≤_}
 use native.Mathlib.Omega.{arith}
 use borrow.Author.Tests.{eq-eqb, ne-eqb, le-leb, lt-leb, not-true, not-false}
@@ -10,8 +10,8 @@ use Rattle.rules.specs.Sectors.{sectorOf, sectorCount}
 use Rattle.rules.specs.Label.{labelRule}
 use Rattle.rules.specs.Index.{indexRule}
 use Rattle.rules.specs.Map.{mapRule}
-use Rattle.rules.specs.Volume.{files, holders}
-use Rattle.rules.specs.Verdict.{sizeRule, descriptorsRule, heldTwice}
+use Rattle.rules.specs.Volume.{holders}
+use Rattle.rules.specs.Verdict.{sizeRule, heldTwice}
 use Rattle.rules.proofs.Bytes.{part-length}
 use Rattle.rules.proofs.Sectors.{sector-length}
 use Rattle.rules.proofs.Verdict.{size-is}
