@@ -1,4 +1,4 @@
-// Blocks, the walk over those of a chain, and the cursor that goes through the places of a chain.
+// Blocks, the walk over those of a chain, and the cursor that goes through its places.
 ghost use mathlib.Core.Path.{_≡_};
 ghost use Prim.Native.Nat.{_-_, _≤_, _<_};
 ghost use lib.ListN.{length, getD};

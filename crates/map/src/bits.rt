@@ -17,6 +17,7 @@ pub fn with_bit(value: u8, j: usize, bit: u8) -> u8
     value - (was << j) + (bit << j)
 }
 
+// Its two cases.
 pub fn with_one(value: u8, j: usize) -> u8
     requires { ⌜ j < 8 ⌝ }
     ensures { λ r. ⌜ r ≡ withBit value j 1 ⌝ }
