@@ -2,7 +2,7 @@
 use mathlib.Core.Path.{_≡_, refl, sym, _∙_}
 use mathlib.Core.List.{List}
 use Prim.Native.Nat.{ℕ}
-use Rattle.rules.specs.Outcome.{Report, Outcome, AnswerSays, AmountSays, Meets, Gives}
+use Rattle.rules.specs.Outcome.{Report, Outcome, AnswerSays, AmountSays, Meets, Gives, behind}
 use Rattle.rules.specs.Calls.Read.{ReadSays}
 use Rattle.rules.specs.declared.Amount.{Amount}
 use Rattle.rules.specs.declared.Amount.the-variants.{Given, Refused}
@@ -30,3 +30,7 @@ amount-crosses report (Given value) r before after said n b =
     record { returned = n ∙ sym (said .0); value = b ∙ said .1 ∙ sym (behind-given r (report .value) before n) }
 amount-crosses report (Refused refused) r before after said n b =
     record { returned = n ∙ said .0; value = b ∙ sym (behind-kept r (report .value) before (λ z. said .1 (sym (said .0) ∙ sym n ∙ z))) }
+
+-- behind a pointer stands what stood there, after a refusal
+pub refused-kept : (refused number value before : ℕ) → (refused ≡ number) × (number ≡ 0 → ⊥) → before ≡ behind refused value before
+refused-kept refused number value before said = sym (behind-kept refused value before (λ z. said .1 (sym (said .0) ∙ z)))

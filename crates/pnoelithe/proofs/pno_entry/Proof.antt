@@ -5,8 +5,9 @@ use Rattle.rules.specs.Calls.Entry.{rowOf, noRow, entryRow, entryOf}
 use Rattle.rules.specs.Calls.Listing.{kindLength}
 use Rattle.rules.specs.declared.Row.{Row}
 use Rattle.rules.proofs.Tests.{unless-passed}
-use Rattle.rules.proofs.Outcome.{behind-given, behind-kept}
+use Rattle.rules.proofs.Outcome.{behind-given}
 use Rattle.pnoelithe.specs.Crossing.{kindNumber, flag}
+use Rattle.pnoelithe.proofs.Crossings.{refused-kept}
 use borrow.Author.Needs.{needs}
 use Rattle.pnoelithe.proofs.pno_entry.Statement.{statement}
 use Rattle.pnoelithe.proofs.pno_entry.Tie as tie
@@ -17,8 +18,7 @@ returns c =
     let o = c .before in
     let gives = o .before .before .before .before .before .entry .ensures in
     let said = rw (o .answer .given .1) at (gives .said .said) in
-    let some = λ z. said .1 (sym (said .0) ∙ z) in
-    (record { returned = said .0; left = gives .left }, (sym (behind-kept _ _ _ some), (sym (behind-kept _ _ _ some), (sym (behind-kept _ _ _ some), sym (behind-kept _ _ _ some)))))
+    (record { returned = said .0; left = gives .left }, (refused-kept _ _ _ _ said, (refused-kept _ _ _ _ said, (refused-kept _ _ _ _ said, refused-kept _ _ _ _ said))))
 
 returns-2 : tie.Need-returns-2
 unfolding AnswerSays rowOf entryRow entryOf

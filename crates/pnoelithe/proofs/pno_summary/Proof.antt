@@ -1,7 +1,8 @@
 -- `pnoelithe::pno_summary` meets its contract: each case of the answer says its number, and its values go behind their pointers. Assumes nothing.
 use mathlib.Core.Path.{refl, sym, _∙_}
 use Rattle.rules.specs.Calls.Summary.{SummarySays}
-use Rattle.rules.proofs.Outcome.{behind-given, behind-kept}
+use Rattle.rules.proofs.Outcome.{behind-given}
+use Rattle.pnoelithe.proofs.Crossings.{refused-kept}
 use borrow.Author.Needs.{needs}
 use Rattle.pnoelithe.proofs.pno_summary.Statement.{statement}
 use Rattle.pnoelithe.proofs.pno_summary.Tie as tie
@@ -12,8 +13,7 @@ returns c =
     let o = c .before in
     let gives = o .before .before .summary .ensures in
     let said = rw (o .summary2 .given .1) at (gives .said) in
-    let some = λ z. said .1 (sym (said .0) ∙ z) in
-    (record { returned = said .0; left = gives .left }, (sym (behind-kept _ _ _ some), (sym (behind-kept _ _ _ some), sym (behind-kept _ _ _ some))))
+    (record { returned = said .0; left = gives .left }, (refused-kept _ _ _ _ said, (refused-kept _ _ _ _ said, refused-kept _ _ _ _ said)))
 
 returns-2 : tie.Need-returns-2
 unfolding SummarySays

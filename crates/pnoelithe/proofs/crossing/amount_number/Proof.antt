@@ -1,6 +1,5 @@
 -- `pnoelithe::crossing::amount_number` meets its contract. Assumes nothing.
-use Rattle.rules.specs.Outcome.{amountNumber}
-use Rattle.pnoelithe.specs.Crossing.{amountBehind}
+use Rattle.pnoelithe.specs.Crossing.{amountNumber, amountBehind}
 use borrow.Author.Needs.{needs}
 use Rattle.pnoelithe.proofs.crossing.amount_number.Statement.{statement}
 use Rattle.pnoelithe.proofs.crossing.amount_number.Tie as tie

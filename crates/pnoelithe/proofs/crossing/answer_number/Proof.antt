@@ -1,5 +1,5 @@
 -- `pnoelithe::crossing::answer_number` meets its contract. Assumes nothing.
-use Rattle.rules.specs.Outcome.{answerNumber}
+use Rattle.pnoelithe.specs.Crossing.{answerNumber}
 use borrow.Author.Needs.{needs}
 use Rattle.pnoelithe.proofs.crossing.answer_number.Statement.{statement}
 use Rattle.pnoelithe.proofs.crossing.answer_number.Tie as tie
