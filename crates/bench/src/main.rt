@@ -109,22 +109,27 @@ fn create_files(image: &mut [u8; 33280]) -> u32 {
     judge(image)
 }
 
+// With 127 files and one free sector: the next create, that sector appended, another one, and the next create on the full disk.
+fn full_disk(image: &mut [u8; 33280]) -> bool {
+    let next = create(image, b"NEXT      ", 0x80, 80, 3);
+    let bytes = [0x42u8; 256];
+    let last = append(image, b"F000      ", &bytes);
+    let full = append(image, b"F001      ", &bytes);
+    let after = create(image, b"NEXT      ", 0x80, 80, 3);
+    write_line(b"12 the next create", number_of(next))
+        && write_line(b"12 the last free sector appended", number_of(last))
+        && write_line(b"12 another one", number_of(full))
+        && write_line(b"12 the next create on the full disk", number_of(after))
+}
+
 // 130 sectors: two of the system, 127 descriptors, and one that is free until it is appended.
 fn case_12() -> bool {
     let mut image = [0u8; 33280];
     let formatted = format(&mut image, 130, b"BENCH     ", one_side(10, 13));
     let made = create_files(&mut image);
-    let next = create(&mut image, b"NEXT      ", 0x80, 80, 3);
-    let bytes = [0x42u8; 256];
-    let last = append(&mut image, b"F000      ", &bytes);
-    let full = append(&mut image, b"F001      ", &bytes);
-    let after = create(&mut image, b"NEXT      ", 0x80, 80, 3);
     write_line(b"12 130 sectors, formatted", number_of(formatted))
         && write_line(b"12 127 files created", made)
-        && write_line(b"12 the next create", number_of(next))
-        && write_line(b"12 the last free sector appended", number_of(last))
-        && write_line(b"12 another one", number_of(full))
-        && write_line(b"12 the next create on the full disk", number_of(after))
+        && full_disk(&mut image)
 }
 
 fn case_13() -> bool {

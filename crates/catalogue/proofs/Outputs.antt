@@ -10,7 +10,7 @@ use lib.ListN.{length, take, length-append}
 use borrow.Author.Tests.{eq-eqb, ne-eqb, lt-ltb, le-ltb}
 use Rattle.rules.specs.Bytes.{byteAt, part, splice}
 use Rattle.rules.specs.Verdict.{verdict}
-use Rattle.rules.specs.Outcome.{amountOf}
+use Rattle.rules.specs.Outcome.{Report, AmountSays}
 use Rattle.rules.specs.Calls.Listing.{digits, decimal, listingText, listingOf, refusedLine}
 use Rattle.rules.specs.declared.Amount.the-variants.{Given, Refused}
 use Rattle.rules.proofs.Splice.{splice-front}
@@ -42,28 +42,22 @@ module _ (image : List ℕ) (room : ℕ) (small : (i : ℕ) → byteAt image i <
     pub is : listingOf image room .bytes ≡ listed image
     pub fits : length (listed image) ≤ room
 
-  pub when-given : (size : ℕ) → Given size ≡ amountOf (listingOf image room) → IsListed size
-  unfolding listed amountOf
-  when-given size e =
+  pub when-given : (size : ℕ) → AmountSays (Given size) (listingOf image room) → IsListed size
+  unfolding AmountSays listed
+  when-given size said =
       elim (ℕ-discrete (verdict image) 0) [
         | yes sound ↦ let fits = listing-fits image room sound (omega (arith, listing-short image small sound)) in
-            let given : Given size ≡ Given (length (listingText image)) = e ∙ ap amountOf fits in
             let t = eq-eqb (verdict image) 0 sound in
-            record { long = rw t cc; is = rw (fits, t); fits = rw t (omega (arith, listing-short image small sound)) }
-        | no unsound ↦ let refused = rw (ne-eqb (verdict image) 0 unsound) at (e ∙ ap amountOf (listing-unsound image room unsound)) in
-            absurd (let z : _≡_ {A = ℕ} 0 1 = cc in omega arith)
+            record { long = rw t (said .1 ∙ ap (λ (r : Report). r .value) fits); is = rw (fits, t); fits = rw t (omega (arith, listing-short image small sound)) }
+        | no unsound ↦ absurd (unsound (sym (ap (λ (r : Report). r .number) (listing-unsound image room unsound)) ∙ said .0))
       ]
 
-  pub when-refused : (number : ℕ) → Refused number ≡ amountOf (listingOf image room) → refusedLine number ≡ listed image
-  unfolding listed amountOf
-  when-refused number e =
+  pub when-refused : (number : ℕ) → AmountSays (Refused number) (listingOf image room) → refusedLine number ≡ listed image
+  unfolding AmountSays listed
+  when-refused number said =
       elim (ℕ-discrete (verdict image) 0) [
-        | yes sound ↦ let given : Refused number ≡ Given (length (listingText image)) = e ∙ ap amountOf (listing-fits image room sound (omega (arith, listing-short image small sound))) in
-            absurd (let z : _≡_ {A = ℕ} 0 1 = cc in omega arith)
-        | no unsound ↦ let t = ne-eqb (verdict image) 0 unsound in
-            let refused = rw t at (e ∙ ap amountOf (listing-unsound image room unsound)) in
-            let same : number ≡ verdict image = cc in
-            rw t (ap refusedLine same)
+        | yes sound ↦ absurd (said .1 (ap (λ (r : Report). r .number) (listing-fits image room sound (omega (arith, listing-short image small sound)))))
+        | no unsound ↦ rw (ne-eqb (verdict image) 0 unsound) (ap refusedLine (said .0 ∙ ap (λ (r : Report). r .number) (listing-unsound image room unsound)))
       ]
 
 -- an image that is too long, and one that is not

@@ -26,8 +26,8 @@ returns-2 c =
     let start = short .before .before .before in
     let image = start .args .image .now in
     let text = start .args .text .now in
-    let is = when-given image (length text) (λ i. omega (arith, short .before .before .shared-slice-known .given i)) (omega (arith, start .pre)) _ (sym (o .amount .given .1) ∙ y .listing .ensures .0) in
-    front text (listed image) (is .long) (y .listing .ensures .1 ∙ ap (splice text 0) (is .is)) (is .fits) ∙ sym (output-short image (short .if1 .left))
+    let is = when-given image (length text) (λ i. omega (arith, short .before .before .shared-slice-known .given i)) (omega (arith, start .pre)) _ (rw (o .amount .given .1) at (y .listing .ensures .said)) in
+    front text (listed image) (is .long) (y .listing .ensures .left ∙ ap (splice text 0) (is .is)) (is .fits) ∙ sym (output-short image (short .if1 .left))
 
 returns-3 : tie.Need-returns-3
 returns-3 c =
@@ -38,7 +38,7 @@ returns-3 c =
     let start = short .before .before .before in
     let image = start .args .image .now in
     let text = start .args .text .now in
-    let is = when-refused image (length text) (λ i. omega (arith, short .before .before .shared-slice-known .given i)) (omega (arith, start .pre)) _ (sym (o .amount2 .given .1) ∙ l .listing .ensures .0) in
+    let is = when-refused image (length text) (λ i. omega (arith, short .before .before .shared-slice-known .given i)) (omega (arith, start .pre)) _ (rw (o .amount2 .given .1) at (l .listing .ensures .said)) in
     front _ _ (y .refused-line2 .ensures .0) (y .refused-line2 .ensures .1) (omega (arith, refused-short (o .amount2 .given .0 .0), start .pre)) ∙ is ∙ sym (output-short image (short .if1 .left))
 
 pub put-text-spec : {M : Type 1} → statement M
