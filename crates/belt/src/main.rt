@@ -89,15 +89,15 @@ fn judge_all(argument: &mut [u8; ARGUMENT_ROOM], buffer: &mut [u8; IMAGE_ROOM]) 
 }
 
 // A line that cannot be written ends the run: no later one would do better. The buffers are arrays
-// here, which have their lengths by their types; of a slice of a large array the prover would count
-// them.
+// down to the loop, which keeps their lengths by their types; of a slice of a large array the prover
+// would count them.
 fn run(argument: &mut [u8; ARGUMENT_ROOM], buffer: &mut [u8; IMAGE_ROOM]) {
     if !judge_all(argument, buffer) {
         os::fail(b"standard output");
     }
 }
 
-// The buffers are lent from here, once, so that every function below `run` works on plain slices.
+// The buffers are lent from here, once; every function below the loop works on plain slices.
 fn main() {
     let mut argument = [0u8; ARGUMENT_ROOM];
     let mut buffer = [0u8; IMAGE_ROOM];

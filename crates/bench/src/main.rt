@@ -85,7 +85,7 @@ fn digit(i: usize) -> u8 {
 }
 
 // The first number other than 0 that creating 127 files gives.
-fn create_files(image: &mut [u8; 33280]) -> u32 {
+fn create_files(image: &mut [u8]) -> u32 {
     let mut i = 0;
     while i < 127 {
         let name = [

@@ -159,8 +159,8 @@ fn write_lines(
     true
 }
 
-// A line that cannot be written ends the run: no later one would do better. The buffers are arrays here, which have their lengths by
-// their types; of a slice of a large array the prover would count them.
+// A line that cannot be written ends the run: no later one would do better. The buffers are arrays down to the loops, which keep
+// their lengths by their types; of a slice of a large array the prover would count them.
 fn run(
     argument: &mut [u8; ARGUMENT_ROOM],
     source: &mut [u8; IMAGE_ROOM],
@@ -172,7 +172,7 @@ fn run(
     }
 }
 
-// The buffers are lent from here, once, so that every function below `run` works on plain slices.
+// The buffers are lent from here, once; every function below the loops works on plain slices.
 fn main() {
     let mut argument = [0u8; ARGUMENT_ROOM];
     let mut source = [0u8; IMAGE_ROOM];

@@ -1,14 +1,23 @@
--- `bench::create_files` is safe and ends: the measure is what is left of the 127. Assumes nothing.
+-- `bench::create_files` is safe and ends. The loop's invariant: the image keeps its length. The measure is what is left of the 127. Assumes nothing.
+use mathlib.Core.Path.{_≡_, refl, _∙_}
 use Prim.Native.Nat.{_-_}
+use lib.ListN.{length}
 use borrow.Author.Needs.{needs}
 use Rattle.bench.proofs.create_files.Statement.{statement}
 use Rattle.bench.proofs.create_files.Tie as tie
 
 abbrev Inv-loop : tie.InvT-loop
-Inv-loop image₀ i₀ image i = Unit {0}
+Inv-loop image₀ i₀ image i = length image ≡ length image₀
 
 abbrev μ-loop : tie.MeasureT-loop
 μ-loop image₀ i₀ image i = 127 - i
+
+-- the turn of the loop, and that creating keeps the length
+abbrev turn : tie.After-create Inv-loop μ-loop → tie.At-loop Inv-loop μ-loop
+turn c = c .before .before .before .before .before .before .before
+
+kept : (c : tie.After-create Inv-loop μ-loop) → length (c .create .last .0) ≡ length (turn c .before .before .args .image .now)
+kept c = c .create .kept .0 ∙ turn c .loop .inv
 
 pub create-files-spec : {M : Type 1} → statement M
 create-files-spec =
@@ -16,16 +25,18 @@ create-files-spec =
     (tie.spec
     Inv-loop
     μ-loop
-    (λ c. search needs)
+    (λ c. refl)
     (λ c κs. search needs)
     (λ c κs. search needs)
     (λ c κs. search needs)
     (λ c. search needs)
     (λ c κs. search needs)
     (λ c κs. search needs)
+    (λ c. kept (c .before .before .before .before))
     (λ c. search needs)
     (λ c. search needs)
     (λ c. search needs)
-    (λ c. search needs)
+    (λ c. kept (c .before .before .before .before))
     (λ c κs. search needs)
+    (λ c. c .before .before .before .loop .inv)
     (λ c. search needs))
