@@ -16,23 +16,8 @@ found : (c : tie.After-opened2) →
     openOf (a .image .now) (a .name .now) ≡ At (c .opened2 .given .0 .0) (c .opened2 .given .0 .1 .0)
 found c = sym (c .before .before .find .ensures) ∙ c .opened2 .given .1
 
-find-requires : tie.Need-find-requires
-find-requires c κs = search needs
-
-enum-known-opened : tie.Need-enum-known-opened
-enum-known-opened c = search needs
-
-enum-told : tie.Need-enum-told
-enum-told c = search needs
-
-enum-known-opened-2 : tie.Need-enum-known-opened-2
-enum-known-opened-2 c = search needs
-
 append-at-requires : tie.Need-append-at-requires
 append-at-requires c κs = is-file _ _ _ _ (found (c .before .before))
-
-same-length : tie.Need-same-length
-same-length c = search needs
 
 returns : tie.Need-returns
 unfolding appendOf
@@ -42,17 +27,11 @@ returns c =
     let e = sym (f .find .ensures) ∙ o .opened .given .1 in
     change-refused (start f .args .image .now) _ _ _ e (open-refused _ _ _ e)
 
-same-length-2 : tie.Need-same-length-2
-same-length-2 c = search needs
-
 returns-2 : tie.Need-returns-2
 unfolding appendOf
 returns-2 c =
     let f = c .before .before in
     change-absent (start f .args .image .now) _ _ (sym (f .find .ensures) ∙ c .enum-told .given .1)
-
-same-length-3 : tie.Need-same-length-3
-same-length-3 c = search needs
 
 returns-3 : tie.Need-returns-3
 unfolding appendOf
@@ -64,14 +43,14 @@ pub append-spec : {M : Type 1} → statement M
 append-spec =
     tie.close
     (tie.spec
-    find-requires
-    enum-known-opened
-    enum-told
-    enum-known-opened-2
+    (λ c κs. search needs)
+    (λ c. search needs)
+    (λ c. search needs)
+    (λ c. search needs)
     append-at-requires
-    same-length
+    (λ c. search needs)
     returns
-    same-length-2
+    (λ c. search needs)
     returns-2
-    same-length-3
+    (λ c. search needs)
     returns-3)

@@ -124,20 +124,11 @@ extendable c few =
 sector-of-requires : tie.Need-sector-of-requires
 sector-of-requires c κs = small (c .before .before .before)
 
-byte-requires : tie.Need-byte-requires
-byte-requires c κs = search needs
-
-same-length : tie.Need-same-length
-same-length c = search needs
-
 returns : tie.Need-returns
 unfolding appending appendTests firstOf unlessMet
 returns c =
     let a = start (c .before) .args in
     rw (protected (sectorOf (a .image .now) (a .k)) _ (status-is (c .before)) (c .if1 .taken)) (refusal-meets (a .image .now) _ 10 (λ z. omega arith) refl)
-
-same-length-2 : tie.Need-same-length-2
-same-length-2 c = search needs
 
 returns-2 : tie.Need-returns-2
 unfolding appending appendTests firstOf unlessMet
@@ -146,23 +137,11 @@ returns-2 c =
     let a = start (e .before) .args in
     rw (open-file e, program (sectorOf (a .image .now) (a .k)) _ (status-is (e .before)) (c .if2 .taken)) (refusal-meets (a .image .now) _ 14 (λ z. omega arith) refl)
 
-same-length-3 : tie.Need-same-length-3
-same-length-3 c = search needs
-
 returns-3 : tie.Need-returns-3
 unfolding appending appendTests firstOf unlessMet
 returns-3 c =
     let e = c .before in
     rw (open-file (e .before), is-data e, ne-eqb _ _ (c .if3 .taken)) (refusal-meets (start (status e) .args .image .now) _ 15 (λ z. omega arith) refl)
-
-sector-of-requires-2 : tie.Need-sector-of-requires-2
-sector-of-requires-2 c κs = search needs
-
-free-count-of-requires : tie.Need-free-count-of-requires
-free-count-of-requires c κs = search needs
-
-same-length-4 : tie.Need-same-length-4
-same-length-4 c = search needs
 
 returns-4 : tie.Need-returns-4
 unfolding appending appendTests firstOf unlessMet
@@ -171,32 +150,17 @@ returns-4 c =
     let e = data-file l in
     rw (open-file (e .before), is-data e, eq-eqb _ _ (l .if3 .left), lt-ltb (freeCount (sectorOf (start₃ l .args .image .now) 0)) 1 (omega (arith, free-is (c .before), c .if4 .taken))) (refusal-meets (start₃ l .args .image .now) _ 12 (λ z. omega arith) refl)
 
-first-requires : tie.Need-first-requires
-first-requires c κs = search needs
-
-sector-of-requires-3 : tie.Need-sector-of-requires-3
-sector-of-requires-3 c κs = search needs
-
 next-requires : tie.Need-next-requires
 next-requires c κs = c .before .before .first .ensures _
 
 sector-of-requires-4 : tie.Need-sector-of-requires-4
 sector-of-requires-4 c κs = small (start₅ (c .before))
 
-part-requires : tie.Need-part-requires
-part-requires c κs = search needs
-
-tip-of-requires : tie.Need-tip-of-requires
-tip-of-requires c κs = search needs
-
 tip-with-requires : tie.Need-tip-with-requires
 tip-with-requires c κs =
     let tip = c .tip-of .ensures in
     let short = part-short (c .before .before .sector-of4 .result .now) 28 228 in
     (omega (arith, tip .used, ap length (c .before .part .ensures), short), omega (arith, tip .next))
-
-same-length-5 : tie.Need-same-length-5
-same-length-5 c = search needs
 
 -- the tests before the last one, passed
 passed : (c : tie.After-tip-of) →
@@ -224,9 +188,6 @@ write-longer-requires c κs =
     let b = extendable w (omega (arith, e .if5 .left)) in
     (start₆ (w .before) .pre, new-is (chosen (w .before)), b .0, b .1)
 
-same-length-6 : tie.Need-same-length-6
-same-length-6 c = search needs
-
 returns-6 : tie.Need-returns-6
 unfolding appending appendTests firstOf unlessMet
 returns-6 c =
@@ -243,26 +204,26 @@ append-at-spec =
     tie.close
     (tie.spec
     sector-of-requires
-    byte-requires
-    same-length
+    (λ c κs. search needs)
+    (λ c. search needs)
     returns
-    same-length-2
+    (λ c. search needs)
     returns-2
-    same-length-3
+    (λ c. search needs)
     returns-3
-    sector-of-requires-2
-    free-count-of-requires
-    same-length-4
+    (λ c κs. search needs)
+    (λ c κs. search needs)
+    (λ c. search needs)
     returns-4
-    first-requires
-    sector-of-requires-3
+    (λ c κs. search needs)
+    (λ c κs. search needs)
     next-requires
     sector-of-requires-4
-    part-requires
-    tip-of-requires
+    (λ c κs. search needs)
+    (λ c κs. search needs)
     tip-with-requires
-    same-length-5
+    (λ c. search needs)
     returns-5
     write-longer-requires
-    same-length-6
+    (λ c. search needs)
     returns-6)

@@ -36,30 +36,6 @@ apart c =
     let start = c .before .before .before .before .before .before .before .before .before .before in
     ap chainOf (counted c) ∙ count-apart (start .args .descriptor .now) _ (start .pre .1)
 
-add-c : tie.Need-add-c
-add-c c = search needs
-
-cast-high : tie.Need-cast-high
-cast-high c = search needs
-
-cast-low : tie.Need-cast-low
-cast-low c = search needs
-
-copy-requires : tie.Need-copy-requires
-copy-requires c κs = search needs
-
-slice-aggregate-lay : tie.Need-slice-aggregate-lay
-slice-aggregate-lay c = search needs
-
-lay-requires : tie.Need-lay-requires
-lay-requires c κs = search needs
-
-sub-extend : tie.Need-sub-extend
-sub-extend c = search needs
-
-part-extend-start : tie.Need-part-extend-start
-part-extend-start c = search needs
-
 part-extend-end : tie.Need-part-extend-end
 part-extend-end c = omega (arith, long (c .before .before))
 
@@ -68,9 +44,6 @@ unfolding chainOf
 extend-requires c κs =
     let start = c .before .before .before .before .before .before .before .before .before .before .before .before .before in
     subst (λ (s : List ℕ). Extendable s (start .args .tip) (start .args .new)) (sym (apart (c .before .before .before))) (start .pre .2)
-
-same-length : tie.Need-same-length
-same-length c = search needs
 
 returns : tie.Need-returns
 unfolding chainOf
@@ -89,15 +62,15 @@ pub longer-spec : {M : Type 1} → statement M
 longer-spec =
     tie.close
     (tie.spec
-    add-c
-    cast-high
-    cast-low
-    copy-requires
-    slice-aggregate-lay
-    lay-requires
-    sub-extend
-    part-extend-start
+    (λ c. search needs)
+    (λ c. search needs)
+    (λ c. search needs)
+    (λ c κs. search needs)
+    (λ c. search needs)
+    (λ c κs. search needs)
+    (λ c. search needs)
+    (λ c. search needs)
     part-extend-end
     extend-requires
-    same-length
+    (λ c. search needs)
     returns)

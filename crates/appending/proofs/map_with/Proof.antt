@@ -8,19 +8,10 @@ use borrow.Author.Needs.{needs}
 use Rattle.appending.proofs.map_with.Statement.{statement}
 use Rattle.appending.proofs.map_with.Tie as tie
 
-sector-of-requires : tie.Need-sector-of-requires
-sector-of-requires c κs = search needs
-
 copy-requires : tie.Need-copy-requires
 copy-requires c κs =
     let pre = c .before .before .before .before .pre in
     pre .0 ∙ sym (ap length (c .sector-of .ensures) ∙ pre .1)
-
-mark-requires : tie.Need-mark-requires
-mark-requires c κs = search needs
-
-same-length : tie.Need-same-length
-same-length c = search needs
 
 returns : tie.Need-returns
 returns c =
@@ -30,4 +21,4 @@ returns c =
 
 pub map-with-spec : {M : Type 1} → statement M
 map-with-spec =
-    tie.close (tie.spec sector-of-requires copy-requires mark-requires same-length returns)
+    tie.close (tie.spec (λ c κs. search needs) copy-requires (λ c κs. search needs) (λ c. search needs) returns)

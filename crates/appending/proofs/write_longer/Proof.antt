@@ -42,9 +42,6 @@ three image one two all bytes sector0 old descriptor k new first second third is
 small : (c : tie.Start) → c .args .k < 65536
 small c = omega (arith, in-volume _ _ (c .pre .0), c .pre .0 .sound .size)
 
-slice-aggregate-longer : tie.Need-slice-aggregate-longer
-slice-aggregate-longer c = search needs
-
 sector-of-requires : tie.Need-sector-of-requires
 sector-of-requires c κs = small (c .before .before .before .before)
 
@@ -52,9 +49,6 @@ longer-requires : tie.Need-longer-requires
 longer-requires c κs =
     let pre = start c .pre in
     rw (c .sector-of .ensures) (refl, is-sector _ _ (pre .0), pre .2, pre .3)
-
-slice-aggregate-map-with : tie.Need-slice-aggregate-map-with
-slice-aggregate-map-with c = search needs
 
 map-with-requires : tie.Need-map-with-requires
 map-with-requires c κs =
@@ -64,20 +58,11 @@ map-with-requires c κs =
 write-sector-requires : tie.Need-write-sector-requires
 write-sector-requires c κs = omega (arith, start (descriptor (c .before .before) .before) .pre .2 .high)
 
-slice-aggregate-write-sector : tie.Need-slice-aggregate-write-sector
-slice-aggregate-write-sector c = search needs
-
 write-sector-requires-2 : tie.Need-write-sector-requires-2
 write-sector-requires-2 c κs = omega arith
 
-slice-aggregate-write-sector-2 : tie.Need-slice-aggregate-write-sector-2
-slice-aggregate-write-sector-2 c = search needs
-
 write-sector-requires-3 : tie.Need-write-sector-requires-3
 write-sector-requires-3 c κs = small (start (descriptor (map (first (c .before .before .before .before))) .before))
-
-same-length : tie.Need-same-length
-same-length c = search needs
 
 returns : tie.Need-returns
 returns c =
@@ -93,15 +78,15 @@ pub write-longer-spec : {M : Type 1} → statement M
 write-longer-spec =
     tie.close
     (tie.spec
-    slice-aggregate-longer
+    (λ c. search needs)
     sector-of-requires
     longer-requires
-    slice-aggregate-map-with
+    (λ c. search needs)
     map-with-requires
     write-sector-requires
-    slice-aggregate-write-sector
+    (λ c. search needs)
     write-sector-requires-2
-    slice-aggregate-write-sector-2
+    (λ c. search needs)
     write-sector-requires-3
-    same-length
+    (λ c. search needs)
     returns)

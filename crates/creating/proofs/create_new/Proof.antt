@@ -60,9 +60,6 @@ free-is : (c : tie.After-free-count-of) → c .free-count-of .result
     ≡ freeCount (sectorOf (c .before .before .before .before .before .before .before .before .before .before .before .args .image .now) 0)
 free-is c = rw (c .free-count-of .ensures .0, c .before .sector-of2 .ensures)
 
-create-status-requires : tie.Need-create-status-requires
-create-status-requires c κs = search needs
-
 returns : tie.Need-returns
 returns c =
     let a = c .before .before .before .before .args in
@@ -70,30 +67,12 @@ returns c =
     refusal-meets (a .image .now) (creating (a .image .now) (a .name .now) (a .status) (a .record-length) (a .records-per-sector)) 15 (λ z. omega arith)
     (misasked _ _ _ _ _ (sym (s .ensures) ∙ not-true (s .result) (c .if1 .taken)))
 
-sector-of-requires : tie.Need-sector-of-requires
-sector-of-requires c κs = search needs
-
-word-requires : tie.Need-word-requires
-word-requires c κs = search needs
-
-same-length : tie.Need-same-length
-same-length c = search needs
-
 returns-2 : tie.Need-returns-2
 returns-2 c =
     let start = c .before .before .before .before .before .before .before .before in
     let a = start .args in
     refusal-meets (a .image .now) (creating (a .image .now) (a .name .now) (a .status) (a .record-length) (a .records-per-sector)) 11 (λ z. omega arith)
     (full _ _ _ _ _ (start .pre .0) (asked (c .before .before .before .before)) (λ z. c .if2 .taken (last-is (c .before) ∙ z)))
-
-sector-of-requires-2 : tie.Need-sector-of-requires-2
-sector-of-requires-2 c κs = search needs
-
-free-count-of-requires : tie.Need-free-count-of-requires
-free-count-of-requires c κs = search needs
-
-same-length-2 : tie.Need-same-length-2
-same-length-2 c = search needs
 
 returns-3 : tie.Need-returns-3
 returns-3 c =
@@ -103,43 +82,13 @@ returns-3 c =
     refusal-meets (a .image .now) (creating (a .image .now) (a .name .now) (a .status) (a .record-length) (a .records-per-sector)) 12 (λ z. omega arith)
     (taken _ _ _ _ _ (start .pre .0) (asked (room .before .before .before .before)) (sym (last-is (room .before)) ∙ room .if2 .left) (sym (free-is (c .before)) ∙ c .if3 .taken))
 
-sector-of-requires-3 : tie.Need-sector-of-requires-3
-sector-of-requires-3 c κs = search needs
-
-descriptor-choice-requires : tie.Need-descriptor-choice-requires
-descriptor-choice-requires c κs = search needs
-
 new-descriptor-requires : tie.Need-new-descriptor-requires
 new-descriptor-requires c κs = (refl, name-is _ (c .before .before .before .before .before .before .before .before .before .before .before .before .before .before .before .before .pre .1) .ten)
-
-slice-aggregate-copy : tie.Need-slice-aggregate-copy
-slice-aggregate-copy c = search needs
-
-sector-of-requires-4 : tie.Need-sector-of-requires-4
-sector-of-requires-4 c κs = search needs
 
 copy-requires : tie.Need-copy-requires
 copy-requires c κs =
     let whole = c .before .before .before .before .before .before .before .before .before .before .before .before .before .before .before .before .before .before .before .before .pre .0 in
     sym (ap length (c .sector-of4 .ensures) ∙ file-long _ 0 whole (omega (arith, whole .size)))
-
-slice-aggregate-mark : tie.Need-slice-aggregate-mark
-slice-aggregate-mark c = search needs
-
-mark-requires : tie.Need-mark-requires
-mark-requires c κs = search needs
-
-sector-of-requires-5 : tie.Need-sector-of-requires-5
-sector-of-requires-5 c κs = search needs
-
-index-with-requires : tie.Need-index-with-requires
-index-with-requires c κs = search needs
-
-enter-requires : tie.Need-enter-requires
-enter-requires c κs = search needs
-
-same-length-3 : tie.Need-same-length-3
-same-length-3 c = search needs
 
 returns-4 : tie.Need-returns-4
 unfolding files written
@@ -174,26 +123,26 @@ pub create-new-spec : {M : Type 1} → statement M
 create-new-spec =
     tie.close
     (tie.spec
-    create-status-requires
+    (λ c κs. search needs)
     returns
-    sector-of-requires
-    word-requires
-    same-length
+    (λ c κs. search needs)
+    (λ c κs. search needs)
+    (λ c. search needs)
     returns-2
-    sector-of-requires-2
-    free-count-of-requires
-    same-length-2
+    (λ c κs. search needs)
+    (λ c κs. search needs)
+    (λ c. search needs)
     returns-3
-    sector-of-requires-3
-    descriptor-choice-requires
+    (λ c κs. search needs)
+    (λ c κs. search needs)
     new-descriptor-requires
-    slice-aggregate-copy
-    sector-of-requires-4
+    (λ c. search needs)
+    (λ c κs. search needs)
     copy-requires
-    slice-aggregate-mark
-    mark-requires
-    sector-of-requires-5
-    index-with-requires
-    enter-requires
-    same-length-3
+    (λ c. search needs)
+    (λ c κs. search needs)
+    (λ c κs. search needs)
+    (λ c κs. search needs)
+    (λ c κs. search needs)
+    (λ c. search needs)
     returns-4)

@@ -29,44 +29,14 @@ sector-of-requires c κs =
     let file = c .before .before .pre in
     omega (arith, in-volume _ _ file, file .sound .size)
 
-byte-requires : tie.Need-byte-requires
-byte-requires c κs = search needs
-
-same-length : tie.Need-same-length
-same-length c = search needs
-
 returns : tie.Need-returns
 unfolding deleting deleteTests firstOf unlessMet
 returns c =
     let a = c .before .before .before .before .before .args in
     rw (protected (sectorOf (a .image .now) (a .k)) _ (status-is (c .before)) (c .if1 .taken)) (refusal-meets (a .image .now) _ 10 (λ z. omega arith) refl)
 
-sector-of-requires-2 : tie.Need-sector-of-requires-2
-sector-of-requires-2 c κs = search needs
-
-index-without-requires : tie.Need-index-without-requires
-index-without-requires c κs = search needs
-
-slice-aggregate-map-without : tie.Need-slice-aggregate-map-without
-slice-aggregate-map-without c = search needs
-
-map-without-requires : tie.Need-map-without-requires
-map-without-requires c κs = search needs
-
 slice-aggregate-write-sector : tie.Need-slice-aggregate-write-sector
 slice-aggregate-write-sector c = sym (ap length (c .before .before .before .before .before .before .index-without .ensures) ∙ index-length _)
-
-write-sector-requires : tie.Need-write-sector-requires
-write-sector-requires c κs = search needs
-
-slice-aggregate-write-sector-2 : tie.Need-slice-aggregate-write-sector-2
-slice-aggregate-write-sector-2 c = search needs
-
-write-sector-requires-2 : tie.Need-write-sector-requires-2
-write-sector-requires-2 c κs = search needs
-
-same-length-2 : tie.Need-same-length-2
-same-length-2 c = search needs
 
 returns-2 : tie.Need-returns-2
 unfolding deleting deleteTests firstOf unlessMet written files
@@ -92,16 +62,16 @@ delete-at-spec =
     tie.close
     (tie.spec
     sector-of-requires
-    byte-requires
-    same-length
+    (λ c κs. search needs)
+    (λ c. search needs)
     returns
-    sector-of-requires-2
-    index-without-requires
-    slice-aggregate-map-without
-    map-without-requires
+    (λ c κs. search needs)
+    (λ c κs. search needs)
+    (λ c. search needs)
+    (λ c κs. search needs)
     slice-aggregate-write-sector
-    write-sector-requires
-    slice-aggregate-write-sector-2
-    write-sector-requires-2
-    same-length-2
+    (λ c κs. search needs)
+    (λ c. search needs)
+    (λ c κs. search needs)
+    (λ c. search needs)
     returns-2)

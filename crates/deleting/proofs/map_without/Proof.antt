@@ -9,9 +9,6 @@ use borrow.Author.Needs.{needs}
 use Rattle.deleting.proofs.map_without.Statement.{statement}
 use Rattle.deleting.proofs.map_without.Tie as tie
 
-sector-of-requires : tie.Need-sector-of-requires
-sector-of-requires c κs = search needs
-
 copy-requires : tie.Need-copy-requires
 copy-requires c κs =
     let pre = c .before .before .before .before .pre in
@@ -22,15 +19,6 @@ sector-of-requires-2 : tie.Need-sector-of-requires-2
 sector-of-requires-2 c κs =
     let file = c .before .before .before .before .before .before .before .before .pre .1 in
     omega (arith, in-volume _ _ file, file .sound .size)
-
-part-requires : tie.Need-part-requires
-part-requires c κs = search needs
-
-clear-file-requires : tie.Need-clear-file-requires
-clear-file-requires c κs = search needs
-
-same-length : tie.Need-same-length
-same-length c = search needs
 
 returns : tie.Need-returns
 unfolding placesIn chainOf
@@ -45,10 +33,10 @@ pub map-without-spec : {M : Type 1} → statement M
 map-without-spec =
     tie.close
     (tie.spec
-    sector-of-requires
+    (λ c κs. search needs)
     copy-requires
     sector-of-requires-2
-    part-requires
-    clear-file-requires
-    same-length
+    (λ c κs. search needs)
+    (λ c κs. search needs)
+    (λ c. search needs)
     returns)

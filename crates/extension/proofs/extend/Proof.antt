@@ -8,9 +8,6 @@ use borrow.Author.Needs.{needs}
 use Rattle.extension.proofs.extend.Statement.{statement}
 use Rattle.extension.proofs.extend.Tie as tie
 
-tip-with-requires : tie.Need-tip-with-requires
-tip-with-requires c κs = search needs
-
 -- the numbers of the new tip, as they are known where it is made
 numbers : (c : tie.After-tip-with) →
     let a = c .before .before .args in
@@ -34,15 +31,6 @@ block-bytes-requires c κs = let f = numbers (c .before .before) in (omega arith
 mul-lay : tie.Need-mul-lay
 mul-lay c = let f = numbers (c .before .before .before .before) in search needs
 
-slice-aggregate-lay : tie.Need-slice-aggregate-lay
-slice-aggregate-lay c = search needs
-
-lay-requires : tie.Need-lay-requires
-lay-requires c κs = search needs
-
-same-length : tie.Need-same-length
-same-length c = search needs
-
 returns : tie.Need-returns
 returns c =
     let laid = c .before .before in
@@ -59,12 +47,12 @@ pub extend-spec : {M : Type 1} → statement M
 extend-spec =
     tie.close
     (tie.spec
-    tip-with-requires
+    (λ c κs. search needs)
     sub-number
     sub-last
     block-bytes-requires
     mul-lay
-    slice-aggregate-lay
-    lay-requires
-    same-length
+    (λ c. search needs)
+    (λ c κs. search needs)
+    (λ c. search needs)
     returns)

@@ -28,12 +28,6 @@ loop-holds : tie.Need-loop-holds Inv-loop μ-loop
 unfolding tipOf
 loop-holds c = (search needs, search needs, search needs, search needs, refl)
 
-block-at-requires : tie.Need-block-at-requires Inv-loop μ-loop
-block-at-requires c κs = search needs
-
-enum-known-block : tie.Need-enum-known-block Inv-loop μ-loop
-enum-known-block c = search needs
-
 -- the block met
 met : (c : tie.After-known-told Inv-loop μ-loop) →
     let l = c .before .before .before .before in
@@ -58,9 +52,6 @@ loop-again c =
     let l = c .before .before .before .before .before .loop in
     (b .inside, omega arith, b .start, omega arith, sym (tip-step _ _ _ _ (b .is)) ∙ l .inv .4)
 
-enum-told : tie.Need-enum-told Inv-loop μ-loop
-enum-told c = search needs
-
 returns : tie.Need-returns Inv-loop μ-loop
 returns c =
     let l = c .before .before .before .loop in
@@ -79,12 +70,12 @@ tip-of-spec =
     Inv-loop
     μ-loop
     loop-holds
-    block-at-requires
-    enum-known-block
+    (λ c κs. search needs)
+    (λ c. search needs)
     add-used
     add-next
     add-at
     loop-less
     loop-again
-    enum-told
+    (λ c. search needs)
     returns)

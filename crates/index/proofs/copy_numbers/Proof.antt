@@ -23,12 +23,6 @@ abbrev μ-loop : tie.MeasureT-loop
 loop-holds : tie.Need-loop-holds Inv-loop μ-loop
 loop-holds c = (refl, search needs, search needs, refl)
 
-number-at-requires : tie.Need-number-at-requires Inv-loop μ-loop
-number-at-requires c κs = search needs
-
-same-length : tie.Need-same-length Inv-loop μ-loop
-same-length c = search needs
-
 returns : tie.Need-returns Inv-loop μ-loop
 returns c =
     let l = c .before .before .loop in
@@ -71,8 +65,8 @@ copy-numbers-spec =
     Inv-loop
     μ-loop
     loop-holds
-    number-at-requires
-    same-length
+    (λ c κs. search needs)
+    (λ c. search needs)
     returns
     lay-number-requires
     add-to

@@ -4,18 +4,6 @@ use borrow.Author.Needs.{needs}
 use Rattle.index.proofs.enter.Statement.{statement}
 use Rattle.index.proofs.enter.Tie as tie
 
-write-sector-requires : tie.Need-write-sector-requires
-write-sector-requires c κs = search needs
-
-write-sector-requires-2 : tie.Need-write-sector-requires-2
-write-sector-requires-2 c κs = search needs
-
-write-sector-requires-3 : tie.Need-write-sector-requires-3
-write-sector-requires-3 c κs = search needs
-
-same-length : tie.Need-same-length
-same-length c = search needs
-
 -- the ways back, from a write to the one before it
 abbrev second : tie.After-write-sector3 → tie.After-write-sector2
 second c = c .before .before .before .before .before
@@ -33,8 +21,8 @@ pub enter-spec : {M : Type 1} → statement M
 enter-spec =
     tie.close
     (tie.spec
-    write-sector-requires
-    write-sector-requires-2
-    write-sector-requires-3
-    same-length
+    (λ c κs. search needs)
+    (λ c κs. search needs)
+    (λ c κs. search needs)
+    (λ c. search needs)
     returns)

@@ -28,17 +28,8 @@ abbrev μ-loop : tie.MeasureT-loop
 loop-holds : tie.Need-loop-holds Inv-loop μ-loop
 loop-holds c = (search needs, rw (c .before .before .before .pre .0) (laid-index _))
 
-number-at-requires : tie.Need-number-at-requires Inv-loop μ-loop
-number-at-requires c κs = search needs
-
 sector-of-requires : tie.Need-sector-of-requires Inv-loop μ-loop
 sector-of-requires c κs = c .before .number-at .ensures .small
-
-part-requires : tie.Need-part-requires Inv-loop μ-loop
-part-requires c κs = search needs
-
-precedes-requires : tie.Need-precedes-requires Inv-loop μ-loop
-precedes-requires c κs = search needs
 
 -- the number that stands here, and that its two bytes are there
 abbrev number : tie.Else2 Inv-loop μ-loop → tie.Else1 Inv-loop μ-loop
@@ -90,15 +81,6 @@ goes-here c =
           rw (met .some (found .0 .left)) (placed-here (a .image .now) (a .name .now) (a .k) _ _ before)
     ]
 
-lay-number-requires-2 : tie.Need-lay-number-requires-2 Inv-loop μ-loop
-lay-number-requires-2 c κs = search needs
-
-add-next : tie.Need-add-next Inv-loop μ-loop
-add-next c = search needs
-
-copy-numbers-requires : tie.Need-copy-numbers-requires Inv-loop μ-loop
-copy-numbers-requires c κs = search needs
-
 returns : tie.Need-returns Inv-loop μ-loop
 returns c =
     let k = c .before .before in
@@ -113,15 +95,15 @@ index-with-spec =
     Inv-loop
     μ-loop
     loop-holds
-    number-at-requires
+    (λ c κs. search needs)
     sector-of-requires
-    part-requires
-    precedes-requires
+    (λ c κs. search needs)
+    (λ c κs. search needs)
     lay-number-requires
     add-at
     loop-less
     loop-again
-    lay-number-requires-2
-    add-next
-    copy-numbers-requires
+    (λ c κs. search needs)
+    (λ c. search needs)
+    (λ c κs. search needs)
     returns)

@@ -22,9 +22,6 @@ abbrev μ-loop : tie.MeasureT-loop
 loop-holds : tie.Need-loop-holds Inv-loop μ-loop
 loop-holds c = (search needs, rw (c .before .pre) (laid-index _))
 
-number-at-requires : tie.Need-number-at-requires Inv-loop μ-loop
-number-at-requires c κs = search needs
-
 -- what is left to lay: nothing at the end, and otherwise what is left behind the number that stands here, with it or without it
 abbrev left : tie.At-loop Inv-loop μ-loop → List ℕ
 left c = let a = c .before .before .args in without (a .k) (numbers (drop (c .loop .at) (a .sector1 .now)))
@@ -78,7 +75,7 @@ index-without-spec =
     Inv-loop
     μ-loop
     loop-holds
-    number-at-requires
+    (λ c κs. search needs)
     returns
     add-next
     copy-numbers-requires

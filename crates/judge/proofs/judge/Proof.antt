@@ -115,31 +115,16 @@ returns-3 : tie.Need-returns-3
 unfolding sizeRule
 returns-3 c = let low = c .before in sym (wrong-size _ (rw (eq-eqb _ _ (low .before .if1 .left), le-leb _ _ (low .if2 .left), lt-leb _ _ (c .if3 .taken))))
 
-sector-of-requires : tie.Need-sector-of-requires
-sector-of-requires c κs = search needs
-
-label-rule-requires : tie.Need-label-rule-requires
-label-rule-requires c κs = search needs
-
 returns-4 : tie.Need-returns-4
 returns-4 c =
     let l = c .before in
     sym (wrong-label _ (sized (e₃ l)) (label-is l ∙ not-true (l .label-rule .result) (c .if4 .taken)))
-
-sector-of-requires-2 : tie.Need-sector-of-requires-2
-sector-of-requires-2 c κs = search needs
-
-index-rule-requires : tie.Need-index-rule-requires
-index-rule-requires c κs = search needs
 
 returns-5 : tie.Need-returns-5
 returns-5 c =
     let i = c .before in
     let e = e₄ i in
     sym (wrong-index _ (sized (e₃ (e .before))) (labelled e) (index-is-result i ∙ not-true (i .index-rule .result) (c .if5 .taken)))
-
-descriptors-rule-requires : tie.Need-descriptors-rule-requires
-descriptors-rule-requires c κs = search needs
 
 returns-6 : tie.Need-returns-6
 returns-6 c =
@@ -148,17 +133,8 @@ returns-6 c =
     let four = e₄ (five .before) in
     sym (wrong-descriptor _ (sized (e₃ (four .before))) (labelled four) (indexed five) (sym (d .descriptors-rule .ensures) ∙ not-true (d .descriptors-rule .result) (c .if6 .taken)))
 
-unmark-requires : tie.Need-unmark-requires
-unmark-requires c κs = search needs
-
-claim-files-requires : tie.Need-claim-files-requires
-claim-files-requires c κs = search needs
-
 returns-7 : tie.Need-returns-7
 returns-7 c = let f = c .before in sym (wrong-holders _ (passed (e₆ f)) (twice-is f ∙ c .if7 .taken))
-
-part-requires : tie.Need-part-requires
-part-requires c κs = search needs
 
 map-rule-requires : tie.Need-map-rule-requires
 map-rule-requires c κs =
@@ -187,18 +163,18 @@ judge-spec =
     returns
     returns-2
     returns-3
-    sector-of-requires
-    label-rule-requires
+    (λ c κs. search needs)
+    (λ c κs. search needs)
     returns-4
-    sector-of-requires-2
-    index-rule-requires
+    (λ c κs. search needs)
+    (λ c κs. search needs)
     returns-5
-    descriptors-rule-requires
+    (λ c κs. search needs)
     returns-6
-    unmark-requires
-    claim-files-requires
+    (λ c κs. search needs)
+    (λ c κs. search needs)
     returns-7
-    part-requires
+    (λ c κs. search needs)
     map-rule-requires
     returns-8
     returns-9)

@@ -28,9 +28,6 @@ Inv-loop image chain size out₀ cursor₀ at₀ out cursor at =
 abbrev μ-loop : tie.MeasureT-loop
 μ-loop image chain size out₀ cursor₀ at₀ out cursor at = length (ahead chain cursor)
 
-first-requires : tie.Need-first-requires Inv-loop μ-loop
-first-requires c κs = search needs
-
 loop-holds : tie.Need-loop-holds Inv-loop μ-loop
 loop-holds c =
     let a = c .before .before .before .before .args in
@@ -39,12 +36,6 @@ loop-holds c =
 
 step-requires : tie.Need-step-requires Inv-loop μ-loop
 step-requires c κs = c .before .loop .inv .2
-
-enum-known-place : tie.Need-enum-known-place Inv-loop μ-loop
-enum-known-place c = search needs
-
-enum-told : tie.Need-enum-told Inv-loop μ-loop
-enum-told c = search needs
 
 -- at the end of the chain, and at a place of it
 ended : (c : tie.After-enum-told Inv-loop μ-loop) →
@@ -81,9 +72,6 @@ piece-small c =
     let short = part-short (s .sector-of .result .now) 0 (l .before .before .before .before .before .args .size - l .loop .at) in
     omega (arith, l .loop .inv .1, ap length (c .part .ensures), short)
 
-same-length : tie.Need-same-length Inv-loop μ-loop
-same-length c = search needs
-
 returns : tie.Need-returns Inv-loop μ-loop
 returns c =
     let l = c .before .before .before .before in
@@ -92,15 +80,6 @@ returns c =
 sector-of-requires : tie.Need-sector-of-requires Inv-loop μ-loop
 unfolding Stepped
 sector-of-requires c κs = omega (arith, stepped (c .before) .2)
-
-sub-part : tie.Need-sub-part Inv-loop μ-loop
-sub-part c = search needs
-
-part-requires : tie.Need-part-requires Inv-loop μ-loop
-part-requires c κs = search needs
-
-lay-requires : tie.Need-lay-requires Inv-loop μ-loop
-lay-requires c κs = search needs
 
 add-at : tie.Need-add-at Inv-loop μ-loop
 add-at c = omega (arith, piece-small (c .before .before .before .before))
@@ -126,9 +105,6 @@ loop-again c =
           ∙ l .loop .inv .3,
     )
 
-same-length-2 : tie.Need-same-length-2 Inv-loop μ-loop
-same-length-2 c = search needs
-
 returns-2 : tie.Need-returns-2 Inv-loop μ-loop
 returns-2 c =
     let l = c .before in
@@ -141,19 +117,19 @@ join-spec =
     (tie.spec
     Inv-loop
     μ-loop
-    first-requires
+    (λ c κs. search needs)
     loop-holds
     step-requires
-    enum-known-place
-    enum-told
-    same-length
+    (λ c. search needs)
+    (λ c. search needs)
+    (λ c. search needs)
     returns
     sector-of-requires
-    sub-part
-    part-requires
-    lay-requires
+    (λ c. search needs)
+    (λ c κs. search needs)
+    (λ c κs. search needs)
     add-at
     loop-less
     loop-again
-    same-length-2
+    (λ c. search needs)
     returns-2)

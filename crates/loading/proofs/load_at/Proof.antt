@@ -14,27 +14,6 @@ use borrow.Author.Needs.{needs}
 use Rattle.loading.proofs.load_at.Statement.{statement}
 use Rattle.loading.proofs.load_at.Tie as tie
 
-sector-of-requires : tie.Need-sector-of-requires
-sector-of-requires c κs = search needs
-
-byte-requires : tie.Need-byte-requires
-byte-requires c κs = search needs
-
-word-requires : tie.Need-word-requires
-word-requires c κs = search needs
-
-byte-requires-2 : tie.Need-byte-requires-2
-byte-requires-2 c κs = search needs
-
-byte-requires-3 : tie.Need-byte-requires-3
-byte-requires-3 c κs = search needs
-
-kind-of-requires : tie.Need-kind-of-requires
-kind-of-requires c κs = search needs
-
-enum-known-kind : tie.Need-enum-known-kind
-enum-known-kind c = search needs
-
 kind-is : (c : tie.After-kind-of) →
     let a = c .before .before .before .before .before .before .before .before .args in
     fileKind (sectorOf (a .image .now) (a .k)) ≡ c .kind-of .result
@@ -52,21 +31,6 @@ returns c =
     let k = e .before .before in
     let a = k .before .before .before .before .before .before .before .before .args in
     amount-refused (a .out .now) _ 15 (λ z. omega (arith, z)) (load-short (a .image .now) (length (a .out .now)) (a .k) _ (kind-is k ∙ e .kind .given .1) (c .if1 .taken))
-
-part-requires : tie.Need-part-requires
-part-requires c κs = search needs
-
-join-requires : tie.Need-join-requires
-join-requires c κs = search needs
-
-enum-told : tie.Need-enum-told
-enum-told c = search needs
-
-enum-told-2 : tie.Need-enum-told-2
-enum-told-2 c = search needs
-
-same-length : tie.Need-same-length
-same-length c = search needs
 
 returns-2 : tie.Need-returns-2
 unfolding programIn contentsIn placesIn chainOf
@@ -104,19 +68,19 @@ pub load-at-spec : {M : Type 1} → statement M
 load-at-spec =
     tie.close
     (tie.spec
-    sector-of-requires
-    byte-requires
-    word-requires
-    byte-requires-2
-    byte-requires-3
-    kind-of-requires
-    enum-known-kind
+    (λ c κs. search needs)
+    (λ c κs. search needs)
+    (λ c κs. search needs)
+    (λ c κs. search needs)
+    (λ c κs. search needs)
+    (λ c κs. search needs)
+    (λ c. search needs)
     returns
-    part-requires
-    join-requires
-    enum-told
-    enum-told-2
-    same-length
+    (λ c κs. search needs)
+    (λ c κs. search needs)
+    (λ c. search needs)
+    (λ c. search needs)
+    (λ c. search needs)
     returns-2
     returns-3
     returns-4)

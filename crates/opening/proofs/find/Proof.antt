@@ -13,24 +13,15 @@ use Rattle.opening.proofs.find.Tie as tie
 sound : (c : tie.Else1) → verdict (c .before .before .before .before .args .image .now) ≡ 0
 sound c = sym (c .before .judge .ensures) ∙ c .if1 .left
 
-judge-requires : tie.Need-judge-requires
-judge-requires c κs = search needs
-
 returns : tie.Need-returns
 returns c =
     let j = c .before .judge .ensures in
     sym (open-met _ _ _ (unsound-number _ _ (λ z. c .if1 .taken (j ∙ z)) ∙ sym j) (c .if1 .taken))
 
-name-rule-requires : tie.Need-name-rule-requires
-name-rule-requires c κs = search needs
-
 returns-2 : tie.Need-returns-2
 returns-2 c =
     let n = c .before in
     sym (open-met _ _ 7 (unnamed-number _ _ (sound (n .before)) (sym (n .name-rule .ensures) ∙ not-true (n .name-rule .result) (c .if2 .taken))) (λ z. omega arith))
-
-find-in-requires : tie.Need-find-in-requires
-find-in-requires c κs = search needs
 
 returns-3 : tie.Need-returns-3
 returns-3 c =
@@ -41,4 +32,4 @@ returns-3 c =
 pub find-spec : {M : Type 1} → statement M
 find-spec =
     tie.close
-    (tie.spec judge-requires returns name-rule-requires returns-2 find-in-requires returns-3)
+    (tie.spec (λ c κs. search needs) returns (λ c κs. search needs) returns-2 (λ c κs. search needs) returns-3)

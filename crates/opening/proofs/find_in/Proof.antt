@@ -22,32 +22,14 @@ Inv-loop image name sector1 place₀ at₀ place at = (at ≤ length sector1) ×
 abbrev μ-loop : tie.MeasureT-loop
 μ-loop image name sector1 place₀ at₀ place at = length sector1 - at
 
-sector-of-requires : tie.Need-sector-of-requires Inv-loop μ-loop
-sector-of-requires c κs = search needs
-
 loop-holds : tie.Need-loop-holds Inv-loop μ-loop
 unfolding files
 loop-holds c = (search needs, search needs, rw (c .sector-of .ensures))
-
-add-loop : tie.Need-add-loop Inv-loop μ-loop
-add-loop c = search needs
-
-word-requires : tie.Need-word-requires Inv-loop μ-loop
-word-requires c κs = search needs
 
 returns : tie.Need-returns Inv-loop μ-loop
 returns c =
     let l = c .before .before in
     sym (sym (l .before .loop .inv .2) ∙ find-zero _ _ _ _ _ _ (l .loop-test .taken) (c .before .word .ensures .0) (c .if1 .taken))
-
-sector-of-requires-2 : tie.Need-sector-of-requires-2 Inv-loop μ-loop
-sector-of-requires-2 c κs = search needs
-
-part-requires : tie.Need-part-requires Inv-loop μ-loop
-part-requires c κs = search needs
-
-same-requires : tie.Need-same-requires Inv-loop μ-loop
-same-requires c κs = search needs
 
 -- the whole search, with the file that stands here taken off
 stepped : (c : tie.After-same Inv-loop μ-loop) →
@@ -68,15 +50,6 @@ stepped c =
 returns-2 : tie.Need-returns-2 Inv-loop μ-loop
 returns-2 c = sym (stepped (c .before) ∙ rw (sym (c .before .same .ensures) ∙ c .if2 .taken))
 
-add-place : tie.Need-add-place Inv-loop μ-loop
-add-place c = search needs
-
-add-at : tie.Need-add-at Inv-loop μ-loop
-add-at c = search needs
-
-loop-less : tie.Need-loop-less Inv-loop μ-loop
-loop-less c = search needs
-
 loop-again : tie.Need-loop-again Inv-loop μ-loop
 loop-again c = (search needs, search needs, sym (stepped (c .before) ∙ rw (sym (c .before .same .ensures) ∙ c .if2 .left)))
 
@@ -89,17 +62,17 @@ find-in-spec =
     (tie.spec
     Inv-loop
     μ-loop
-    sector-of-requires
+    (λ c κs. search needs)
     loop-holds
-    add-loop
-    word-requires
+    (λ c. search needs)
+    (λ c κs. search needs)
     returns
-    sector-of-requires-2
-    part-requires
-    same-requires
+    (λ c κs. search needs)
+    (λ c κs. search needs)
+    (λ c κs. search needs)
     returns-2
-    add-place
-    add-at
-    loop-less
+    (λ c. search needs)
+    (λ c. search needs)
+    (λ c. search needs)
     loop-again
     returns-3)

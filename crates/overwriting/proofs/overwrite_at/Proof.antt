@@ -70,20 +70,11 @@ reaches c = omega (arith, place-is c, place-in-image (start₄ c .args .image .n
 sector-of-requires : tie.Need-sector-of-requires
 sector-of-requires c κs = let pre = c .before .before .before .pre in omega (arith, in-volume _ _ pre, pre .sound .size)
 
-byte-requires : tie.Need-byte-requires
-byte-requires c κs = search needs
-
-same-length : tie.Need-same-length
-same-length c = search needs
-
 returns : tie.Need-returns
 unfolding overwriting overwriteTests firstOf unlessMet
 returns c =
     let a = start (c .before .before) .args in
     rw (protected (sectorOf (a .image .now) (a .k)) _ (status-is (c .before)) (c .if1 .taken)) (refusal-meets (a .image .now) _ 10 (λ z. omega arith) refl)
-
-same-length-2 : tie.Need-same-length-2
-same-length-2 c = search needs
 
 returns-2 : tie.Need-returns-2
 unfolding overwriting overwriteTests firstOf unlessMet
@@ -91,12 +82,6 @@ returns-2 c =
     let e = c .before in
     let a = start (e .before .before) .args in
     rw (open-file e, program (sectorOf (a .image .now) (a .k)) _ (status-is (e .before)) (c .if2 .taken)) (refusal-meets (a .image .now) _ 14 (λ z. omega arith) refl)
-
-word-requires : tie.Need-word-requires
-word-requires c κs = search needs
-
-same-length-3 : tie.Need-same-length-3
-same-length-3 c = search needs
 
 returns-3 : tie.Need-returns-3
 unfolding overwriting overwriteTests firstOf unlessMet
@@ -106,9 +91,6 @@ returns-3 c =
     let a = start₂ e .args in
     rw (open-file (e .before), is-data e, le-leb (sectorsOf (sectorOf (a .image .now) (a .k))) (a .offset) (omega (arith, count-is w, c .if3 .taken))) (refusal-meets (a .image .now) _ 15 (λ z. omega arith) refl)
 
-same-length-4 : tie.Need-same-length-4
-same-length-4 c = search needs
-
 returns-4 : tie.Need-returns-4
 unfolding overwriting overwriteTests firstOf unlessMet
 returns-4 c =
@@ -116,24 +98,6 @@ returns-4 c =
     let e = i .before .before in
     let a = start₃ i .args in
     rw (open-file (e .before), is-data e, lt-leb (sectorsOf (sectorOf (a .image .now) (a .k))) (a .offset) (inside i), ne-eqb _ _ (c .if4 .taken)) (refusal-meets (a .image .now) _ 15 (λ z. omega arith) refl)
-
-part-requires : tie.Need-part-requires
-part-requires c κs = search needs
-
-place-at-requires : tie.Need-place-at-requires
-place-at-requires c κs = search needs
-
-mul-at : tie.Need-mul-at
-mul-at c = search needs
-
-add-end : tie.Need-add-end
-add-end c = search needs
-
-sub-copy : tie.Need-sub-copy
-sub-copy c = search needs
-
-part-copy-start : tie.Need-part-copy-start
-part-copy-start c = search needs
 
 part-copy-end : tie.Need-part-copy-end
 part-copy-end c = omega (arith, reaches c)
@@ -143,9 +107,6 @@ copy-requires c κs =
     let p = c .before .place-at .result in
     let e : 256 * p + 256 - 256 * p ≡ 256 = omega arith in
     rw e (part-length (start₄ (c .before) .args .image .now) (256 * p) 256 (reaches (c .before)) ∙ sym (tested (c .before) .if4 .left))
-
-same-length-5 : tie.Need-same-length-5
-same-length-5 c = search needs
 
 returns-5 : tie.Need-returns-5
 unfolding overwriting overwriteTests firstOf unlessMet written
@@ -171,23 +132,23 @@ overwrite-at-spec =
     tie.close
     (tie.spec
     sector-of-requires
-    byte-requires
-    same-length
+    (λ c κs. search needs)
+    (λ c. search needs)
     returns
-    same-length-2
+    (λ c. search needs)
     returns-2
-    word-requires
-    same-length-3
+    (λ c κs. search needs)
+    (λ c. search needs)
     returns-3
-    same-length-4
+    (λ c. search needs)
     returns-4
-    part-requires
-    place-at-requires
-    mul-at
-    add-end
-    sub-copy
-    part-copy-start
+    (λ c κs. search needs)
+    (λ c κs. search needs)
+    (λ c. search needs)
+    (λ c. search needs)
+    (λ c. search needs)
+    (λ c. search needs)
     part-copy-end
     copy-requires
-    same-length-5
+    (λ c. search needs)
     returns-5)

@@ -9,9 +9,6 @@ use borrow.Author.Needs.{needs}
 use Rattle.packing.proofs.pack.Statement.{statement}
 use Rattle.packing.proofs.pack.Tie as tie
 
-judge-requires : tie.Need-judge-requires
-judge-requires c κs = search needs
-
 returns : tie.Need-returns
 unfolding afterPack
 returns c =
@@ -25,9 +22,6 @@ returns-2 c = made-refused _ _ _ 15 (λ z. omega (arith, z)) (misfit _ _ (sym (c
 write-packed-requires : tie.Need-write-packed-requires
 write-packed-requires c κs = (sound _ (sym (c .before .before .before .judge .ensures) ∙ c .before .before .if1 .left), c .before .if2 .left)
 
-same-length : tie.Need-same-length
-same-length c = search needs
-
 returns-3 : tie.Need-returns-3
 unfolding afterPack
 returns-3 c =
@@ -40,4 +34,4 @@ returns-3 c =
 pub pack-spec : {M : Type 1} → statement M
 pack-spec =
     tie.close
-    (tie.spec judge-requires returns returns-2 write-packed-requires same-length returns-3)
+    (tie.spec (λ c κs. search needs) returns returns-2 write-packed-requires (λ c. search needs) returns-3)

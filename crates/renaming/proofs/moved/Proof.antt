@@ -9,12 +9,6 @@ use borrow.Author.Needs.{needs}
 use Rattle.renaming.proofs.moved.Statement.{statement}
 use Rattle.renaming.proofs.moved.Tie as tie
 
-sector-of-requires : tie.Need-sector-of-requires
-sector-of-requires c κs = search needs
-
-index-without-requires : tie.Need-index-without-requires
-index-without-requires c κs = search needs
-
 slice-aggregate-index-with : tie.Need-slice-aggregate-index-with
 slice-aggregate-index-with c = sym (ap length (c .before .before .index-without .ensures) ∙ index-length _)
 
@@ -31,8 +25,8 @@ pub moved-spec : {M : Type 1} → statement M
 moved-spec =
     tie.close
     (tie.spec
-    sector-of-requires
-    index-without-requires
+    (λ c κs. search needs)
+    (λ c κs. search needs)
     slice-aggregate-index-with
     index-with-requires
     returns)

@@ -74,12 +74,6 @@ found : (c : tie.After-opened2) →
     opening (namesTests (a .image .now) (a .old .now) (a .new .now)) (a .image .now) (a .old .now) ≡ At (c .opened2 .given .0 .0) (c .opened2 .given .0 .1 .0)
 found c = opens (c .before .before) ∙ c .opened2 .given .1
 
-judge-requires : tie.Need-judge-requires
-judge-requires c κs = search needs
-
-same-length : tie.Need-same-length
-same-length c = search needs
-
 returns : tie.Need-returns
 unfolding renameOf
 returns c =
@@ -88,12 +82,6 @@ returns c =
     change-refused (a .image .now) _ _ _
     (opening-met (namesTests (a .image .now) (a .old .now) (a .new .now)) _ _ _ (unsound _ _ _ (λ z. c .if1 .taken (j .judge .ensures ∙ z)) ∙ sym (j .judge .ensures)) (c .if1 .taken)) (c .if1 .taken)
 
-name-rule-requires : tie.Need-name-rule-requires
-name-rule-requires c κs = search needs
-
-same-length-2 : tie.Need-same-length-2
-same-length-2 c = search needs
-
 returns-2 : tie.Need-returns-2
 unfolding renameOf
 returns-2 c =
@@ -101,12 +89,6 @@ returns-2 c =
     let a = start (n .before .before) .args in
     let broken = sym (n .name-rule .ensures) ∙ not-true (n .name-rule .result) (c .if2 .taken) in
     change-refused (a .image .now) _ _ 7 (opening-met (namesTests (a .image .now) (a .old .now) (a .new .now)) _ _ 7 (misnamed _ _ _ (sound (n .before)) broken) (λ z. omega arith)) (λ z. omega arith)
-
-name-rule-requires-2 : tie.Need-name-rule-requires-2
-name-rule-requires-2 c κs = search needs
-
-same-length-3 : tie.Need-same-length-3
-same-length-3 c = search needs
 
 returns-3 : tie.Need-returns-3
 unfolding renameOf
@@ -117,18 +99,6 @@ returns-3 c =
     let broken = sym (n .name-rule2 .ensures) ∙ not-true (n .name-rule2 .result) (c .if3 .taken) in
     change-refused (a .image .now) _ _ 7 (opening-met (namesTests (a .image .now) (a .old .now) (a .new .now)) _ _ 7 (misnamed-new _ _ _ (sound (e .before .before)) (named e) broken) (λ z. omega arith)) (λ z. omega arith)
 
-find-in-requires : tie.Need-find-in-requires
-find-in-requires c κs = search needs
-
-enum-known-opened : tie.Need-enum-known-opened
-enum-known-opened c = search needs
-
-enum-told : tie.Need-enum-told
-enum-told c = search needs
-
-enum-known-opened-2 : tie.Need-enum-known-opened-2
-enum-known-opened-2 c = search needs
-
 rename-at-requires : tie.Need-rename-at-requires
 rename-at-requires c κs =
     let o = c .before .before in
@@ -137,25 +107,16 @@ rename-at-requires c κs =
     let e = r .before .before in
     (is-file _ _ _ _ (open-passed _ _ (named-number _ _ (sound (e .before .before)) (named e)) ∙ sym (f .find-in .ensures) ∙ o .opened2 .given .1), named-new r)
 
-same-length-4 : tie.Need-same-length-4
-same-length-4 c = search needs
-
 returns-4 : tie.Need-returns-4
 returns-4 c =
     let o = c .before in
     absurd (find-looks _ _ _ _ _ (sym (o .before .before .find-in .ensures) ∙ o .opened .given .1))
-
-same-length-5 : tie.Need-same-length-5
-same-length-5 c = search needs
 
 returns-5 : tie.Need-returns-5
 unfolding renameOf
 returns-5 c =
     let f = c .before .before in
     change-absent (start₃ (ruled f) .args .image .now) _ _ (opens f ∙ c .enum-told .given .1)
-
-same-length-6 : tie.Need-same-length-6
-same-length-6 c = search needs
 
 returns-6 : tie.Need-returns-6
 unfolding renameOf
@@ -167,23 +128,23 @@ pub rename-spec : {M : Type 1} → statement M
 rename-spec =
     tie.close
     (tie.spec
-    judge-requires
-    same-length
+    (λ c κs. search needs)
+    (λ c. search needs)
     returns
-    name-rule-requires
-    same-length-2
+    (λ c κs. search needs)
+    (λ c. search needs)
     returns-2
-    name-rule-requires-2
-    same-length-3
+    (λ c κs. search needs)
+    (λ c. search needs)
     returns-3
-    find-in-requires
-    enum-known-opened
-    enum-told
-    enum-known-opened-2
+    (λ c κs. search needs)
+    (λ c. search needs)
+    (λ c. search needs)
+    (λ c. search needs)
     rename-at-requires
-    same-length-4
+    (λ c. search needs)
     returns-4
-    same-length-5
+    (λ c. search needs)
     returns-5
-    same-length-6
+    (λ c. search needs)
     returns-6)

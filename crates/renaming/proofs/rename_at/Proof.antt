@@ -45,26 +45,8 @@ absent c = sym (c .before .before .find-in .ensures) ∙ c .enum-told2 .given .1
 status-is : (c : tie.After-byte) → c .byte .result ≡ statusOf (sectorOf (start₃ c .args .image .now) (start₃ c .args .k))
 status-is c = c .byte .ensures .0 ∙ ap (λ (s : List ℕ). byteAt s 12) (c .before .sector-of .ensures)
 
-find-in-requires : tie.Need-find-in-requires
-find-in-requires c κs = search needs
-
-enum-known-present : tie.Need-enum-known-present
-enum-known-present c = search needs
-
-enum-told : tie.Need-enum-told
-enum-told c = search needs
-
-enum-told-2 : tie.Need-enum-told-2
-enum-told-2 c = search needs
-
 sector-of-requires : tie.Need-sector-of-requires
 sector-of-requires c κs = let file = start₂ (c .before) .pre .0 in omega (arith, in-volume _ _ file, file .sound .size)
-
-byte-requires : tie.Need-byte-requires
-byte-requires c κs = search needs
-
-same-length : tie.Need-same-length
-same-length c = search needs
 
 returns : tie.Need-returns
 unfolding renaming renameTests firstOf unlessMet
@@ -80,34 +62,19 @@ moved-requires c κs = (refl, start₃ (c .before .before .before) .pre .0)
 mul-lay : tie.Need-mul-lay
 mul-lay c = let file = start₃ (c .before .before .before .before .before) .pre .0 in omega (arith, in-volume _ _ file, file .sound .size)
 
-lay-requires : tie.Need-lay-requires
-lay-requires c κs = search needs
-
 slice-aggregate-write-sector : tie.Need-slice-aggregate-write-sector
 slice-aggregate-write-sector c = sym (ap length (c .before .before .before .before .before .before .moved .ensures) ∙ index-length _)
-
-write-sector-requires : tie.Need-write-sector-requires
-write-sector-requires c κs = search needs
-
-same-length-2 : tie.Need-same-length-2
-same-length-2 c = search needs
 
 returns-2 : tie.Need-returns-2
 returns-2 c =
     let o = c .before in
     absurd (find-looks _ _ _ _ _ (sym (o .before .before .find-in .ensures) ∙ o .present .given .1))
 
-same-length-3 : tie.Need-same-length-3
-same-length-3 c = search needs
-
 returns-3 : tie.Need-returns-3
 unfolding renaming
 returns-3 c =
     let f = c .before .before in
     add-present (start f .args .image .now) _ _ _ _ (sym (f .find-in .ensures) ∙ c .enum-told .given .1)
-
-same-length-4 : tie.Need-same-length-4
-same-length-4 c = search needs
 
 returns-4 : tie.Need-returns-4
 unfolding renaming renameTests firstOf unlessMet written
@@ -130,22 +97,22 @@ pub rename-at-spec : {M : Type 1} → statement M
 rename-at-spec =
     tie.close
     (tie.spec
-    find-in-requires
-    enum-known-present
-    enum-told
-    enum-told-2
+    (λ c κs. search needs)
+    (λ c. search needs)
+    (λ c. search needs)
+    (λ c. search needs)
     sector-of-requires
-    byte-requires
-    same-length
+    (λ c κs. search needs)
+    (λ c. search needs)
     returns
     moved-requires
     mul-lay
-    lay-requires
+    (λ c κs. search needs)
     slice-aggregate-write-sector
-    write-sector-requires
-    same-length-2
+    (λ c κs. search needs)
+    (λ c. search needs)
     returns-2
-    same-length-3
+    (λ c. search needs)
     returns-3
-    same-length-4
+    (λ c. search needs)
     returns-4)

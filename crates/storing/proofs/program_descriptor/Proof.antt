@@ -9,27 +9,6 @@ use borrow.Author.Needs.{needs}
 use Rattle.storing.proofs.program_descriptor.Statement.{statement}
 use Rattle.storing.proofs.program_descriptor.Tie as tie
 
-cast-end-offset : tie.Need-cast-end-offset
-cast-end-offset c = search needs
-
-cast-high : tie.Need-cast-high
-cast-high c = search needs
-
-cast-low : tie.Need-cast-low
-cast-low c = search needs
-
-new-descriptor-requires : tie.Need-new-descriptor-requires
-new-descriptor-requires c κs = search needs
-
-element-write-descriptor : tie.Need-element-write-descriptor
-element-write-descriptor c = search needs
-
-element-write-descriptor-2 : tie.Need-element-write-descriptor-2
-element-write-descriptor-2 c = search needs
-
-lay-requires : tie.Need-lay-requires
-lay-requires c κs = search needs
-
 returns : tie.Need-returns
 returns c =
     let a = c .before .before .before .before .before .before .args in
@@ -42,11 +21,11 @@ pub program-descriptor-spec : {M : Type 1} → statement M
 program-descriptor-spec =
     tie.close
     (tie.spec
-    cast-end-offset
-    cast-high
-    cast-low
-    new-descriptor-requires
-    element-write-descriptor
-    element-write-descriptor-2
-    lay-requires
+    (λ c. search needs)
+    (λ c. search needs)
+    (λ c. search needs)
+    (λ c κs. search needs)
+    (λ c. search needs)
+    (λ c. search needs)
+    (λ c κs. search needs)
     returns)

@@ -16,23 +16,8 @@ absent : (c : tie.After-enum-told2) →
     openOf (a .image .now) (a .name .now) ≡ Absent
 absent c = sym (c .before .before .find .ensures) ∙ c .enum-told2 .given .1
 
-find-requires : tie.Need-find-requires
-find-requires c κs = search needs
-
-enum-known-opened : tie.Need-enum-known-opened
-enum-known-opened c = search needs
-
-enum-told : tie.Need-enum-told
-enum-told c = search needs
-
-enum-told-2 : tie.Need-enum-told-2
-enum-told-2 c = search needs
-
 store-new-requires : tie.Need-store-new-requires
 store-new-requires c κs = let is = absent-is _ _ (absent (c .before)) in (is .whole, is .rule)
-
-same-length : tie.Need-same-length
-same-length c = search needs
 
 returns : tie.Need-returns
 unfolding storeOf
@@ -42,17 +27,11 @@ returns c =
     let e = sym (f .find .ensures) ∙ o .opened .given .1 in
     add-refused (start f .args .image .now) _ _ _ e (open-refused _ _ _ e)
 
-same-length-2 : tie.Need-same-length-2
-same-length-2 c = search needs
-
 returns-2 : tie.Need-returns-2
 unfolding storeOf
 returns-2 c =
     let f = c .before .before in
     add-present (start f .args .image .now) _ _ _ _ (sym (f .find .ensures) ∙ c .enum-told .given .1)
-
-same-length-3 : tie.Need-same-length-3
-same-length-3 c = search needs
 
 returns-3 : tie.Need-returns-3
 unfolding storeOf
@@ -64,14 +43,14 @@ pub store-spec : {M : Type 1} → statement M
 store-spec =
     tie.close
     (tie.spec
-    find-requires
-    enum-known-opened
-    enum-told
-    enum-told-2
+    (λ c κs. search needs)
+    (λ c. search needs)
+    (λ c. search needs)
+    (λ c. search needs)
     store-new-requires
-    same-length
+    (λ c. search needs)
     returns
-    same-length-2
+    (λ c. search needs)
     returns-2
-    same-length-3
+    (λ c. search needs)
     returns-3)

@@ -43,15 +43,6 @@ at-length c = at-choice (at-spread c) .before .before .before .before .before .b
 returns : tie.Need-returns
 returns c = refusal-meets _ _ 15 (λ z. omega arith) (too-long _ _ _ (omega (arith, c .if1 .taken)))
 
-sector-of-requires : tie.Need-sector-of-requires
-sector-of-requires c κs = search needs
-
-word-requires : tie.Need-word-requires
-word-requires c κs = search needs
-
-same-length : tie.Need-same-length
-same-length c = search needs
-
 -- the bytes are not too many
 short : (c : tie.Else1) → length (c .before .before .before .before .args .bytes .now) ≤ 32768
 short c = omega (arith, c .if1 .left)
@@ -69,21 +60,6 @@ returns-2 c =
     let full = place-some (start .args .image .now) 126 (start .pre .0) (λ z. c .if2 .taken (word-is (c .before) ∙ z)) in
     refusal-meets _ _ 11 (λ z. omega arith) (no-place _ _ _ (short (c .before .before .before .before)) (full .0))
 
-add-many : tie.Need-add-many
-add-many c = search needs
-
-sector-of-requires-2 : tie.Need-sector-of-requires-2
-sector-of-requires-2 c κs = search needs
-
-free-count-of-requires : tie.Need-free-count-of-requires
-free-count-of-requires c κs = search needs
-
-add-if3 : tie.Need-add-if3
-add-if3 c = search needs
-
-same-length-2 : tie.Need-same-length-2
-same-length-2 c = search needs
-
 -- the tests that have passed
 has-place : (c : tie.Else2) → length (files (c .before .before .before .before .before .before .before .before .args .image .now)) ≤ 126
 has-place c = let start = c .before .before .before .before .before .before .before .before in place-none (start .args .image .now) 126 (start .pre .0) (sym (word-is (c .before)) ∙ c .if2 .left)
@@ -98,40 +74,13 @@ returns-3 c =
     let passed = c .before .before .before .before in
     refusal-meets _ _ 12 (λ z. omega arith) (too-few-free _ _ _ (short (passed .before .before .before .before)) (has-place passed) (omega (arith, free-is (c .before), c .if3 .taken)))
 
-sector-of-requires-3 : tie.Need-sector-of-requires-3
-sector-of-requires-3 c κs = search needs
-
-descriptor-choice-requires : tie.Need-descriptor-choice-requires
-descriptor-choice-requires c κs = search needs
-
-slice-aggregate-copy : tie.Need-slice-aggregate-copy
-slice-aggregate-copy c = search needs
-
-sector-of-requires-4 : tie.Need-sector-of-requires-4
-sector-of-requires-4 c κs = search needs
-
 copy-requires : tie.Need-copy-requires
 copy-requires c κs =
     let whole = at-start (c .before .before .before) .pre .0 in
     sym (ap length (c .sector-of4 .ensures) ∙ file-long _ 0 whole (omega (arith, whole .size)))
 
-slice-aggregate-mark : tie.Need-slice-aggregate-mark
-slice-aggregate-mark c = search needs
-
-mark-requires : tie.Need-mark-requires
-mark-requires c κs = search needs
-
-slice-aggregate-spread : tie.Need-slice-aggregate-spread
-slice-aggregate-spread c = search needs
-
-slice-aggregate-spread-2 : tie.Need-slice-aggregate-spread-2
-slice-aggregate-spread-2 c = search needs
-
 spread-requires : tie.Need-spread-requires
 spread-requires c κs = (search needs, refl, search needs)
-
-same-length-3 : tie.Need-same-length-3
-same-length-3 c = search needs
 
 -- the sectors chosen
 chosen : (c : tie.After-descriptor-choice) → c .descriptor-choice .result ≡ descriptorChoice (sectorOf (at-start c .args .image .now) 0)
@@ -162,9 +111,6 @@ returns-4 c =
     refusal-meets _ _ 13 (λ z. omega arith)
     (too-scattered _ _ _ (short (placing .before .before .before .before)) (has-place placing) (has-free counted) _ (chosen (at-choice spreading)) _ _ (spread-was spreading false (not-true _ (c .if4 .taken))))
 
-slice-aggregate-program-descriptor : tie.Need-slice-aggregate-program-descriptor
-slice-aggregate-program-descriptor c = search needs
-
 -- all of them are in the chain
 all-spread : (c : tie.Else4) → SpreadAt (at-spread c) true
 all-spread c = spread-was (at-spread c) true (not-false _ (c .if4 .left))
@@ -185,23 +131,11 @@ program-descriptor-requires c κs =
     let passed = c .before .before in
     (refl, name-is _ (at-start (at-choice (at-spread passed)) .pre .1) .ten, omega (arith, short (at-length passed)), all-spread passed .taken refl .spread)
 
-sector-of-requires-5 : tie.Need-sector-of-requires-5
-sector-of-requires-5 c κs = search needs
-
-index-with-requires : tie.Need-index-with-requires
-index-with-requires c κs = search needs
-
-slice-aggregate-write-data : tie.Need-slice-aggregate-write-data
-slice-aggregate-write-data c = search needs
-
 write-data-requires : tie.Need-write-data-requires
 write-data-requires c κs = few-places (c .before .before .before .before .before .before .before .before .before)
 
 enter-requires : tie.Need-enter-requires
 enter-requires c κs = omega (arith, at-choice (at-spread (c .before .before .before .before .before .before .before .before .before .before .before .before .before .before .before .before)) .descriptor-choice .ensures .1)
-
-same-length-4 : tie.Need-same-length-4
-same-length-4 c = search needs
 
 -- sector 1 anew
 index-is : (c : tie.After-index-with) →
@@ -239,34 +173,34 @@ store-new-spec =
     tie.close
     (tie.spec
     returns
-    sector-of-requires
-    word-requires
-    same-length
+    (λ c κs. search needs)
+    (λ c κs. search needs)
+    (λ c. search needs)
     returns-2
-    add-many
-    sector-of-requires-2
-    free-count-of-requires
-    add-if3
-    same-length-2
+    (λ c. search needs)
+    (λ c κs. search needs)
+    (λ c κs. search needs)
+    (λ c. search needs)
+    (λ c. search needs)
     returns-3
-    sector-of-requires-3
-    descriptor-choice-requires
-    slice-aggregate-copy
-    sector-of-requires-4
+    (λ c κs. search needs)
+    (λ c κs. search needs)
+    (λ c. search needs)
+    (λ c κs. search needs)
     copy-requires
-    slice-aggregate-mark
-    mark-requires
-    slice-aggregate-spread
-    slice-aggregate-spread-2
+    (λ c. search needs)
+    (λ c κs. search needs)
+    (λ c. search needs)
+    (λ c. search needs)
     spread-requires
-    same-length-3
+    (λ c. search needs)
     returns-4
-    slice-aggregate-program-descriptor
+    (λ c. search needs)
     program-descriptor-requires
-    sector-of-requires-5
-    index-with-requires
-    slice-aggregate-write-data
+    (λ c κs. search needs)
+    (λ c κs. search needs)
+    (λ c. search needs)
     write-data-requires
     enter-requires
-    same-length-4
+    (λ c. search needs)
     returns-5)

@@ -17,9 +17,6 @@ abbrev μ-loop : tie.MeasureT-loop
 loop-holds : tie.Need-loop-holds Inv-loop μ-loop
 loop-holds c = (search needs, search needs, search needs)
 
-number-at-requires : tie.Need-number-at-requires Inv-loop μ-loop
-number-at-requires c κs = search needs
-
 -- two bytes are there
 inside : (c : tie.Then1 Inv-loop μ-loop) → let l = c .before .before in l .loop .at + 2 ≤ length (l .before .before .args .sector1 .now)
 inside c = c .before .number-at .ensures .inside (c .if1 .taken)
@@ -42,4 +39,4 @@ returns : tie.Need-returns Inv-loop μ-loop
 returns c = let none = ap length (c .before .number-at .ensures .none (c .if1 .left)) in omega (arith, c .before .before .loop .inv .2, none)
 
 pub file-count-spec : {M : Type 1} → statement M
-file-count-spec = tie.close (tie.spec Inv-loop μ-loop loop-holds number-at-requires add-files add-at loop-less loop-again returns)
+file-count-spec = tie.close (tie.spec Inv-loop μ-loop loop-holds (λ c κs. search needs) add-files add-at loop-less loop-again returns)

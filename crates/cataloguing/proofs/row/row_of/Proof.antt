@@ -17,30 +17,6 @@ use borrow.Author.Needs.{needs}
 use Rattle.cataloguing.proofs.row.row_of.Statement.{statement}
 use Rattle.cataloguing.proofs.row.row_of.Tie as tie
 
-slice-aggregate-lay : tie.Need-slice-aggregate-lay
-slice-aggregate-lay c = search needs
-
-part-requires : tie.Need-part-requires
-part-requires c κs = search needs
-
-lay-requires : tie.Need-lay-requires
-lay-requires c κs = search needs
-
-byte-requires : tie.Need-byte-requires
-byte-requires c κs = search needs
-
-word-requires : tie.Need-word-requires
-word-requires c κs = search needs
-
-byte-requires-2 : tie.Need-byte-requires-2
-byte-requires-2 c κs = search needs
-
-byte-requires-3 : tie.Need-byte-requires-3
-byte-requires-3 c κs = search needs
-
-kind-of-requires : tie.Need-kind-of-requires
-kind-of-requires c κs = search needs
-
 same-row : {name name′ : List ℕ} {kind kind′ : Kind} {sectors sectors′ : ℕ} {protected protected′ : Bool} → name ≡ name′ → kind ≡ kind′ → sectors ≡ sectors′ → protected ≡ protected′
     → _≡_ {A = Row} (record { name = name; kind = kind; sectors = sectors; protected = protected }) (record { name = name′; kind = kind′; sectors = sectors′; protected = protected′ })
 same-row a b c d = rw (a, b, c, d)
@@ -66,12 +42,12 @@ pub row-of-spec : {M : Type 1} → statement M
 row-of-spec =
     tie.close
     (tie.spec
-    slice-aggregate-lay
-    part-requires
-    lay-requires
-    byte-requires
-    word-requires
-    byte-requires-2
-    byte-requires-3
-    kind-of-requires
+    (λ c. search needs)
+    (λ c κs. search needs)
+    (λ c κs. search needs)
+    (λ c κs. search needs)
+    (λ c κs. search needs)
+    (λ c κs. search needs)
+    (λ c κs. search needs)
+    (λ c κs. search needs)
     returns)

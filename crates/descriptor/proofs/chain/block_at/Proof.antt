@@ -6,30 +6,9 @@ use borrow.Author.Needs.{needs}
 use Rattle.descriptor.proofs.chain.block_at.Statement.{statement}
 use Rattle.descriptor.proofs.chain.block_at.Tie as tie
 
-add-if1 : tie.Need-add-if1
-add-if1 c = search needs
-
 returns : tie.Need-returns
 unfolding BlocksFrom
 returns c = blocks-short _ _ (c .if1 .taken)
-
-shared-slice-read-a : tie.Need-shared-slice-read-a
-shared-slice-read-a c = search needs
-
-add-b : tie.Need-add-b
-add-b c = search needs
-
-shared-slice-read-b : tie.Need-shared-slice-read-b
-shared-slice-read-b c = search needs
-
-add-c : tie.Need-add-c
-add-c c = search needs
-
-shared-slice-read-c : tie.Need-shared-slice-read-c
-shared-slice-read-c c = search needs
-
-ends-chain-requires : tie.Need-ends-chain-requires
-ends-chain-requires c κs = search needs
 
 -- there are three bytes
 abbrev long : tie.After-ends-chain → tie.Else1
@@ -38,9 +17,6 @@ long c = c .before .before .before .before
 returns-2 : tie.Need-returns-2
 unfolding BlocksFrom
 returns-2 c = let e = c .before in blocks-end _ _ (long e .if1 .left) (sym (e .ends-chain .ensures) ∙ c .if2 .taken)
-
-block-of-requires : tie.Need-block-of-requires
-block-of-requires c κs = search needs
 
 returns-3 : tie.Need-returns-3
 unfolding BlocksFrom
@@ -58,14 +34,14 @@ pub block-at-spec : {M : Type 1} → statement M
 block-at-spec =
     tie.close
     (tie.spec
-    add-if1
+    (λ c. search needs)
     returns
-    shared-slice-read-a
-    add-b
-    shared-slice-read-b
-    add-c
-    shared-slice-read-c
-    ends-chain-requires
+    (λ c. search needs)
+    (λ c. search needs)
+    (λ c. search needs)
+    (λ c. search needs)
+    (λ c. search needs)
+    (λ c κs. search needs)
     returns-2
-    block-of-requires
+    (λ c κs. search needs)
     returns-3)

@@ -24,12 +24,6 @@ loop-holds : tie.Need-loop-holds Inv-loop μ-loop
 unfolding places
 loop-holds c = (search needs, refl)
 
-block-at-requires : tie.Need-block-at-requires Inv-loop μ-loop
-block-at-requires c κs = search needs
-
-enum-known-block : tie.Need-enum-known-block Inv-loop μ-loop
-enum-known-block c = search needs
-
 -- the block met, and the test that met it
 met : (c : tie.After-less Inv-loop μ-loop) →
     let l = c .before .before .before .before .before in
@@ -38,9 +32,6 @@ met c = let b = c .before .before in found _ (b .before .before .block-at .ensur
 
 abbrev test : tie.After-less Inv-loop μ-loop → tie.At-loop Inv-loop μ-loop
 test c = c .before .before .before .before .before
-
-less-requires : tie.Need-less-requires Inv-loop μ-loop
-less-requires c κs = search needs
 
 add-many : tie.Need-add-many Inv-loop μ-loop
 add-many c = omega (arith, met c, c .less .ensures)
@@ -73,9 +64,6 @@ loop-again c =
     let b = met (c .before) in
     (b .inside, sym (sym (test (c .before) .loop .inv .1) ∙ later _ _ _ _ _ _ (b .is) (c .before .less .ensures) (c .if1 .left)))
 
-enum-told : tie.Need-enum-told Inv-loop μ-loop
-enum-told c = search needs
-
 returns-2 : tie.Need-returns-2 Inv-loop μ-loop
 returns-2 c =
     let l = c .before .before .before in
@@ -89,9 +77,9 @@ place-at-spec =
     Inv-loop
     μ-loop
     loop-holds
-    block-at-requires
-    enum-known-block
-    less-requires
+    (λ c κs. search needs)
+    (λ c. search needs)
+    (λ c κs. search needs)
     add-many
     add-result
     returns
@@ -99,5 +87,5 @@ place-at-spec =
     add-at
     loop-less
     loop-again
-    enum-told
+    (λ c. search needs)
     returns-2)

@@ -23,21 +23,6 @@ fields name status recordsPerSector endOffset recordLength ten laid e =
     let front : laid ≡ name ++ drop 10 (replicate 256 0) = e ∙ laid-front (replicate 256 0) name (omega arith) ∙ ap (λ (m : ℕ). name ++ drop m (replicate 256 0)) ten in
     rw (front, set-behind name (drop 10 (replicate 256 0)) 12 2 status (omega arith), set-behind name _ 13 3 recordsPerSector (omega arith), set-behind name _ 16 6 endOffset (omega arith), set-behind name _ 17 7 recordLength (omega arith))
 
-lay-requires : tie.Need-lay-requires
-lay-requires c κs = search needs
-
-element-write-descriptor : tie.Need-element-write-descriptor
-element-write-descriptor c = search needs
-
-element-write-descriptor-2 : tie.Need-element-write-descriptor-2
-element-write-descriptor-2 c = search needs
-
-element-write-descriptor-3 : tie.Need-element-write-descriptor-3
-element-write-descriptor-3 c = search needs
-
-element-write-descriptor-4 : tie.Need-element-write-descriptor-4
-element-write-descriptor-4 c = search needs
-
 returns : tie.Need-returns
 returns c =
     let a = c .before .before .before .args in
@@ -47,9 +32,9 @@ pub new-descriptor-spec : {M : Type 1} → statement M
 new-descriptor-spec =
     tie.close
     (tie.spec
-    lay-requires
-    element-write-descriptor
-    element-write-descriptor-2
-    element-write-descriptor-3
-    element-write-descriptor-4
+    (λ c κs. search needs)
+    (λ c. search needs)
+    (λ c. search needs)
+    (λ c. search needs)
+    (λ c. search needs)
     returns)

@@ -4,15 +4,6 @@ use borrow.Author.Needs.{needs}
 use Rattle.descriptor.proofs.kind.kind_length.Statement.{statement}
 use Rattle.descriptor.proofs.kind.kind_length.Tie as tie
 
-enum-known-kind : tie.Need-enum-known-kind
-enum-known-kind c = search needs
-
-enum-known-kind-2 : tie.Need-enum-known-kind-2
-enum-known-kind-2 c = search needs
-
-enum-known-kind-3 : tie.Need-enum-known-kind-3
-enum-known-kind-3 c = search needs
-
 returns : tie.Need-returns
 unfolding kindLength
 returns c = rw (c .before .kind .given .1)
@@ -28,4 +19,4 @@ returns-3 c = rw (c .before .kind3 .given .1)
 pub kind-length-spec : {M : Type 1} → statement M
 kind-length-spec =
     tie.close
-    (tie.spec enum-known-kind enum-known-kind-2 enum-known-kind-3 returns returns-2 returns-3)
+    (tie.spec (λ c. search needs) (λ c. search needs) (λ c. search needs) returns returns-2 returns-3)

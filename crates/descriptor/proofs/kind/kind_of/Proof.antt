@@ -8,9 +8,6 @@ use borrow.Author.Needs.{needs}
 use Rattle.descriptor.proofs.kind.kind_of.Statement.{statement}
 use Rattle.descriptor.proofs.kind.kind_of.Tie as tie
 
-program-length-requires : tie.Need-program-length-requires
-program-length-requires c κs = search needs
-
 returns : tie.Need-returns
 unfolding kindOf
 returns c = rw (div-one (c .before .before .args .status), eq-eqb _ _ (c .before .if1 .taken)) (ap Program (c .program-length .ensures))
@@ -24,4 +21,4 @@ unfolding kindOf
 returns-3 c = rw (div-one (c .before .before .args .status), ne-eqb _ _ (c .before .if1 .left), ne-eqb _ _ (c .if2 .left))
 
 pub kind-of-spec : {M : Type 1} → statement M
-kind-of-spec = tie.close (tie.spec program-length-requires returns returns-2 returns-3)
+kind-of-spec = tie.close (tie.spec (λ c κs. search needs) returns returns-2 returns-3)

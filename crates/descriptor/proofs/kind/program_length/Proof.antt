@@ -9,18 +9,9 @@ returns : tie.Need-returns
 unfolding programLength
 returns c = omega arith
 
-sub-result : tie.Need-sub-result
-sub-result c = search needs
-
-mul-result : tie.Need-mul-result
-mul-result c = search needs
-
-add-result : tie.Need-add-result
-add-result c = search needs
-
 returns-2 : tie.Need-returns-2
 unfolding programLength
 returns-2 c = omega arith
 
 pub program-length-spec : {M : Type 1} → statement M
-program-length-spec = tie.close (tie.spec returns sub-result mul-result add-result returns-2)
+program-length-spec = tie.close (tie.spec returns (λ c. search needs) (λ c. search needs) (λ c. search needs) returns-2)

@@ -6,24 +6,6 @@ use borrow.Author.Needs.{needs}
 use Rattle.descriptor.proofs.kind.status_rule.Statement.{statement}
 use Rattle.descriptor.proofs.kind.status_rule.Tie as tie
 
-mul-if1 : tie.Need-mul-if1
-mul-if1 c = search needs
-
-add-if1 : tie.Need-add-if1
-add-if1 c = search needs
-
-mul-if1-2 : tie.Need-mul-if1-2
-mul-if1-2 c = search needs
-
-add-if1-2 : tie.Need-add-if1-2
-add-if1-2 c = search needs
-
-mul-if1-3 : tie.Need-mul-if1-3
-mul-if1-3 c = search needs
-
-add-if1-3 : tie.Need-add-if1-3
-add-if1-3 c = search needs
-
 returns : tie.Need-returns
 unfolding statusRule
 returns c = rw (div-one (c .before .args .status), ne-eqb _ _ (c .if1 .taken))
@@ -50,12 +32,12 @@ pub status-rule-spec : {M : Type 1} → statement M
 status-rule-spec =
     tie.close
     (tie.spec
-    mul-if1
-    add-if1
-    mul-if1-2
-    add-if1-2
-    mul-if1-3
-    add-if1-3
+    (λ c. search needs)
+    (λ c. search needs)
+    (λ c. search needs)
+    (λ c. search needs)
+    (λ c. search needs)
+    (λ c. search needs)
     returns
     returns-2
     returns-3

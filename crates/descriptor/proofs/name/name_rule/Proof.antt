@@ -20,12 +20,6 @@ returns : tie.Need-returns Inv-loop μ-loop
 unfolding nameRule
 returns c = rw (ne-eqb _ _ (c .if1 .taken))
 
-shared-slice-read-name-byte : tie.Need-shared-slice-read-name-byte Inv-loop μ-loop
-shared-slice-read-name-byte c = search needs
-
-name-byte-requires : tie.Need-name-byte-requires Inv-loop μ-loop
-name-byte-requires c κs = search needs
-
 returns-2 : tie.Need-returns-2 Inv-loop μ-loop
 unfolding nameRule
 returns-2 c =
@@ -38,23 +32,11 @@ loop-holds c =
     let long = c .before .before .before in
     (search needs, rw (eq-eqb _ _ (long .if1 .left), sym (c .before .name-byte .ensures) ∙ not-false (c .before .name-byte .result) (c .if2 .left)))
 
-shared-slice-read-b : tie.Need-shared-slice-read-b Inv-loop μ-loop
-shared-slice-read-b c = search needs
-
-add-i : tie.Need-add-i Inv-loop μ-loop
-add-i c = search needs
-
-all-are-requires : tie.Need-all-are-requires Inv-loop μ-loop
-all-are-requires c κs = search needs
-
 returns-3 : tie.Need-returns-3 Inv-loop μ-loop
 returns-3 c =
     let space = c .before in
     let l = space .before .before in
     c .all-are .ensures ∙ sym (sym (l .before .loop .inv .1) ∙ padded-step _ _ (l .loop-test .taken) ∙ rw (eq-eqb _ _ (space .if3 .taken)))
-
-name-byte-requires-2 : tie.Need-name-byte-requires-2 Inv-loop μ-loop
-name-byte-requires-2 c κs = search needs
 
 returns-4 : tie.Need-returns-4 Inv-loop μ-loop
 returns-4 c =
@@ -62,9 +44,6 @@ returns-4 c =
     let l = other .before .before in
     let bad = sym (c .before .name-byte2 .ensures) ∙ not-true (c .before .name-byte2 .result) (c .if4 .taken) in
     sym (sym (l .before .loop .inv .1) ∙ padded-step _ _ (l .loop-test .taken) ∙ rw (ne-eqb _ _ (other .if3 .left), bad))
-
-loop-less : tie.Need-loop-less Inv-loop μ-loop
-loop-less c = search needs
 
 loop-again : tie.Need-loop-again Inv-loop μ-loop
 loop-again c =
@@ -83,16 +62,16 @@ name-rule-spec =
     Inv-loop
     μ-loop
     returns
-    shared-slice-read-name-byte
-    name-byte-requires
+    (λ c. search needs)
+    (λ c κs. search needs)
     returns-2
     loop-holds
-    shared-slice-read-b
-    add-i
-    all-are-requires
+    (λ c. search needs)
+    (λ c. search needs)
+    (λ c κs. search needs)
     returns-3
-    name-byte-requires-2
+    (λ c κs. search needs)
     returns-4
-    loop-less
+    (λ c. search needs)
     loop-again
     returns-5)

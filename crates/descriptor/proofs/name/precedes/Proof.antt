@@ -23,22 +23,10 @@ returns : tie.Need-returns Inv-loop μ-loop
 returns c = let l = c .before in
     rw (← l .before .loop .inv, precedes-short _ _ _ (l .loop-test .taken) (c .if1 .taken))
 
-shared-slice-read-a : tie.Need-shared-slice-read-a Inv-loop μ-loop
-shared-slice-read-a c = search needs
-
-shared-slice-read-b : tie.Need-shared-slice-read-b Inv-loop μ-loop
-shared-slice-read-b c = search needs
-
 returns-2 : tie.Need-returns-2 Inv-loop μ-loop
 returns-2 c = let t = c .before .before .before in
     let l = t .before in
     rw (← l .before .loop .inv, precedes-step _ _ _ (l .loop-test .taken) (t .if1 .left), ne-eqb _ _ (c .if2 .taken))
-
-add-i : tie.Need-add-i Inv-loop μ-loop
-add-i c = search needs
-
-loop-less : tie.Need-loop-less Inv-loop μ-loop
-loop-less c = search needs
 
 loop-again : tie.Need-loop-again Inv-loop μ-loop
 loop-again c = let t = c .before .before .before in
@@ -56,10 +44,10 @@ precedes-spec =
     μ-loop
     loop-holds
     returns
-    shared-slice-read-a
-    shared-slice-read-b
+    (λ c. search needs)
+    (λ c. search needs)
     returns-2
-    add-i
-    loop-less
+    (λ c. search needs)
+    (λ c. search needs)
     loop-again
     returns-3)

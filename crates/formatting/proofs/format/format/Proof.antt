@@ -56,9 +56,6 @@ returns-4 : tie.Need-returns-4
 unfolding afterFormat
 returns-4 c = made-refused _ _ _ 1 (λ z. omega arith) (misasked _ _ _ (c .if4 .taken) (sized (c .before)))
 
-name-rule-requires : tie.Need-name-rule-requires
-name-rule-requires c κs = search needs
-
 returns-5 : tie.Need-returns-5
 unfolding afterFormat
 returns-5 c =
@@ -70,9 +67,6 @@ named c = sym (c .before .name-rule .ensures) ∙ not-false (c .before .name-rul
 
 write-volume-requires : tie.Need-write-volume-requires
 write-volume-requires c κs = (search needs, search needs, search needs, name-is _ (named (c .before)) .ten)
-
-same-length : tie.Need-same-length
-same-length c = search needs
 
 returns-6 : tie.Need-returns-6
 unfolding afterFormat
@@ -91,8 +85,8 @@ format-spec =
     returns-2
     returns-3
     returns-4
-    name-rule-requires
+    (λ c κs. search needs)
     returns-5
     write-volume-requires
-    same-length
+    (λ c. search needs)
     returns-6)

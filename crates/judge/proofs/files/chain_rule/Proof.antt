@@ -25,12 +25,6 @@ abbrev μ-loop : tie.MeasureT-loop
 loop-holds : tie.Need-loop-holds Inv-loop μ-loop
 loop-holds c = (search needs, chain-start _ _ _)
 
-block-at-requires : tie.Need-block-at-requires Inv-loop μ-loop
-block-at-requires c κs = search needs
-
-enum-known-block : tie.Need-enum-known-block Inv-loop μ-loop
-enum-known-block c = search needs
-
 -- the test at which a block was met, and the block
 abbrev test : tie.After-known-told Inv-loop μ-loop → tie.At-loop Inv-loop μ-loop
 test c = c .before .before .before .before
@@ -80,9 +74,6 @@ loop-again c =
     let low = up .before in
     (met (low .before) .inside, sym (stepped (low .before) ∙ rw (le-leb _ _ (low .if1 .left), le-leb _ _ (up .if2 .left), lt-ltb _ _ (c .if3 .left))))
 
-enum-told : tie.Need-enum-told Inv-loop μ-loop
-enum-told c = search needs
-
 -- the whole chain's rule at its end
 past : (c : tie.After-enum-told Inv-loop μ-loop) →
     let l = c .before .before .before in
@@ -95,9 +86,6 @@ past c =
 returns-4 : tie.Need-returns-4 Inv-loop μ-loop
 returns-4 c = sym (past (c .before) ∙ rw (ne-eqb _ _ (c .if4 .taken)))
 
-all-are-requires : tie.Need-all-are-requires Inv-loop μ-loop
-all-are-requires c κs = search needs
-
 returns-5 : tie.Need-returns-5 Inv-loop μ-loop
 returns-5 c = c .all-are .ensures ∙ sym (past (c .before .before) ∙ rw (eq-eqb _ _ (c .before .if4 .left)))
 
@@ -108,8 +96,8 @@ chain-rule-spec =
     Inv-loop
     μ-loop
     loop-holds
-    block-at-requires
-    enum-known-block
+    (λ c κs. search needs)
+    (λ c. search needs)
     returns
     returns-2
     add-if3
@@ -118,7 +106,7 @@ chain-rule-spec =
     add-next
     loop-less
     loop-again
-    enum-told
+    (λ c. search needs)
     returns-4
-    all-are-requires
+    (λ c κs. search needs)
     returns-5)

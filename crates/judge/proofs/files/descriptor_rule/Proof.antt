@@ -11,12 +11,6 @@ use borrow.Author.Needs.{needs}
 use Rattle.judge.proofs.files.descriptor_rule.Statement.{statement}
 use Rattle.judge.proofs.files.descriptor_rule.Tie as tie
 
-part-requires : tie.Need-part-requires
-part-requires c κs = search needs
-
-name-rule-requires : tie.Need-name-rule-requires
-name-rule-requires c κs = search needs
-
 -- The ways back, each from a test to where the one before it had passed: the name, the status. And the descriptor, as each test has it.
 abbrev e₁ : tie.After-status-rule → tie.Else1
 e₁ c = c .before .before
@@ -60,42 +54,15 @@ returns : tie.Need-returns
 unfolding descriptorRule
 returns c = rw (name-is (c .before), not-true (c .before .name-rule .result) (c .if1 .taken))
 
-byte-requires : tie.Need-byte-requires
-byte-requires c κs = search needs
-
-status-rule-requires : tie.Need-status-rule-requires
-status-rule-requires c κs = search needs
-
 returns-2 : tie.Need-returns-2
 unfolding descriptorRule
 returns-2 c = let s = c .before in rw (good-name (e₁ s), status-is s, not-true (s .status-rule .result) (c .if2 .taken))
-
-word-requires : tie.Need-word-requires
-word-requires c κs = search needs
-
-byte-requires-2 : tie.Need-byte-requires-2
-byte-requires-2 c κs = search needs
-
-byte-requires-3 : tie.Need-byte-requires-3
-byte-requires-3 c κs = search needs
-
-kind-of-requires : tie.Need-kind-of-requires
-kind-of-requires c κs = search needs
-
-kind-rule-requires : tie.Need-kind-rule-requires
-kind-rule-requires c κs = search needs
 
 returns-3 : tie.Need-returns-3
 unfolding descriptorRule
 returns-3 c =
     let k = c .before in
     rw (good-name (e₁ (e₂ k .before)), good-status (e₂ k), kind-is k, not-true (k .kind-rule .result) (c .if3 .taken))
-
-part-requires-2 : tie.Need-part-requires-2
-part-requires-2 c κs = search needs
-
-chain-rule-requires : tie.Need-chain-rule-requires
-chain-rule-requires c κs = search needs
 
 returns-4 : tie.Need-returns-4
 unfolding descriptorRule chainOf
@@ -115,18 +82,18 @@ pub descriptor-rule-spec : {M : Type 1} → statement M
 descriptor-rule-spec =
     tie.close
     (tie.spec
-    part-requires
-    name-rule-requires
+    (λ c κs. search needs)
+    (λ c κs. search needs)
     returns
-    byte-requires
-    status-rule-requires
+    (λ c κs. search needs)
+    (λ c κs. search needs)
     returns-2
-    word-requires
-    byte-requires-2
-    byte-requires-3
-    kind-of-requires
-    kind-rule-requires
+    (λ c κs. search needs)
+    (λ c κs. search needs)
+    (λ c κs. search needs)
+    (λ c κs. search needs)
+    (λ c κs. search needs)
     returns-3
-    part-requires-2
-    chain-rule-requires
+    (λ c κs. search needs)
+    (λ c κs. search needs)
     returns-4)

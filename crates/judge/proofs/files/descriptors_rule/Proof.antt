@@ -23,27 +23,15 @@ Inv-loop n image sector1 previous₀ at₀ previous at = (at ≤ length sector1)
 abbrev μ-loop : tie.MeasureT-loop
 μ-loop n image sector1 previous₀ at₀ previous at = length sector1 - at
 
-sector-of-requires : tie.Need-sector-of-requires Inv-loop μ-loop
-sector-of-requires c κs = search needs
-
-part-requires : tie.Need-part-requires Inv-loop μ-loop
-part-requires c κs = search needs
-
 loop-holds : tie.Need-loop-holds Inv-loop μ-loop
 unfolding files
 loop-holds c = (search needs, rw (c .part .ensures, c .before .sector-of .ensures))
-
-number-at-requires : tie.Need-number-at-requires Inv-loop μ-loop
-number-at-requires c κs = search needs
 
 returns : tie.Need-returns Inv-loop μ-loop
 returns c = let k = c .before in sym (sym (k .before .loop .inv .1) ∙ descriptors-past _ _ _ _ (k .number-at .ensures .none (c .if1 .taken)))
 
 sector-of-requires-2 : tie.Need-sector-of-requires-2 Inv-loop μ-loop
 sector-of-requires-2 c κs = c .before .number-at .ensures .small
-
-descriptor-rule-requires : tie.Need-descriptor-rule-requires Inv-loop μ-loop
-descriptor-rule-requires c κs = search needs
 
 -- The ways back: from the comparison of names to the descriptor read, and from there to the loop. What is to be shown, and what is left behind the number that stands here.
 abbrev read : tie.After-precedes Inv-loop μ-loop → tie.After-sector-of2 Inv-loop μ-loop
@@ -73,12 +61,6 @@ returns-2 : tie.Need-returns-2 Inv-loop μ-loop
 returns-2 c =
     let d = c .before in
     sym (stepped (d .before) _ refl ∙ rw (sym (d .descriptor-rule .ensures) ∙ not-true (d .descriptor-rule .result) (c .if2 .taken)))
-
-part-requires-2 : tie.Need-part-requires-2 Inv-loop μ-loop
-part-requires-2 c κs = search needs
-
-precedes-requires : tie.Need-precedes-requires Inv-loop μ-loop
-precedes-requires c κs = search needs
 
 -- the same, the descriptor keeping its own rules, by what the comparison of names gave
 kept : (c : tie.After-precedes Inv-loop μ-loop) (follows : Bool) → c .precedes .result ≡ follows →
@@ -112,16 +94,16 @@ descriptors-rule-spec =
     (tie.spec
     Inv-loop
     μ-loop
-    sector-of-requires
-    part-requires
+    (λ c κs. search needs)
+    (λ c κs. search needs)
     loop-holds
-    number-at-requires
+    (λ c κs. search needs)
     returns
     sector-of-requires-2
-    descriptor-rule-requires
+    (λ c κs. search needs)
     returns-2
-    part-requires-2
-    precedes-requires
+    (λ c κs. search needs)
+    (λ c κs. search needs)
     returns-3
     add-at
     loop-less

@@ -104,41 +104,17 @@ placed : (c : tie.After-place Inv-loop μ-loop Inv-files μ-files) →
     whole (filed first .before) ≡ claim (test c .loop .marks) (c .place .given .0 .0 ∷ (ahead (chain first) (c .place .given .0 .1 .0) ++ rest (filed first)))
 placed c = going (test c) ∙ ap (λ (ps : List ℕ). claim (test c .loop .marks) (ps ++ rest (filed (test c .before)))) (stepped c .0)
 
-sector-of-requires : tie.Need-sector-of-requires Inv-loop μ-loop Inv-files μ-files
-sector-of-requires c κs = search needs
-
 files-holds : tie.Need-files-holds Inv-loop μ-loop Inv-files μ-files
 files-holds c = (search needs, refl, refl)
 
-number-at-requires : tie.Need-number-at-requires Inv-loop μ-loop Inv-files μ-files
-number-at-requires c κs = search needs
-
-take-requires : tie.Need-take-requires Inv-loop μ-loop Inv-files μ-files
-take-requires c κs = search needs
-
 sector-of-requires-2 : tie.Need-sector-of-requires-2 Inv-loop μ-loop Inv-files μ-files
 sector-of-requires-2 c κs = omega (arith, number (c .before) .before .number-at .ensures .small)
-
-part-requires : tie.Need-part-requires Inv-loop μ-loop Inv-files μ-files
-part-requires c κs = search needs
-
-first-requires : tie.Need-first-requires Inv-loop μ-loop Inv-files μ-files
-first-requires c κs = search needs
 
 loop-holds : tie.Need-loop-holds Inv-loop μ-loop Inv-files μ-files
 loop-holds c = (refl, rw (c .first .ensures) (record { inside = omega arith; small = omega arith }), refl)
 
 step-requires : tie.Need-step-requires Inv-loop μ-loop Inv-files μ-files
 step-requires c κs = c .loop .inv .1
-
-enum-known-place : tie.Need-enum-known-place Inv-loop μ-loop Inv-files μ-files
-enum-known-place c = search needs
-
-enum-told : tie.Need-enum-told Inv-loop μ-loop Inv-files μ-files
-enum-told c = search needs
-
-take-requires-2 : tie.Need-take-requires-2 Inv-loop μ-loop Inv-files μ-files
-take-requires-2 c κs = search needs
 
 loop-less : tie.Need-loop-less Inv-loop μ-loop Inv-files μ-files
 loop-less c = omega (arith, ap length (stepped (place (c .before)) .0))
@@ -195,18 +171,18 @@ claim-files-spec =
     μ-loop
     Inv-files
     μ-files
-    sector-of-requires
+    (λ c κs. search needs)
     files-holds
-    number-at-requires
-    take-requires
+    (λ c κs. search needs)
+    (λ c κs. search needs)
     sector-of-requires-2
-    part-requires
-    first-requires
+    (λ c κs. search needs)
+    (λ c κs. search needs)
     loop-holds
     step-requires
-    enum-known-place
-    enum-told
-    take-requires-2
+    (λ c. search needs)
+    (λ c. search needs)
+    (λ c κs. search needs)
     loop-less
     loop-again
     add-at

@@ -10,15 +10,9 @@ returns : tie.Need-returns
 unfolding isFree
 returns c = rw (le-ltb _ _ (c .if1 .taken)) (refl, refl)
 
-element-copy-out-if2 : tie.Need-element-copy-out-if2
-element-copy-out-if2 c = search needs
-
 returns-2 : tie.Need-returns-2
 unfolding isFree
 returns-2 c = rw (lt-ltb _ _ (c .before .before .if1 .left), ne-eqb _ _ (c .if2 .taken)) (refl, refl)
-
-element-write-marks : tie.Need-element-write-marks
-element-write-marks c = search needs
 
 returns-3 : tie.Need-returns-3
 unfolding isFree
@@ -26,4 +20,4 @@ returns-3 c = rw (lt-ltb _ _ (c .before .before .if1 .left), eq-eqb _ _ (c .if2 
 
 pub take-spec : {M : Type 1} → statement M
 take-spec =
-    tie.close (tie.spec returns element-copy-out-if2 returns-2 element-write-marks returns-3)
+    tie.close (tie.spec returns (λ c. search needs) returns-2 (λ c. search needs) returns-3)

@@ -17,15 +17,6 @@ abbrev μ-loop : tie.MeasureT-loop
 loop-holds : tie.Need-loop-holds Inv-loop μ-loop
 loop-holds c = (search needs, refl)
 
-element-write-marks : tie.Need-element-write-marks Inv-loop μ-loop
-element-write-marks c = search needs
-
-add-k : tie.Need-add-k Inv-loop μ-loop
-add-k c = search needs
-
-loop-less : tie.Need-loop-less Inv-loop μ-loop
-loop-less c = search needs
-
 loop-again : tie.Need-loop-again Inv-loop μ-loop
 loop-again c = (search needs, sym (unmark-step _ _ _ (c .loop-test .taken)) ∙ c .before .loop .inv .1)
 
@@ -35,4 +26,4 @@ returns c = sym (unmark-done _ _ _ (c .loop-test .left)) ∙ c .before .loop .in
 pub unmark-spec : {M : Type 1} → statement M
 unmark-spec =
     tie.close
-    (tie.spec Inv-loop μ-loop loop-holds element-write-marks add-k loop-less loop-again returns)
+    (tie.spec Inv-loop μ-loop loop-holds (λ c. search needs) (λ c. search needs) (λ c. search needs) loop-again returns)

@@ -6,24 +6,6 @@ use borrow.Author.Needs.{needs}
 use Rattle.judge.proofs.map.marks_byte.Statement.{statement}
 use Rattle.judge.proofs.map.marks_byte.Tie as tie
 
-mul-k : tie.Need-mul-k
-mul-k c = search needs
-
-four-marks-requires : tie.Need-four-marks-requires
-four-marks-requires c κs = search needs
-
-add-four-marks : tie.Need-add-four-marks
-add-four-marks c = search needs
-
-four-marks-requires-2 : tie.Need-four-marks-requires-2
-four-marks-requires-2 c κs = search needs
-
-mul-result : tie.Need-mul-result
-mul-result c = search needs
-
-add-result : tie.Need-add-result
-add-result c = search needs
-
 returns : tie.Need-returns
 returns c = let a = c .before .before .args in omega (arith, eight-marks (a .marks .now) (8 * a .i))
 
@@ -31,10 +13,10 @@ pub marks-byte-spec : {M : Type 1} → statement M
 marks-byte-spec =
     tie.close
     (tie.spec
-    mul-k
-    four-marks-requires
-    add-four-marks
-    four-marks-requires-2
-    mul-result
-    add-result
+    (λ c. search needs)
+    (λ c κs. search needs)
+    (λ c. search needs)
+    (λ c κs. search needs)
+    (λ c. search needs)
+    (λ c. search needs)
     returns)

@@ -6,15 +6,6 @@ use borrow.Author.Needs.{needs}
 use Rattle.judge.proofs.map.two_marks.Statement.{statement}
 use Rattle.judge.proofs.map.two_marks.Tie as tie
 
-element-copy-out-result : tie.Need-element-copy-out-result
-element-copy-out-result c = search needs
-
-add-result : tie.Need-add-result
-add-result c = search needs
-
-element-copy-out-result-2 : tie.Need-element-copy-out-result-2
-element-copy-out-result-2 c = search needs
-
 small : (c : tie.After-result2) → let a = c .before .before .args in (markAt (a .marks .now) (a .k) ≤ 1) × (markAt (a .marks .now) (a .k + 1) ≤ 1)
 small c = let start = c .before .before in (start .pre .1 (start .args .k), start .pre .1 (start .args .k + 1))
 
@@ -31,9 +22,9 @@ pub two-marks-spec : {M : Type 1} → statement M
 two-marks-spec =
     tie.close
     (tie.spec
-    element-copy-out-result
-    add-result
-    element-copy-out-result-2
+    (λ c. search needs)
+    (λ c. search needs)
+    (λ c. search needs)
     mul-result
     add-result-2
     returns)

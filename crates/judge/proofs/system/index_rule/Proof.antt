@@ -22,9 +22,6 @@ abbrev μ-loop : tie.MeasureT-loop
 loop-holds : tie.Need-loop-holds Inv-loop μ-loop
 loop-holds c = (search needs, index-start _ _)
 
-number-at-requires : tie.Need-number-at-requires Inv-loop μ-loop
-number-at-requires c κs = search needs
-
 -- the whole rule where the numbers end
 past : (c : tie.Then1 Inv-loop μ-loop) →
     let l = c .before .before in
@@ -34,9 +31,6 @@ past c = sym (c .before .before .loop .inv .1) ∙ index-past _ _ _ (c .before .
 
 returns : tie.Need-returns Inv-loop μ-loop
 returns c = sym (past (c .before) ∙ rw (le-ltb _ _ (c .if2 .taken)))
-
-all-are-requires : tie.Need-all-are-requires Inv-loop μ-loop
-all-are-requires c κs = search needs
 
 returns-2 : tie.Need-returns-2 Inv-loop μ-loop
 returns-2 c = c .all-are .ensures ∙ sym (past (c .before .before) ∙ rw (lt-ltb _ _ (c .before .if2 .left)))
@@ -77,9 +71,9 @@ index-rule-spec =
     Inv-loop
     μ-loop
     loop-holds
-    number-at-requires
+    (λ c κs. search needs)
     returns
-    all-are-requires
+    (λ c κs. search needs)
     returns-2
     returns-3
     returns-4

@@ -39,23 +39,11 @@ stepped : (c : tie.After-place Inv-loop μ-loop) →
     (ahead (chain l) (l .loop .cursor) ≡ c .place .given .0 .0 ∷ ahead (chain l) next) × Steady (chain l) next × (c .place .given .0 .0 < 8192)
 stepped c = at-place _ _ _ (c .before .before .step .ensures) (c .place .given .1)
 
-mark-as-requires : tie.Need-mark-as-requires Inv-loop μ-loop
-mark-as-requires c κs = search needs
-
-first-requires : tie.Need-first-requires Inv-loop μ-loop
-first-requires c κs = search needs
-
 loop-holds : tie.Need-loop-holds Inv-loop μ-loop
 loop-holds c = (refl, rw (c .first .ensures) (record { inside = omega arith; small = omega arith }), rw (c .first .ensures, at-first (start (made c) .args .chain .now)))
 
 step-requires : tie.Need-step-requires Inv-loop μ-loop
 step-requires c κs = c .loop .inv .1
-
-enum-known-place : tie.Need-enum-known-place Inv-loop μ-loop
-enum-known-place c = search needs
-
-mark-as-requires-2 : tie.Need-mark-as-requires-2 Inv-loop μ-loop
-mark-as-requires-2 c κs = search needs
 
 loop-less : tie.Need-loop-less Inv-loop μ-loop
 loop-less c = omega (arith, ap length (stepped (place c) .0))
@@ -70,9 +58,6 @@ loop-again c =
       e .1,
       rw bit (sym (ap (markedAll 0 (l .sector0)) (e .0)) ∙ l .inv .2),
     )
-
-enum-told : tie.Need-enum-told Inv-loop μ-loop
-enum-told c = search needs
 
 same-length : tie.Need-same-length Inv-loop μ-loop
 same-length c =
@@ -94,14 +79,14 @@ clear-file-spec =
     (tie.spec
     Inv-loop
     μ-loop
-    mark-as-requires
-    first-requires
+    (λ c κs. search needs)
+    (λ c κs. search needs)
     loop-holds
     step-requires
-    enum-known-place
-    mark-as-requires-2
+    (λ c. search needs)
+    (λ c κs. search needs)
     loop-less
     loop-again
-    enum-told
+    (λ c. search needs)
     same-length
     returns)

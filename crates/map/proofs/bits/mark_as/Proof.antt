@@ -6,21 +6,6 @@ use borrow.Author.Needs.{needs}
 use Rattle.map.proofs.bits.mark_as.Statement.{statement}
 use Rattle.map.proofs.bits.mark_as.Tie as tie
 
-add-i : tie.Need-add-i
-add-i c = search needs
-
-slice-read-with-bit : tie.Need-slice-read-with-bit
-slice-read-with-bit c = search needs
-
-with-bit-requires : tie.Need-with-bit-requires
-with-bit-requires c κs = search needs
-
-slice-write-sector0 : tie.Need-slice-write-sector0
-slice-write-sector0 c = search needs
-
-same-length : tie.Need-same-length
-same-length c = search needs
-
 returns : tie.Need-returns
 unfolding marked
 returns c = rw (c .with-bit .ensures)
@@ -33,10 +18,10 @@ pub mark-as-spec : {M : Type 1} → statement M
 mark-as-spec =
     tie.close
     (tie.spec
-    add-i
-    slice-read-with-bit
-    with-bit-requires
-    slice-write-sector0
-    same-length
+    (λ c. search needs)
+    (λ c. search needs)
+    (λ c κs. search needs)
+    (λ c. search needs)
+    (λ c. search needs)
     returns
     returns-2)

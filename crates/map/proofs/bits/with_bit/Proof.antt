@@ -4,26 +4,8 @@ use borrow.Author.Needs.{needs}
 use Rattle.map.proofs.bits.with_bit.Statement.{statement}
 use Rattle.map.proofs.bits.with_bit.Tie as tie
 
-cast-was : tie.Need-cast-was
-cast-was c = search needs
-
-shr-was : tie.Need-shr-was
-shr-was c = search needs
-
-cast-result : tie.Need-cast-result
-cast-result c = search needs
-
-shl-result : tie.Need-shl-result
-shl-result c = search needs
-
 sub-result : tie.Need-sub-result
 sub-result c = old-fits _ _ (search needs)
-
-cast-result-2 : tie.Need-cast-result-2
-cast-result-2 c = search needs
-
-shl-result-2 : tie.Need-shl-result-2
-shl-result-2 c = search needs
 
 add-result : tie.Need-add-result
 add-result c = record { fits = new-fits _ _ (search needs) _ (search needs) (search needs) }
@@ -33,4 +15,4 @@ returns c = bit-made _ _ (search needs) _ (search needs)
 
 pub with-bit-spec : {M : Type 1} → statement M
 with-bit-spec =
-    tie.close (tie.spec cast-was shr-was cast-result shl-result sub-result cast-result-2 shl-result-2 add-result returns)
+    tie.close (tie.spec (λ c. search needs) (λ c. search needs) (λ c. search needs) (λ c. search needs) sub-result (λ c. search needs) (λ c. search needs) add-result returns)

@@ -4,12 +4,9 @@ use borrow.Author.Needs.{needs}
 use Rattle.map.proofs.choice.descriptor_choice.Statement.{statement}
 use Rattle.map.proofs.choice.descriptor_choice.Tie as tie
 
-lowest-free-requires : tie.Need-lowest-free-requires
-lowest-free-requires c κs = search needs
-
 returns : tie.Need-returns
 unfolding descriptorChoice
 returns c = (c .lowest-free .ensures .0, c .lowest-free .ensures .1)
 
 pub descriptor-choice-spec : {M : Type 1} → statement M
-descriptor-choice-spec = tie.close (tie.spec lowest-free-requires returns)
+descriptor-choice-spec = tie.close (tie.spec (λ c κs. search needs) returns)

@@ -20,21 +20,6 @@ abbrev μ-loop : tie.MeasureT-loop
 loop-holds : tie.Need-loop-holds Inv-loop μ-loop
 loop-holds c = (omega arith, λ i low high free. omega arith)
 
-add-byte : tie.Need-add-byte Inv-loop μ-loop
-add-byte c = search needs
-
-byte-requires : tie.Need-byte-requires Inv-loop μ-loop
-byte-requires c κs = search needs
-
-mul-k : tie.Need-mul-k Inv-loop μ-loop
-mul-k c = search needs
-
-add-k : tie.Need-add-k Inv-loop μ-loop
-add-k c = search needs
-
-loop-less : tie.Need-loop-less Inv-loop μ-loop
-loop-less c = search needs
-
 -- the ways back: from the byte read to the loop's test, and to the start
 abbrev test : tie.After-byte Inv-loop μ-loop → tie.At-loop Inv-loop μ-loop
 test c = c .before .before
@@ -48,15 +33,6 @@ loop-again c =
     let a = start (test (c .before)) .args in
     let full : byteAt (a .sector0 .now) (56 + l .k / 8) ≡ 255 = omega (arith, c .before .byte .ensures .0, c .if1 .taken) in
     (omega arith, full-on (a .sector0 .now) (a .from) (l .k) _ (l .inv .1) (full-byte (a .sector0 .now) (l .k) full))
-
-shr-if2 : tie.Need-shr-if2 Inv-loop μ-loop
-shr-if2 c = search needs
-
-add-k-2 : tie.Need-add-k-2 Inv-loop μ-loop
-add-k-2 c = search needs
-
-loop-less-2 : tie.Need-loop-less-2 Inv-loop μ-loop
-loop-less-2 c = search needs
 
 -- the bit of a sector in a byte that is not full
 bit-is : (c : tie.Else1 Inv-loop μ-loop) →
@@ -94,15 +70,15 @@ lowest-free-spec =
     Inv-loop
     μ-loop
     loop-holds
-    add-byte
-    byte-requires
-    mul-k
-    add-k
-    loop-less
+    (λ c. search needs)
+    (λ c κs. search needs)
+    (λ c. search needs)
+    (λ c. search needs)
+    (λ c. search needs)
     loop-again
-    shr-if2
-    add-k-2
-    loop-less-2
+    (λ c. search needs)
+    (λ c. search needs)
+    (λ c. search needs)
     loop-again-2
     returns
     returns-2)

@@ -27,24 +27,12 @@ module _ (c : tie.After-shared-slice-known2 Inv-loop μ-loop) where
   few : ones (byteAt (c .before .before .before .part .result .now) (c .before .before .loop .i)) ≤ 8
   few = ones-le 8 _ small
 
-part-requires : tie.Need-part-requires Inv-loop μ-loop
-part-requires c κs = search needs
-
 loop-holds : tie.Need-loop-holds Inv-loop μ-loop
 unfolding freeCount
 loop-holds c = (omega arith, rw (c .part .ensures) (part-short (c .before .before .args .sector0 .now) 56 200), omega arith, omega arith)
 
-shared-slice-read-taken : tie.Need-shared-slice-read-taken Inv-loop μ-loop
-shared-slice-read-taken c = search needs
-
 add-taken : tie.Need-add-taken Inv-loop μ-loop
 add-taken c = record { fits = omega (arith, few c) }
-
-add-i : tie.Need-add-i Inv-loop μ-loop
-add-i c = search needs
-
-loop-less : tie.Need-loop-less Inv-loop μ-loop
-loop-less c = search needs
 
 loop-again : tie.Need-loop-again Inv-loop μ-loop
 loop-again c =
@@ -52,12 +40,6 @@ loop-again c =
     let map = c .before .before .before .part .ensures in
     let step = zeros-step (c .before .before .before .before .before .args .sector0 .now) (l .i) (omega arith) (rw map at (small c)) in
     (omega arith, omega arith, omega (arith, few c), omega (arith, rw (← map) at step))
-
-cast-result : tie.Need-cast-result Inv-loop μ-loop
-cast-result c = search needs
-
-sub-result : tie.Need-sub-result Inv-loop μ-loop
-sub-result c = search needs
 
 returns : tie.Need-returns Inv-loop μ-loop
 returns c =
@@ -70,13 +52,13 @@ free-count-of-spec =
     (tie.spec
     Inv-loop
     μ-loop
-    part-requires
+    (λ c κs. search needs)
     loop-holds
-    shared-slice-read-taken
+    (λ c. search needs)
     add-taken
-    add-i
-    loop-less
+    (λ c. search needs)
+    (λ c. search needs)
     loop-again
-    cast-result
-    sub-result
+    (λ c. search needs)
+    (λ c. search needs)
     returns)

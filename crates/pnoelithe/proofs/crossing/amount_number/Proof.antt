@@ -4,12 +4,6 @@ use borrow.Author.Needs.{needs}
 use Rattle.pnoelithe.proofs.crossing.amount_number.Statement.{statement}
 use Rattle.pnoelithe.proofs.crossing.amount_number.Tie as tie
 
-enum-known-amount : tie.Need-enum-known-amount
-enum-known-amount c = search needs
-
-enum-known-amount-2 : tie.Need-enum-known-amount-2
-enum-known-amount-2 c = search needs
-
 returns : tie.Need-returns
 unfolding amountNumber amountBehind
 returns c = (rw (c .before .amount .given .1), rw (c .before .amount .given .1))
@@ -19,4 +13,4 @@ unfolding amountNumber amountBehind
 returns-2 c = (rw (c .before .amount2 .given .1), rw (c .before .amount2 .given .1))
 
 pub amount-number-spec : {M : Type 1} → statement M
-amount-number-spec = tie.close (tie.spec enum-known-amount enum-known-amount-2 returns returns-2)
+amount-number-spec = tie.close (tie.spec (λ c. search needs) (λ c. search needs) returns returns-2)

@@ -4,12 +4,6 @@ use borrow.Author.Needs.{needs}
 use Rattle.pnoelithe.proofs.crossing.answer_number.Statement.{statement}
 use Rattle.pnoelithe.proofs.crossing.answer_number.Tie as tie
 
-enum-told : tie.Need-enum-told
-enum-told c = search needs
-
-enum-known-answer : tie.Need-enum-known-answer
-enum-known-answer c = search needs
-
 returns : tie.Need-returns
 unfolding answerNumber
 returns c = rw (c .enum-told .given .1)
@@ -19,4 +13,4 @@ unfolding answerNumber
 returns-2 c = rw (c .before .answer .given .1)
 
 pub answer-number-spec : {M : Type 1} → statement M
-answer-number-spec = tie.close (tie.spec enum-told enum-known-answer returns returns-2)
+answer-number-spec = tie.close (tie.spec (λ c. search needs) (λ c. search needs) returns returns-2)

@@ -4,18 +4,9 @@ use borrow.Author.Needs.{needs}
 use Rattle.pnoelithe.proofs.crossing.kind_number.Statement.{statement}
 use Rattle.pnoelithe.proofs.crossing.kind_number.Tie as tie
 
-enum-told : tie.Need-enum-told
-enum-told c = search needs
-
-enum-known-kind : tie.Need-enum-known-kind
-enum-known-kind c = search needs
-
 returns : tie.Need-returns
 unfolding kindNumber
 returns c = rw (c .before .before .kind .given .1, c .if1 .taken)
-
-enum-known-kind-2 : tie.Need-enum-known-kind-2
-enum-known-kind-2 c = search needs
 
 returns-2 : tie.Need-returns-2
 unfolding kindNumber
@@ -37,10 +28,10 @@ pub kind-number-spec : {M : Type 1} → statement M
 kind-number-spec =
     tie.close
     (tie.spec
-    enum-told
-    enum-known-kind
+    (λ c. search needs)
+    (λ c. search needs)
     returns
-    enum-known-kind-2
+    (λ c. search needs)
     returns-2
     returns-3
     returns-4

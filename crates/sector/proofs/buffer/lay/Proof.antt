@@ -12,27 +12,6 @@ use Rattle.sector.proofs.buffer.lay.Tie as tie
 returns : tie.Need-returns
 returns c = sym (splice-past _ _ _ (c .if1 .taken))
 
-sub-room : tie.Need-sub-room
-sub-room c = search needs
-
-add-end : tie.Need-add-end
-add-end c = search needs
-
-sub-copy : tie.Need-sub-copy
-sub-copy c = search needs
-
-part-copy-start : tie.Need-part-copy-start
-part-copy-start c = search needs
-
-part-copy-end : tie.Need-part-copy-end
-part-copy-end c = search needs
-
-copy-requires : tie.Need-copy-requires
-copy-requires c κs = search needs
-
-same-length : tie.Need-same-length
-same-length c = search needs
-
 returns-2 : tie.Need-returns-2
 returns-2 c =
     let a = c .before .before .before .before .before .before .before .before .args in
@@ -40,30 +19,6 @@ returns-2 c =
     let many = length (a .bytes .now) in
     let z : a .at + many - a .at ≡ many = omega arith in
     rw z (put-back (a .buffer .now) (copied .last .0) (a .at) many (ap length (copied .ensures)) (omega arith)) ∙ ap (splice (a .buffer .now) (a .at)) (copied .ensures)
-
-sub-copy-2 : tie.Need-sub-copy-2
-sub-copy-2 c = search needs
-
-part-copy-start-2 : tie.Need-part-copy-start-2
-part-copy-start-2 c = search needs
-
-part-copy-end-2 : tie.Need-part-copy-end-2
-part-copy-end-2 c = search needs
-
-sub-copy-3 : tie.Need-sub-copy-3
-sub-copy-3 c = search needs
-
-part-copy-start-3 : tie.Need-part-copy-start-3
-part-copy-start-3 c = search needs
-
-part-copy-end-3 : tie.Need-part-copy-end-3
-part-copy-end-3 c = search needs
-
-copy-requires-2 : tie.Need-copy-requires-2
-copy-requires-2 c κs = search needs
-
-same-length-2 : tie.Need-same-length-2
-same-length-2 c = search needs
 
 returns-3 : tie.Need-returns-3
 returns-3 c =
@@ -81,20 +36,20 @@ lay-spec =
     tie.close
     (tie.spec
     returns
-    sub-room
-    add-end
-    sub-copy
-    part-copy-start
-    part-copy-end
-    copy-requires
-    same-length
+    (λ c. search needs)
+    (λ c. search needs)
+    (λ c. search needs)
+    (λ c. search needs)
+    (λ c. search needs)
+    (λ c κs. search needs)
+    (λ c. search needs)
     returns-2
-    sub-copy-2
-    part-copy-start-2
-    part-copy-end-2
-    sub-copy-3
-    part-copy-start-3
-    part-copy-end-3
-    copy-requires-2
-    same-length-2
+    (λ c. search needs)
+    (λ c. search needs)
+    (λ c. search needs)
+    (λ c. search needs)
+    (λ c. search needs)
+    (λ c. search needs)
+    (λ c κs. search needs)
+    (λ c. search needs)
     returns-3)

@@ -4,15 +4,9 @@ use borrow.Author.Needs.{needs}
 use Rattle.sector.proofs.bytes.sector_of.Statement.{statement}
 use Rattle.sector.proofs.bytes.sector_of.Tie as tie
 
-mul-part : tie.Need-mul-part
-mul-part c = search needs
-
-part-requires : tie.Need-part-requires
-part-requires c κs = search needs
-
 returns : tie.Need-returns
 unfolding sectorOf
 returns c = c .part .ensures
 
 pub sector-of-spec : {M : Type 1} → statement M
-sector-of-spec = tie.close (tie.spec mul-part part-requires returns)
+sector-of-spec = tie.close (tie.spec (λ c. search needs) (λ c κs. search needs) returns)

@@ -6,9 +6,6 @@ use borrow.Author.Needs.{needs}
 use Rattle.sector.proofs.numbers.number_at.Statement.{statement}
 use Rattle.sector.proofs.numbers.number_at.Tie as tie
 
-add-if1 : tie.Need-add-if1
-add-if1 c = search needs
-
 returns : tie.Need-returns
 returns c =
     record {
@@ -17,9 +14,6 @@ returns c =
       inside = λ e. absurd (e refl);
       small = omega arith;
     }
-
-word-requires : tie.Need-word-requires
-word-requires c κs = search needs
 
 returns-2 : tie.Need-returns-2
 returns-2 c =
@@ -33,4 +27,4 @@ returns-2 c =
     }
 
 pub number-at-spec : {M : Type 1} → statement M
-number-at-spec = tie.close (tie.spec add-if1 returns word-requires returns-2)
+number-at-spec = tie.close (tie.spec (λ c. search needs) returns (λ c κs. search needs) returns-2)

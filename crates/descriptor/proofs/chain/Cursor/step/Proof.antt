@@ -8,26 +8,11 @@ use borrow.Author.Needs.{needs}
 use Rattle.descriptor.proofs.chain.Cursor.step.Statement.{statement}
 use Rattle.descriptor.proofs.chain.Cursor.step.Tie as tie
 
-add-t11 : tie.Need-add-t11
-add-t11 c = search needs
-
-sub-t12 : tie.Need-sub-t12
-sub-t12 c = search needs
-
 returns : tie.Need-returns
 unfolding Stepped
 returns c =
     let a = c .before .before .args in
     (in-block (a .chain .now) (a .self) (c .if1 .taken), record { inside = search needs; small = search needs }, search needs)
-
-block-at-requires : tie.Need-block-at-requires
-block-at-requires c κs = search needs
-
-enum-known-block : tie.Need-enum-known-block
-enum-known-block c = search needs
-
-enum-told : tie.Need-enum-told
-enum-told c = search needs
 
 returns-2 : tie.Need-returns-2
 unfolding Stepped
@@ -39,17 +24,11 @@ met : (c : tie.After-known-told) →
     BlockHere (a .chain .now) (a .self .at) (c .before .block .given .0 .0)
 met c = found _ (c .before .before .before .block-at .ensures) (c .before .block .given .1)
 
-add-t15 : tie.Need-add-t15
-add-t15 c = search needs
-
 add-t16 : tie.Need-add-t16
 add-t16 c = omega (arith, met c)
 
 add-t17 : tie.Need-add-t17
 add-t17 c = omega (arith, met c)
-
-less-requires : tie.Need-less-requires
-less-requires c κs = search needs
 
 returns-3 : tie.Need-returns-3
 unfolding Stepped
@@ -65,15 +44,15 @@ pub step-spec : {M : Type 1} → statement M
 step-spec =
     tie.close
     (tie.spec
-    add-t11
-    sub-t12
+    (λ c. search needs)
+    (λ c. search needs)
     returns
-    block-at-requires
-    enum-known-block
-    enum-told
+    (λ c κs. search needs)
+    (λ c. search needs)
+    (λ c. search needs)
     returns-2
-    add-t15
+    (λ c. search needs)
     add-t16
     add-t17
-    less-requires
+    (λ c κs. search needs)
     returns-3)

@@ -7,18 +7,12 @@ use borrow.Author.Needs.{needs}
 use Rattle.map.proofs.choice.Search.next.Statement.{statement}
 use Rattle.map.proofs.choice.Search.next.Tie as tie
 
-lowest-free-requires : tie.Need-lowest-free-requires
-lowest-free-requires c κs = search needs
-
 returns : tie.Need-returns
 returns c =
     let a = c .before .before .before .args in
     let f = c .before .lowest-free in
     let e = f .ensures .0 ∙ high-is (a .sector0 .now) (a .self) (c .before .before .before .pre) in
     (e ∙ sym (data-choice-high (a .sector0 .now) (omega (arith, e, c .if1 .taken))), searched-high (a .sector0 .now) (a .self) (c .before .before .before .pre) _ _ (f .ensures .0), f .ensures .1)
-
-lowest-free-requires-2 : tie.Need-lowest-free-requires-2
-lowest-free-requires-2 c κs = search needs
 
 returns-2 : tie.Need-returns-2
 returns-2 c =
@@ -32,4 +26,4 @@ returns-2 c =
     )
 
 pub next-spec : {M : Type 1} → statement M
-next-spec = tie.close (tie.spec lowest-free-requires returns lowest-free-requires-2 returns-2)
+next-spec = tie.close (tie.spec (λ c κs. search needs) returns (λ c κs. search needs) returns-2)
