@@ -33,7 +33,9 @@ use Rattle.rules.proofs.Changes.{changed-done}
 use Rattle.rules.proofs.Written.{sector-same, Whole, written-length, Apart, written-apart}
 use Rattle.rules.proofs.Kept.{free-unheld, map-agree}
 use Rattle.demands.specs.Catalogue.{changed}
-use Rattle.demands.specs.Effects.{Done, longer, Appends}
+use Rattle.demands.specs.Call.{append}
+use Rattle.demands.specs.Ours.{outcome}
+use Rattle.demands.specs.Effects.{effect, Done, longer, Does}
 use Rattle.demands.proofs.Changing.{Altered, altered-done, own-and-rest, own-once, held-inside}
 
 -- the front of a buffer with bytes laid over it: behind the front, and inside it
@@ -314,11 +316,11 @@ module _ (image name : List ℕ) (p k : ℕ) (o : IsOpened image name p k) (byte
       unfolding longer fileIn
       file-now = rw (many, header-now, contents-now)
 
-      appended-done : Done image after name (changed name (longer bytes) (catalogue image)) 1 0
+      appended-done : Done image after name (effect (changed name (longer bytes) (catalogue image)) 1 0)
       appended-done = altered-done image after name p k (new ∷ []) altered (longer bytes) file-now
 
 appending-done : (image name bytes : List ℕ) (p k : ℕ) → IsOpened image name p k → Appended image bytes k
-    → Done image (written image (writes-of image bytes k)) name (changed name (longer bytes) (catalogue image)) 1 0
+    → Done image (written image (writes-of image bytes k)) name (effect (changed name (longer bytes) (catalogue image)) 1 0)
 unfolding nameIn placesIn
 appending-done image name bytes p k o a =
     let n = sectorCount image in
@@ -334,9 +336,9 @@ appending-done image name bytes p k o a =
     (longer-places n d new (o .long) (o .descriptor) small short (chosen .from) (chosen .inside) (a .records) (a .few))
     (longer-header d new)
 
-pub appends : Appends
-unfolding Appends appendOf
-appends image name bytes e =
+pub appends : (bytes : List ℕ) → Does (append bytes)
+unfolding outcome appendOf
+appends bytes image name e =
     let c = changed-done image name (appending image bytes) e in
     let a = append-facts image bytes (c .sector) (c .number) in
     rw (c .is, a .is) (appending-done image name bytes (c .place) (c .sector) (opened-is image name (c .place) (c .sector) (c .opened)) a)

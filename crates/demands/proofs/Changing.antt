@@ -26,7 +26,7 @@ use Rattle.rules.proofs.Indexed.{without-count}
 use Rattle.rules.proofs.Kept.{file-kept, holders-kept, holders-without, file-holds, free-unheld, map-agree}
 use Rattle.rules.proofs.Written.{sector-same, sector-other, Rebuilt, sound-again}
 use Rattle.demands.specs.Catalogue.{fileName, changed}
-use Rattle.demands.specs.Effects.{Kept, Done}
+use Rattle.demands.specs.Effects.{Kept, effect, Done}
 use Rattle.demands.proofs.Listed.{map-is}
 use Rattle.demands.proofs.Putting.{file-name}
 use Rattle.demands.proofs.Reading.{not-same}
@@ -240,7 +240,7 @@ module _ (image after name : List ℕ) (p k : ℕ) (fresh : List ℕ) (a : Alter
         (rw (o .is) at
         (map-changed (fileIn image) (fileIn after) (files image) p (o .inside) (rw (o .is) (listed-once image name p k o)) (λ j some other. rest-file j (remains image name p k o j some (λ e. other (rw (o .is) e))))))
 
-    pub altered-done : Done image after name (changed name change (catalogue image)) (length fresh) 0
+    pub altered-done : Done image after name (effect (changed name change (catalogue image)) (length fresh) 0)
     altered-done =
         record {
           sound = sound-again image after (files image) (a .opened .whole) rebuilt;

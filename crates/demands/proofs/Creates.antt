@@ -24,7 +24,9 @@ use Rattle.rules.proofs.Map.{count-none, count-other}
 use Rattle.rules.proofs.Choice.{Chosen, sound-fenced, descriptor-choice-free}
 use Rattle.rules.proofs.Changes.{IsAbsent, added-done}
 use Rattle.demands.specs.Catalogue.{putIn}
-use Rattle.demands.specs.Effects.{Done, newHeader, Creates, pieces}
+use Rattle.demands.specs.Call.{create}
+use Rattle.demands.specs.Ours.{outcome}
+use Rattle.demands.specs.Effects.{effect, Done, newHeader, pieces, Does}
 use Rattle.demands.proofs.NewFile.{new-is}
 use Rattle.demands.proofs.Entering.{new-file-done}
 
@@ -89,7 +91,7 @@ module _ (image name : List ℕ) (status recordLength recordsPerSector : ℕ) wh
         go true = omega arith
         go false = omega arith
 
-    created-done : Done image (written image writes) name (putIn (record { header = newHeader name status recordsPerSector 0 0 recordLength; contents = [] }) (catalogue image)) 1 0
+    created-done : Done image (written image writes) name (effect (putIn (record { header = newHeader name status recordsPerSector 0 0 recordLength; contents = [] }) (catalogue image)) 1 0)
     unfolding markedAll dataWrites pieces extendedAll
     created-done =
         new-file-done image name [] k [] status recordsPerSector 0 recordLength absent (ltb-true (length (files image)) 127 place) once alone (omega arith) (omega arith)
@@ -101,9 +103,9 @@ module _ (image name : List ℕ) (status recordLength recordsPerSector : ℕ) wh
   unfolding creating
   all-passed e = passed (createStatus status) (ltb (length (files image)) 127) (leb 1 (freeCount (sectorOf image 0))) writes e
 
-pub creates : Creates
-unfolding Creates createOf
-creates image name status recordLength recordsPerSector e =
+pub creates : (status recordLength recordsPerSector : ℕ) → Does (create status recordLength recordsPerSector)
+unfolding outcome createOf
+creates status recordLength recordsPerSector image name e =
     let added = added-done image name (creating image name status recordLength recordsPerSector) e in
     let tests = all-passed image name status recordLength recordsPerSector (added .number) in
     rw (added .is, created image name status recordLength recordsPerSector (added .absent) (tests .0) (tests .1) (tests .2))

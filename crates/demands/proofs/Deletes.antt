@@ -25,7 +25,9 @@ use Rattle.rules.proofs.Outcome.{opened-is}
 use Rattle.rules.proofs.Changes.{changed-done}
 use Rattle.rules.proofs.Written.{written-length, Rebuilt, sound-again}
 use Rattle.demands.specs.Catalogue.{takenOut, named, held}
-use Rattle.demands.specs.Effects.{Kept, Done, Deletes}
+use Rattle.demands.specs.Call.{delete}
+use Rattle.demands.specs.Ours.{outcome}
+use Rattle.demands.specs.Effects.{Kept, effect, Done, Does}
 use Rattle.demands.proofs.TakingOut.{taken-out, named-is}
 use Rattle.demands.proofs.TwoWrites.{first-stands, second-stands, others-stand}
 use Rattle.demands.proofs.Listed.{system-and, sector-inside, map-is, listed-range, listed-place, listed-name, still-listed, was-listed, holders-split}
@@ -147,7 +149,7 @@ module _ (image after : List ℕ) (k : ℕ) (is : Sound image) (there : 1 ≤ co
     unfolding held catalogue fileIn contentsIn
     was-held = rw (named-is image name k is-named (files image) there only, length-map (placesIn image k) (sectorOf image)) (omega arith)
 
-    deleted : Done image after name (takenOut name (catalogue image)) 0 (held (named name (catalogue image)))
+    deleted : Done image after name (effect (takenOut name (catalogue image)) 0 (held (named name (catalogue image))))
     deleted =
         record {
           sound = sound-again image after (without k (files image)) is rebuilt;
@@ -165,7 +167,7 @@ module _ (image name : List ℕ) (k : ℕ) (is : Sound image) (there : 1 ≤ cou
   zeroth-long : length (markedAll 0 (sectorOf image 0) (k ∷ placesIn image k)) ≡ 256
   zeroth-long = all-length 0 (sectorOf image 0) (k ∷ placesIn image k) ∙ sector-length image 0 (omega (arith, is .whole, is .size))
 
-  after-deletion : Done image (written image (deletion image k)) name (takenOut name (catalogue image)) 0 (held (named name (catalogue image)))
+  after-deletion : Done image (written image (deletion image k)) name (effect (takenOut name (catalogue image)) 0 (held (named name (catalogue image))))
   after-deletion =
       let index = indexOf (without k (files image)) in
       let map0 = markedAll 0 (sectorOf image 0) (k ∷ placesIn image k) in
@@ -187,8 +189,8 @@ deleting-done image k e = go (isProtected (statusOf (sectorOf image k))) e
     go true e = absurd (omega (arith, e))
     go false e = refl
 
-pub deletes : Deletes
-unfolding Deletes deleteOf
+pub deletes : Does delete
+unfolding outcome deleteOf
 deletes image name e =
     let was = changed-done image name (deleting image) e in
     let opened = opened-is image name (was .place) (was .sector) (was .opened) in

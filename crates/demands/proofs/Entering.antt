@@ -30,7 +30,7 @@ use Rattle.rules.proofs.Kept.{holders-kept, file-kept, files-kept, holders-plac
 use Rattle.rules.proofs.Written.{Rebuilt, sound-again}
 use Rattle.rules.proofs.Changes.{IsAbsent}
 use Rattle.demands.specs.Catalogue.{putIn}
-use Rattle.demands.specs.Effects.{Kept, Done, newHeader, pieces}
+use Rattle.demands.specs.Effects.{Kept, effect, Done, newHeader, pieces}
 use Rattle.demands.proofs.Listed.{map-is}
 use Rattle.demands.proofs.Putting.{file-name, placed-files}
 use Rattle.demands.proofs.NewFile.{descriptorWith, made-length, made-header, made-name, made-places, made-rules}
@@ -180,7 +180,7 @@ module _ (image after name bytes : List ℕ) (k : ℕ) (ks descriptor : List ℕ
         all-free 1 0 (omega arith) (sectorOf image 0) (k ∷ ks) long0 (is .once) (λ j some. (is .free j some .low, is .free j some .free)),
       )
 
-  entering : Done image after name (putIn (record { header = part descriptor 0 28; contents = pieces (length ks) bytes }) (catalogue image)) (1 + length ks) 0
+  entering : Done image after name (effect (putIn (record { header = part descriptor 0 28; contents = pieces (length ks) bytes }) (catalogue image)) (1 + length ks) 0)
   entering =
       record {
         sound = sound-again image after new sound-before rebuilt;
@@ -237,7 +237,7 @@ module _ (image name bytes : List ℕ) (k : ℕ) (ks : List ℕ) (status records
 
   pub new-file-done : (descriptor : List ℕ) → descriptor ≡ header ++ chainWith (extendedAll [] ks)
       → Done image (written image (dataWrites bytes ks ++ entered image name k descriptor (markedAll 1 (sectorOf image 0) (k ∷ ks)))) name
-      (putIn (record { header = header; contents = pieces (length ks) bytes }) (catalogue image)) (1 + length ks) 0
+      (effect (putIn (record { header = header; contents = pieces (length ks) bytes }) (catalogue image)) (1 + length ks) 0)
   new-file-done descriptor e =
       let done = entering image _ name bytes k ks made enters entered-there in
       rw e (rw (made-header name status recordsPerSector endOffset recordLength ten (length ks) (extendedAll [] ks)) at done)

@@ -9,7 +9,6 @@ mod Putting
 mod TwoWrites
 mod Changing
 pub mod Protects
-pub mod Unprotects
 pub mod Overwrites
 pub mod Appends
 mod NewFile

@@ -21,7 +21,9 @@ use Rattle.rules.proofs.Outcome.{IsOpened, opened-is}
 use Rattle.rules.proofs.Changes.{changed-done}
 use Rattle.rules.proofs.Kept.{places-kept}
 use Rattle.demands.specs.Catalogue.{changed}
-use Rattle.demands.specs.Effects.{Done, overwritten, Overwrites}
+use Rattle.demands.specs.Call.{overwrite}
+use Rattle.demands.specs.Ours.{outcome}
+use Rattle.demands.specs.Effects.{effect, Done, overwritten, Does}
 use Rattle.demands.proofs.Changing.{map-changed, altered-done, own-once, own-inside, own-here, own-other, own-altered}
 
 -- the tests, where the number is 0
@@ -80,15 +82,15 @@ module _ (image name : List ℕ) (p k : ℕ) (o : IsOpened image name p k) (offs
   unfolding nameIn
   name-now = ap nameOf descriptor-kept ∙ sym (o .named)
 
-  overwritten-done : Done image after name (changed name (overwritten offset bytes) (catalogue image)) 0 0
+  overwritten-done : Done image after name (effect (changed name (overwritten offset bytes) (catalogue image)) 0 0)
   overwritten-done =
       altered-done image after name p k []
       (own-altered image name p k o at bytes long own (rw descriptor-kept (o .descriptor)) name-now (places-kept image after k descriptor-kept))
       (overwritten offset bytes) file-now
 
-pub overwrites : Overwrites
-unfolding Overwrites overwriteOf written
-overwrites image name offset bytes e =
+pub overwrites : (offset : ℕ) (bytes : List ℕ) → Does (overwrite offset bytes)
+unfolding outcome overwriteOf written
+overwrites offset bytes image name e =
     let c = changed-done image name (overwriting image offset bytes) e in
     let all = over-facts image bytes offset (c .sector) (c .number) in
     rw (c .is, all .2) (overwritten-done image name (c .place) (c .sector) (opened-is image name (c .place) (c .sector) (c .opened)) offset bytes (all .0) (all .1))

@@ -19,8 +19,8 @@ use Rattle.rules.specs.declared.Amount.the-variants as amount
 use Rattle.rules.specs.declared.Summary.the-variants as summary
 use Rattle.rules.proofs.Outcome.{amount-refusal}
 use Rattle.demands.specs.Call as call
-use Rattle.demands.specs.Call.{Call, Plain}
-use Rattle.demands.specs.Ours.{ours}
+use Rattle.demands.specs.Call.{Form, Plain, Look, Call, formOf}
+use Rattle.demands.specs.Ours.{seen, ours}
 
 plain-answer : (number : ℕ) → answerOf number ≡ answer.Refused 0 → ⊥
 unfolding answerOf
@@ -41,22 +41,19 @@ plain-summary image = go (sectorCount image) (length (files image)) (freeCount (
     go n listed free true e is = let z : _≡_ {A = ℕ} 0 1 = cc in omega arith
     go n listed free false e is = let z : verdict image ≡ 0 = cc in eqb-false (verdict image) 0 e z
 
-pub plain : (c : Call) (image : List ℕ) → Plain c (ours c image .answer)
-unfolding ours entryAnswer
-plain call.judge image = tt
+plain-look : {form : Form} (look : Look form) (buffer image : List ℕ) → Plain form (seen look buffer image .answer)
+unfolding seen entryAnswer
+plain-look call.judge buffer image = tt
+plain-look call.freeCount buffer image = plain-amount _
+plain-look call.summarize buffer image = plain-summary image
+plain-look (call.entry place) buffer image = plain-answer _
+plain-look (call.read name offset) buffer image = plain-answer _
+plain-look (call.load name) buffer image = plain-amount _
+plain-look call.list buffer image = plain-amount _
+plain-look call.pack buffer image = plain-answer _
+
+pub plain : (c : Call) (image : List ℕ) → Plain (formOf c) (ours c image .answer)
+unfolding ours
+plain (call.look look buffer) image = plain-look look buffer image
+plain (call.change name change) image = plain-answer _
 plain (call.format n name geometry) image = plain-answer _
-plain call.freeCount image = plain-amount _
-plain (call.summarize buffer) image = plain-summary image
-plain (call.entry place buffer) image = plain-answer _
-plain (call.read name offset buffer) image = plain-answer _
-plain (call.load name buffer) image = plain-amount _
-plain (call.list buffer) image = plain-amount _
-plain (call.create name status recordLength recordsPerSector) image = plain-answer _
-plain (call.append name bytes) image = plain-answer _
-plain (call.overwrite name offset bytes) image = plain-answer _
-plain (call.protect name) image = plain-answer _
-plain (call.unprotect name) image = plain-answer _
-plain (call.store name bytes) image = plain-answer _
-plain (call.delete name) image = plain-answer _
-plain (call.rename old new) image = plain-answer _
-plain (call.pack buffer) image = plain-answer _

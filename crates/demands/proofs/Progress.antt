@@ -38,9 +38,9 @@ use Rattle.rules.proofs.Tests.{neither}
 use Rattle.rules.proofs.Name.{name-is, is-name}
 use Rattle.rules.proofs.Outcome.{IsOpened, answer-number, amount-number}
 use Rattle.demands.specs.Call as call
-use Rattle.demands.specs.Call.{Call, number, summaryNumber}
-use Rattle.demands.specs.Ours.{ours}
-use Rattle.demands.specs.Grounds.{Ground, First, faults, grounds, Present, CreateStatus}
+use Rattle.demands.specs.Call.{Form, numberIn, Look, Change, Call, numberOf, summaryNumber}
+use Rattle.demands.specs.Ours.{seen, outcome, ours}
+use Rattle.demands.specs.Grounds.{Ground, First, faults, lookGrounds, changeGrounds, grounds, Present, CreateStatus}
 use Rattle.demands.proofs.Faults.{first-none, refused-unless, first-broken, sized-is, is-sized, faults-first, faults-only}
 use Rattle.demands.proofs.Opening.{file-if, file-unless, opened-first, absent-first, present-first}
 
@@ -66,20 +66,20 @@ judged-first image given more sound =
     faults-first image (cond (eqb (verdict image) 0) given _ .number) (λ some. rw (ne-eqb (verdict image) 0 some)) more
     (λ zero. rw (eq-eqb (verdict image) 0 zero) (sound zero))
 
-judge-first : (image : List ℕ) → First (verdict image) (grounds call.judge image)
-unfolding grounds
+judge-first : (image : List ℕ) → First (verdict image) (faults image ++ [])
+unfolding faults
 judge-first image = faults-only image (verdict image) (λ some. refl) (λ zero. zero)
 
-free-first : (image : List ℕ) → First (freeCountOf image .number) (grounds call.freeCount image)
-unfolding grounds freeCountOf judged
+free-first : (image : List ℕ) → First (freeCountOf image .number) (faults image ++ [])
+unfolding faults freeCountOf judged
 free-first image = faults-only image _ (λ some. rw (ne-eqb (verdict image) 0 some)) (λ zero. rw (eq-eqb (verdict image) 0 zero))
 
-summary-first : (image buffer : List ℕ) → First (summaryNumber (summaryOf image)) (grounds (call.summarize buffer) image)
-unfolding grounds summaryOf summaryNumber
+summary-first : (image buffer : List ℕ) → First (summaryNumber (summaryOf image)) (faults image ++ [])
+unfolding faults summaryOf summaryNumber
 summary-first image buffer = faults-only image _ (λ some. rw (ne-eqb (verdict image) 0 some)) (λ zero. rw (eq-eqb (verdict image) 0 zero))
 
-entry-first : (image : List ℕ) (place : ℕ) (buffer : List ℕ) → First (entryOf image place (length buffer) .number) (grounds (call.entry place buffer) image)
-unfolding grounds entryOf
+entry-first : (image : List ℕ) (place : ℕ) (buffer : List ℕ) → First (entryOf image place (length buffer) .number) (faults image ++ lookGrounds (call.entry place) buffer image)
+unfolding lookGrounds entryOf
 entry-first image place buffer =
     judged-first image _ _
     (λ sound.
@@ -87,16 +87,16 @@ entry-first image place buffer =
     (λ inside.
     refused-unless reads _ [] (leb 28 (length buffer)) _ _ (not-over _ _) (leb-false _ _) refl (λ e. first-none)))
 
-list-first : (image buffer : List ℕ) → First (listingOf image (length buffer) .number) (grounds (call.list buffer) image)
-unfolding grounds listingOf
+list-first : (image buffer : List ℕ) → First (listingOf image (length buffer) .number) (faults image ++ lookGrounds call.list buffer image)
+unfolding lookGrounds listingOf
 list-first image buffer =
     judged-first image _ _
     (λ sound.
     refused-unless reads _ [] (leb (length (listingText image)) (length buffer)) _ _ (not-over _ _) (leb-false _ _) refl
     (λ e. first-none))
 
-pack-first : (image buffer : List ℕ) → First (packNumber image buffer) (grounds (call.pack buffer) image)
-unfolding grounds packNumber
+pack-first : (image buffer : List ℕ) → First (packNumber image buffer) (faults image ++ lookGrounds call.pack buffer image)
+unfolding lookGrounds packNumber
 pack-first image buffer =
     faults-first image _ (λ some. rw (ne-eqb (verdict image) 0 some)) _
     (λ zero.
@@ -128,8 +128,8 @@ changing-first image name more act found =
     let result : Opened → ℕ = λ (o : Opened). changing o act .number in
     opened-first image name _ result (λ number other. refl) (absent-first image name more result refl found)
 
-read-first : (image name : List ℕ) (offset : ℕ) (buffer : List ℕ) → First (readOf image name offset (length buffer) .number) (grounds (call.read name offset buffer) image)
-unfolding grounds readOf reading
+read-first : (image name : List ℕ) (offset : ℕ) (buffer : List ℕ) → First (readOf image name offset (length buffer) .number) (faults image ++ lookGrounds (call.read name offset) buffer image)
+unfolding lookGrounds readOf reading
 read-first image name offset buffer =
     reading-first image name _ (reading image offset (length buffer))
     (λ p k o.
@@ -137,8 +137,8 @@ read-first image name offset buffer =
     (λ inside.
     refused-unless reads _ [] (leb 256 (length buffer)) _ _ (not-over _ _) (leb-false _ _) refl (λ e. first-none)))
 
-load-first : (image name buffer : List ℕ) → First (loadOf image name (length buffer) .number) (grounds (call.load name buffer) image)
-unfolding grounds loadOf loading
+load-first : (image name buffer : List ℕ) → First (loadOf image name (length buffer) .number) (faults image ++ lookGrounds (call.load name) buffer image)
+unfolding lookGrounds loadOf loading
 load-first image name buffer =
     reading-first image name _ (loading image (length buffer))
     (λ p k o.
@@ -147,23 +147,23 @@ load-first image name buffer =
     file-unless image name p k o _ reads 15 [] (leb (lengthIn image k) (length buffer)) _ _ (not-over _ _) (leb-false _ _) refl
     (λ e. first-none)))
 
-protect-first : (image name : List ℕ) → First (protectOf image name .number) (grounds (call.protect name) image)
-unfolding grounds protectOf protecting
+protect-first : (image name : List ℕ) → First (protectOf image name .number) (grounds (call.change name call.protect) image)
+unfolding grounds changeGrounds protectOf protecting
 protect-first image name = changing-first image name [] (protecting 1 image) (λ p k o. first-none)
 
-unprotect-first : (image name : List ℕ) → First (unprotectOf image name .number) (grounds (call.unprotect name) image)
-unfolding grounds unprotectOf protecting
+unprotect-first : (image name : List ℕ) → First (unprotectOf image name .number) (grounds (call.change name call.unprotect) image)
+unfolding grounds changeGrounds unprotectOf protecting
 unprotect-first image name = changing-first image name [] (protecting 0 image) (λ p k o. first-none)
 
-delete-first : (image name : List ℕ) → First (deleteOf image name .number) (grounds (call.delete name) image)
-unfolding grounds deleteOf deleting
+delete-first : (image name : List ℕ) → First (deleteOf image name .number) (grounds (call.change name call.delete) image)
+unfolding grounds changeGrounds deleteOf deleting
 delete-first image name =
     changing-first image name _ (deleting image)
     (λ p k o.
     file-if image name p k o _ changes 10 [] (isProtected (statusOf (sectorOf image k))) _ _ (eqb-true _ _) (eqb-false _ _) refl (λ e. first-none))
 
-overwrite-first : (image name : List ℕ) (offset : ℕ) (bytes : List ℕ) → First (overwriteOf image name offset bytes .number) (grounds (call.overwrite name offset bytes) image)
-unfolding grounds overwriteOf overwriting
+overwrite-first : (image name : List ℕ) (offset : ℕ) (bytes : List ℕ) → First (overwriteOf image name offset bytes .number) (grounds (call.change name (call.overwrite offset bytes)) image)
+unfolding grounds changeGrounds overwriteOf overwriting
 overwrite-first image name offset bytes =
     changing-first image name _ (overwriting image offset bytes)
     (λ p k o.
@@ -175,8 +175,8 @@ overwrite-first image name offset bytes =
     (λ inside.
     refused-unless changes _ [] (eqb (length bytes) 256) _ _ (λ e wrong. wrong (eqb-true _ _ e)) (eqb-false _ _) refl (λ e. first-none)))))
 
-append-first : (image name bytes : List ℕ) → First (appendOf image name bytes .number) (grounds (call.append name bytes) image)
-unfolding grounds appendOf appending
+append-first : (image name bytes : List ℕ) → First (appendOf image name bytes .number) (grounds (call.change name (call.append bytes)) image)
+unfolding grounds changeGrounds appendOf appending
 append-first image name bytes =
     changing-first image name _ (appending image bytes)
     (λ p k o.
@@ -228,8 +228,8 @@ not-among status e is =
     go (inr (inr (inr is))) a b c d = eqb-false status 0x82 d is
 
 create-first : (image name : List ℕ) (status recordLength recordsPerSector : ℕ)
-    → First (createOf image name status recordLength recordsPerSector .number) (grounds (call.create name status recordLength recordsPerSector) image)
-unfolding grounds createOf creating
+    → First (createOf image name status recordLength recordsPerSector .number) (grounds (call.change name (call.create status recordLength recordsPerSector)) image)
+unfolding grounds changeGrounds createOf creating
 create-first image name status recordLength recordsPerSector =
     adding-first image name _ (creating image name status recordLength recordsPerSector)
     (refused-unless changes _ _ (createStatus status) _ _ (λ e wrong. wrong (status-among status e)) (not-among status) refl
@@ -237,8 +237,8 @@ create-first image name status recordLength recordsPerSector =
     refused-unless changes _ _ (ltb (length (files image)) 127) _ _ (not-past _ _) (ltb-false _ _) refl
     (λ few. refused-unless changes _ [] (leb 1 (freeCount (sectorOf image 0))) _ _ (not-over _ _) (leb-false _ _) refl (λ e. first-none))))
 
-store-first : (image name bytes : List ℕ) → First (storeOf image name bytes .number) (grounds (call.store name bytes) image)
-unfolding grounds storeOf storing
+store-first : (image name bytes : List ℕ) → First (storeOf image name bytes .number) (grounds (call.change name (call.store bytes)) image)
+unfolding grounds changeGrounds storeOf storing
 store-first image name bytes =
     adding-first image name _ (storing image name bytes)
     (refused-unless changes _ _ (leb (length bytes) 32768) _ _ (not-over _ _) (leb-false _ _) refl
@@ -251,8 +251,8 @@ store-first image name bytes =
     let new = extendedAll [] (dataChoices (sectorsFor (length bytes)) (marked 1 sector0 (descriptorChoice sector0))) in
     refused-unless changes _ [] (leb (length new) 76) _ _ (not-over (length new) 76) (leb-false (length new) 76) refl (λ e. first-none)))))
 
-rename-first : (image old new : List ℕ) → First (renameOf image old new .number) (grounds (call.rename old new) image)
-unfolding grounds renameOf renaming changing
+rename-first : (image old new : List ℕ) → First (renameOf image old new .number) (grounds (call.change old (call.rename new)) image)
+unfolding grounds changeGrounds renameOf renaming changing
 rename-first image old new =
     faults-first image (renameOf image old new .number) (λ some. rw (ne-eqb (verdict image) 0 some)) _
     (λ sound.
@@ -269,23 +269,30 @@ rename-first image old new =
     sound second)
     sound first))))
 
-pub progress : (c : Call) (image : List ℕ) → First (number ours c image) (grounds c image)
-unfolding ours entryAnswer
-progress call.judge image = judge-first image
+look-first : {form : Form} (look : Look form) (buffer image : List ℕ) → First (numberIn form (seen look buffer image .answer)) (faults image ++ lookGrounds look buffer image)
+unfolding seen entryAnswer lookGrounds
+look-first call.judge buffer image = judge-first image
+look-first call.freeCount buffer image = rw (amount-number (freeCountOf image)) (free-first image)
+look-first call.summarize buffer image = summary-first image buffer
+look-first (call.entry place) buffer image = rw (answer-number (entryOf image place (length buffer) .number)) (entry-first image place buffer)
+look-first (call.read name offset) buffer image = rw (answer-number (readOf image name offset (length buffer) .number)) (read-first image name offset buffer)
+look-first (call.load name) buffer image = rw (amount-number (loadOf image name (length buffer))) (load-first image name buffer)
+look-first call.list buffer image = rw (amount-number (listingOf image (length buffer))) (list-first image buffer)
+look-first call.pack buffer image = rw (answer-number (packNumber image buffer)) (pack-first image buffer)
+
+change-first : (change : Change) (image name : List ℕ) → First (outcome change image name .number) (grounds (call.change name change) image)
+unfolding outcome
+change-first (call.create status recordLength recordsPerSector) image name = create-first image name status recordLength recordsPerSector
+change-first (call.append bytes) image name = append-first image name bytes
+change-first (call.overwrite offset bytes) image name = overwrite-first image name offset bytes
+change-first call.protect image name = protect-first image name
+change-first call.unprotect image name = unprotect-first image name
+change-first (call.store bytes) image name = store-first image name bytes
+change-first call.delete image name = delete-first image name
+change-first (call.rename new) image name = rename-first image name new
+
+pub progress : (c : Call) (image : List ℕ) → First (numberOf ours c image) (grounds c image)
+unfolding ours grounds
+progress (call.look look buffer) image = look-first look buffer image
+progress (call.change name change) image = rw (answer-number (outcome change image name .number)) (change-first change image name)
 progress (call.format n name g) image = rw (answer-number (formatNumber image n name)) (format-first image n name g)
-progress call.freeCount image = rw (amount-number (freeCountOf image)) (free-first image)
-progress (call.summarize buffer) image = summary-first image buffer
-progress (call.entry place buffer) image = rw (answer-number (entryOf image place (length buffer) .number)) (entry-first image place buffer)
-progress (call.read name offset buffer) image = rw (answer-number (readOf image name offset (length buffer) .number)) (read-first image name offset buffer)
-progress (call.load name buffer) image = rw (amount-number (loadOf image name (length buffer))) (load-first image name buffer)
-progress (call.list buffer) image = rw (amount-number (listingOf image (length buffer))) (list-first image buffer)
-progress (call.create name status recordLength recordsPerSector) image =
-    rw (answer-number (createOf image name status recordLength recordsPerSector .number)) (create-first image name status recordLength recordsPerSector)
-progress (call.append name bytes) image = rw (answer-number (appendOf image name bytes .number)) (append-first image name bytes)
-progress (call.overwrite name offset bytes) image = rw (answer-number (overwriteOf image name offset bytes .number)) (overwrite-first image name offset bytes)
-progress (call.protect name) image = rw (answer-number (protectOf image name .number)) (protect-first image name)
-progress (call.unprotect name) image = rw (answer-number (unprotectOf image name .number)) (unprotect-first image name)
-progress (call.store name bytes) image = rw (answer-number (storeOf image name bytes .number)) (store-first image name bytes)
-progress (call.delete name) image = rw (answer-number (deleteOf image name .number)) (delete-first image name)
-progress (call.rename old new) image = rw (answer-number (renameOf image old new .number)) (rename-first image old new)
-progress (call.pack buffer) image = rw (answer-number (packNumber image buffer)) (pack-first image buffer)

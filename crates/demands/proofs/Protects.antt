@@ -1,5 +1,4 @@
--- Protect: the descriptor with its 08 bit changed keeps its rules, since the other bits of the status, the name and the chain stay. The law is over the bit,
--- and serves unprotect too.
+-- Protect and unprotect, one law over the bit: the descriptor with its 08 bit changed keeps its rules, since the other bits of the status, the name and the chain stay.
 use mathlib.Core.Path.{_≡_, refl, sym, ap, _∙_}
 use mathlib.Core.List.{List, [], _∷_, map}
 use Prim.Native.Nat.{ℕ, _+_, _-_, _*_, _≤_}
@@ -14,14 +13,16 @@ use Rattle.rules.specs.Kind.{kindOf, IsStatus}
 use Rattle.rules.specs.Descriptor.{nameOf, statusOf, sectorsOf, chainOf, fileKind, IsDescriptor}
 use Rattle.rules.specs.Volume.{nameIn, placesIn, headerIn, contentsIn, fileIn, catalogue}
 use Rattle.rules.specs.Outcome.{openOf, changing}
-use Rattle.rules.specs.Calls.Protect.{protecting, protectOf}
+use Rattle.rules.specs.Calls.Protect.{protecting, protectOf, unprotectOf}
 use Rattle.rules.proofs.Map.{count-here, count-more}
 use Rattle.rules.proofs.Marking.{with-bit-same, with-bit-other}
 use Rattle.rules.proofs.Outcome.{IsOpened, opened-is}
 use Rattle.rules.proofs.Changes.{changed-done}
 use Rattle.rules.proofs.Kept.{map-agree}
 use Rattle.demands.specs.Catalogue.{changed}
-use Rattle.demands.specs.Effects.{Done, left, withProtection, Protects}
+use Rattle.demands.specs.Call.{protect, unprotect}
+use Rattle.demands.specs.Ours.{outcome}
+use Rattle.demands.specs.Effects.{effect, Done, withProtection, Does}
 use Rattle.demands.proofs.Changing.{altered-done, own-once, own-inside, own-here, own-other, own-altered}
 
 -- a status with that bit changed
@@ -131,19 +132,23 @@ module _ (bit : ℕ) (small : bit ≤ 1) where
     unfolding withProtection fileIn
     file-now = rw (header-now, contents-now)
 
-    protected-done : Done image after name (changed name (withProtection bit) (catalogue image)) 0 0
+    protected-done : Done image after name (effect (changed name (withProtection bit) (catalogue image)) 0 0)
     protected-done =
         altered-done image after name p k []
         (own-altered image name p k o k new new-long own (rw descriptor-now (rules-kept (sectorOf image k) (o .long) (sectorCount image) (o .descriptor))) name-now places-now)
         (withProtection bit) file-now
 
-  pub protection-done : (image name : List ℕ) → changing (openOf image name) (protecting bit image) .number ≡ 0
-      → Done image (left image (changing (openOf image name) (protecting bit image))) name (changed name (withProtection bit) (catalogue image)) 0 0
+  protection-done : (image name : List ℕ) → changing (openOf image name) (protecting bit image) .number ≡ 0
+      → Done image (written image (changing (openOf image name) (protecting bit image) .writes)) name (effect (changed name (withProtection bit) (catalogue image)) 0 0)
   unfolding protecting written
   protection-done image name e =
       let c = changed-done image name (protecting bit image) e in
       rw (c .is) (protected-done image name (c .place) (c .sector) (opened-is image name (c .place) (c .sector) (c .opened)))
 
-pub protects : Protects
-unfolding Protects protectOf
+pub protects : Does protect
+unfolding outcome protectOf
 protects image name e = protection-done 1 (omega arith) image name e
+
+pub unprotects : Does unprotect
+unfolding outcome unprotectOf
+unprotects image name e = protection-done 0 (omega arith) image name e

@@ -29,6 +29,8 @@ use Rattle.rules.specs.Calls.Delete.{deleting, deleteOf}
 use Rattle.rules.specs.Calls.Rename.{renaming, renameOf}
 use Rattle.rules.specs.declared.Opened.{Opened}
 use Rattle.rules.specs.declared.Opened.the-variants.{At, Refused}
+use Rattle.demands.specs.Call.{Change, create, append, overwrite, protect, unprotect, store, delete, rename}
+use Rattle.demands.specs.Ours.{outcome}
 
 pub record Writes (outcome : Outcome) : Type 0 where
   pub none : (outcome .number ≡ 0 → ⊥) → outcome .writes ≡ []
@@ -78,7 +80,7 @@ on-file-puts (Refused number) reading each = refuses-puts number
 on-file-puts (At p k) reading each = each k
 
 -- each call that writes
-pub create-writes : (image name : List ℕ) (status recordLength recordsPerSector : ℕ) → Writes (createOf image name status recordLength recordsPerSector)
+create-writes : (image name : List ℕ) (status recordLength recordsPerSector : ℕ) → Writes (createOf image name status recordLength recordsPerSector)
 unfolding createOf creating
 create-writes image name status recordLength recordsPerSector =
     adding-writes (openOf image name) _
@@ -88,7 +90,7 @@ create-writes image name status recordLength recordsPerSector =
     (refusal-writes 11))
     (refusal-writes 15))
 
-pub store-writes : (image name bytes : List ℕ) → Writes (storeOf image name bytes)
+store-writes : (image name bytes : List ℕ) → Writes (storeOf image name bytes)
 unfolding storeOf storing
 store-writes image name bytes =
     let many = sectorsFor (length bytes) in
@@ -102,7 +104,7 @@ store-writes image name bytes =
     (refusal-writes 11))
     (refusal-writes 15))
 
-pub append-writes : (image name bytes : List ℕ) → Writes (appendOf image name bytes)
+append-writes : (image name bytes : List ℕ) → Writes (appendOf image name bytes)
 unfolding appendOf appending
 append-writes image name bytes =
     let sector0 = sectorOf image 0 in
@@ -117,7 +119,7 @@ append-writes image name bytes =
     (refusal-writes 12))
     (refusal-writes 15))))
 
-pub overwrite-writes : (image name : List ℕ) (offset : ℕ) (bytes : List ℕ) → Writes (overwriteOf image name offset bytes)
+overwrite-writes : (image name : List ℕ) (offset : ℕ) (bytes : List ℕ) → Writes (overwriteOf image name offset bytes)
 unfolding overwriteOf overwriting
 overwrite-writes image name offset bytes =
     changing-writes (openOf image name) (overwriting image offset bytes)
@@ -129,20 +131,20 @@ overwrite-writes image name offset bytes =
     (either-writes (eqb (length bytes) 256) _ _ (done-writes _) (refusal-writes 15))
     (refusal-writes 15))))
 
-pub protect-writes : (image name : List ℕ) → Writes (protectOf image name)
+protect-writes : (image name : List ℕ) → Writes (protectOf image name)
 unfolding protectOf protecting
 protect-writes image name = changing-writes (openOf image name) (protecting 1 image) (λ k. done-writes _)
 
-pub unprotect-writes : (image name : List ℕ) → Writes (unprotectOf image name)
+unprotect-writes : (image name : List ℕ) → Writes (unprotectOf image name)
 unfolding unprotectOf protecting
 unprotect-writes image name = changing-writes (openOf image name) (protecting 0 image) (λ k. done-writes _)
 
-pub delete-writes : (image name : List ℕ) → Writes (deleteOf image name)
+delete-writes : (image name : List ℕ) → Writes (deleteOf image name)
 unfolding deleteOf deleting
 delete-writes image name =
     changing-writes (openOf image name) (deleting image) (λ k. either-writes (isProtected (statusOf (sectorOf image k))) _ _ (refusal-writes 10) (done-writes _))
 
-pub rename-writes : (image old new : List ℕ) → Writes (renameOf image old new)
+rename-writes : (image old new : List ℕ) → Writes (renameOf image old new)
 unfolding renameOf renaming
 rename-writes image old new =
     either-writes (eqb (verdict image) 0) _ _
@@ -175,3 +177,15 @@ load-puts image name room =
 pub listing-puts : (image : List ℕ) (room : ℕ) → Puts (listingOf image room)
 unfolding listingOf
 listing-puts image room = judged-puts image _ (either-puts (leb (length (listingText image)) room) _ _ (gives-puts _ _) (refuses-puts 15))
+
+-- every change
+pub change-writes : (change : Change) (image name : List ℕ) → Writes (outcome change image name)
+unfolding outcome
+change-writes (create status recordLength recordsPerSector) image name = create-writes image name status recordLength recordsPerSector
+change-writes (append bytes) image name = append-writes image name bytes
+change-writes (overwrite offset bytes) image name = overwrite-writes image name offset bytes
+change-writes protect image name = protect-writes image name
+change-writes unprotect image name = unprotect-writes image name
+change-writes (store bytes) image name = store-writes image name bytes
+change-writes delete image name = delete-writes image name
+change-writes (rename new) image name = rename-writes image name new

@@ -10,7 +10,7 @@ use lib.Dec.{eqb}
 use lib.ListN.{length, take, getD}
 use lib.Seq.{ext-getD}
 use borrow.Author.Tests.{eqb-false}
-use Rattle.rules.specs.Bytes.{byteAt, part, same, over, splice}
+use Rattle.rules.specs.Bytes.{byteAt, part, over, splice}
 use Rattle.rules.specs.Sectors.{Write, sectorOf, sectorCount, written}
 use Rattle.rules.specs.Name.{nameRule, IsName}
 use Rattle.rules.specs.Map.{count, taken}
@@ -35,7 +35,9 @@ use Rattle.rules.proofs.Outcome.{opened-is, unfound}
 use Rattle.rules.proofs.Changes.{changed-done, added-done}
 use Rattle.rules.proofs.Written.{written-length, Rebuilt, sound-again}
 use Rattle.demands.specs.Catalogue.{putIn, takenOut, named}
-use Rattle.demands.specs.Effects.{Kept, Done, renamed, Renames}
+use Rattle.demands.specs.Call.{rename}
+use Rattle.demands.specs.Ours.{outcome}
+use Rattle.demands.specs.Effects.{Kept, effect, Done, renamed, Does}
 use Rattle.demands.proofs.Putting.{file-name, placed-files}
 use Rattle.demands.proofs.TakingOut.{taken-out, named-is}
 use Rattle.demands.proofs.TwoWrites.{first-stands, second-stands, others-stand}
@@ -227,7 +229,7 @@ module _ (image after new : List ℕ) (k : ℕ) (is : Sound image) (there : 1 �
         rw (all-files, was-file, ← k-file, ← rest-files)
         (placed-files image after new k (file-name after k ∙ k-name) rest (λ j left. file-name after j ∙ name-stands j left))
 
-    renamed-done : Done image after old (putIn (renamed new (named old (catalogue image))) (takenOut old (catalogue image))) 0 0
+    renamed-done : Done image after old (effect (putIn (renamed new (named old (catalogue image))) (takenOut old (catalogue image))) 0 0)
     renamed-done =
         record {
           sound = sound-again image after all is rebuilt;
@@ -243,7 +245,7 @@ renamings image new k = write k (splice (sectorOf image k) 0 new) ∷ (write 1 (
 
 module _ (image old new : List ℕ) (k : ℕ) (is : Sound image) (there : 1 ≤ count k (files image)) (is-named : old ≡ nameIn image k) (is-name : IsName new)
     (absent : (j : ℕ) → 1 ≤ count j (files image) → nameIn image j ≡ new → ⊥) where
-  after-renaming : Done image (written image (renamings image new k)) old (putIn (renamed new (named old (catalogue image))) (takenOut old (catalogue image))) 0 0
+  after-renaming : Done image (written image (renamings image new k)) old (effect (putIn (renamed new (named old (catalogue image))) (takenOut old (catalogue image))) 0 0)
   after-renaming =
       let range = listed-range image is k there in
       let descriptor = splice (sectorOf image k) 0 new in
@@ -282,7 +284,7 @@ module _ (image : List ℕ) (sound : eqb (verdict image) 0 ≡ true) (old new : 
 
   ruled-done : changing (findIn image old 0 (files image)) (renaming image new) .number ≡ 0
       → Done image (written image (changing (findIn image old 0 (files image)) (renaming image new) .writes)) old
-      (putIn (renamed new (named old (catalogue image))) (takenOut old (catalogue image))) 0 0
+      (effect (putIn (renamed new (named old (catalogue image))) (takenOut old (catalogue image))) 0 0)
   ruled-done e =
       let found = open-is image old sound old-rule in
       let was = changed-done image old (renaming image new) (rw found at e) in
@@ -294,14 +296,14 @@ module _ (image : List ℕ) (sound : eqb (verdict image) 0 ≡ true) (old new : 
       rw (found, was .is, renaming-is k, added .is, done-is)
       (after-renaming image old new k (opened .whole) there (opened .named) (name-is new new-rule) (unfound image new 0 (files image) (added .absent .absent)))
 
-pub renames : Renames
-unfolding Renames renameOf
-renames image old new e = go (eqb (verdict image) 0) (nameRule old && nameRule new) refl refl e
+pub renames : (new : List ℕ) → Does (rename new)
+unfolding outcome renameOf
+renames new image old e = go (eqb (verdict image) 0) (nameRule old && nameRule new) refl refl e
   where
     go : (t u : Bool) → eqb (verdict image) 0 ≡ t → (nameRule old && nameRule new) ≡ u
         → cond t (cond u (changing (findIn image old 0 (files image)) (renaming image new)) (refusal 7)) (refusal (verdict image)) .number ≡ 0
         → Done image (written image (cond t (cond u (changing (findIn image old 0 (files image)) (renaming image new)) (refusal 7)) (refusal (verdict image)) .writes)) old
-        (putIn (renamed new (named old (catalogue image))) (takenOut old (catalogue image))) 0 0
+        (effect (putIn (renamed new (named old (catalogue image))) (takenOut old (catalogue image))) 0 0)
     go true true sound rules e = let each = both (nameRule old) (nameRule new) rules in ruled-done image sound old new (each .0) (each .1) e
     go true false sound rules e = absurd (omega (arith, e))
     go false u sound rules e = absurd (eqb-false (verdict image) 0 sound e)

@@ -27,8 +27,10 @@ use Rattle.rules.proofs.Marking.{marked-length, marked-here, marked-other, mark
 use Rattle.rules.proofs.Choice.{Fenced, Chosen, sound-fenced, descriptor-choice-free, choices-length, choices-free, choices-once, fenced-marked}
 use Rattle.rules.proofs.Changes.{IsAbsent, added-done}
 use Rattle.demands.specs.Catalogue.{putIn}
+use Rattle.demands.specs.Call.{store}
+use Rattle.demands.specs.Ours.{outcome}
 use Rattle.demands.specs.Reading.{lengthIs}
-use Rattle.demands.specs.Effects.{Done, newHeader, pieces, Stores}
+use Rattle.demands.specs.Effects.{effect, Done, newHeader, pieces, Does, StoredLoads}
 use Rattle.demands.proofs.NewFile.{header-name, header-status, header-end, with-chain-made}
 use Rattle.demands.proofs.Entering.{new-file-done}
 use Rattle.demands.proofs.Pieces.{pieces-length, joined-pieces, put-loads}
@@ -103,7 +105,7 @@ program-done : (image name bytes : List ℕ) (k : ℕ) (ks : List ℕ) (c : ℕ)
     → let endOffset = length bytes % 256 in
     let descriptor = withChain (newDescriptor name 0x01 0 endOffset 0) c (extendedAll [] ks) in
     Done image (written image (dataWrites bytes ks ++ entered image name k descriptor (markedAll 1 (sectorOf image 0) (k ∷ ks)))) name
-    (putIn (record { header = newHeader name 0x01 0 c endOffset 0; contents = pieces c bytes }) (catalogue image)) (1 + c) 0
+    (effect (putIn (record { header = newHeader name 0x01 0 c endOffset 0; contents = pieces c bytes }) (catalogue image)) (1 + c) 0)
 program-done image name bytes k ks c many some small absent few once free short =
     let endOffset = length bytes % 256 in
     let made = with-chain-made name 0x01 0 endOffset 0 (name-is name (absent .rule) .ten) c (extendedAll [] ks) in
@@ -155,7 +157,7 @@ module _ (image name bytes : List ℕ) where
     long0 : length sector0 ≡ 256
     long0 = sector-length image 0 (omega (arith, absent .whole .whole, absent .whole .size))
 
-    stored-done : Done image (written image writes) name (putIn (record { header = newHeader name 0x01 0 c (length bytes % 256) 0; contents = pieces c bytes }) (catalogue image)) (1 + c) 0
+    stored-done : Done image (written image writes) name (effect (putIn (record { header = newHeader name 0x01 0 c (length bytes % 256) 0; contents = pieces c bytes }) (catalogue image)) (1 + c) 0)
     stored-done =
         let fence = sound-fenced image (absent .whole) in
         let free = leb-true (1 + c) (freeCount sector0) room in
@@ -163,15 +165,17 @@ module _ (image name bytes : List ℕ) where
         (ltb-true (length (files image)) 127 place) (both-once (sectorCount image) sector0 c long0 fence free) (both-free (sectorCount image) sector0 c long0 fence free)
         (leb-true (length (extendedAll [] ks)) 76 short)
 
-    stored-loads : loadOf (written image writes) name (length bytes) ≡ gives (length bytes) bytes
-    stored-loads = program-loads (written image writes) name bytes c (catalogue image) (stored-done .sound) (name-is name (absent .rule) .ten) refl (stored-done .catalogue-is)
-
-pub stores : Stores
-unfolding Stores storeOf
-stores image name bytes e =
+pub stores : (bytes : List ℕ) → Does (store bytes)
+unfolding outcome storeOf
+stores bytes image name e =
     let added = added-done image name (storing image name bytes) e in
     let tests = all-passed image name bytes (added .number) in
-    rw (added .is, stored image name bytes (added .absent) (tests .0) (tests .1) (tests .2) (tests .3)) (
-      stored-done image name bytes (added .absent) (tests .0) (tests .1) (tests .2) (tests .3),
-      stored-loads image name bytes (added .absent) (tests .0) (tests .1) (tests .2) (tests .3),
-    )
+    rw (added .is, stored image name bytes (added .absent) (tests .0) (tests .1) (tests .2) (tests .3))
+    (stored-done image name bytes (added .absent) (tests .0) (tests .1) (tests .2) (tests .3))
+
+pub stored-loads : StoredLoads
+unfolding outcome storeOf
+stored-loads image name bytes e =
+    let added = added-done image name (storing image name bytes) e in
+    let done = stores bytes image name e in
+    program-loads _ name bytes (sectorsFor (length bytes)) (catalogue image) (done .sound) (name-is name (added .absent .rule) .ten) refl (done .catalogue-is)

@@ -4,7 +4,7 @@ use mathlib.Core.Bool.{true}
 use mathlib.Core.List.{List, []}
 use Prim.Native.Nat.{ℕ, _+_, _≤_, _<_}
 use lib.ListN.{length, getD, take}
-use Rattle.rules.specs.Bytes.{byteAt, wordAt, part}
+use Rattle.rules.specs.Bytes.{byteAt, part}
 use Rattle.rules.specs.Sectors.{sectorOf, sectorCount}
 use Rattle.rules.specs.Kind.{isProgram, programLength}
 use Rattle.rules.specs.Map.{freeCount}
