@@ -20,7 +20,7 @@ pub mod Extended
 pub mod Marking
 pub mod Choice
 pub mod Outcome
-pub mod Changes
+pub mod Opening
 pub mod Formatted
 pub mod Listing
 pub mod Packing

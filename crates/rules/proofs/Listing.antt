@@ -1,13 +1,13 @@
 -- The listing's text: numbers in decimal, names without their padding, and how long the text of a sound volume can get.
-use mathlib.Core.Path.{_≡_, refl}
+use mathlib.Core.Path.{_≡_, refl, _∙_}
 use mathlib.Core.Bool.{Bool, true, false, cond}
 use mathlib.Core.List.{List, [], _∷_, _++_}
 use Prim.Native.Nat.{ℕ, zero, suc, _+_, _*_, _/_, _%_, _^_, _≤_, _<_}
 use native.Mathlib.Omega.{arith}
 use native.Mathlib.Decide.{decLt}
-use lib.Dec.{eqb}
+use lib.Dec.{eqb, ltb}
 use lib.ListN.{length, length-append}
-use borrow.Author.Tests.{eq-eqb, ne-eqb, lt-ltb, le-ltb, lt-leb, le-leb}
+use borrow.Author.Tests.{eq-eqb, ne-eqb, lt-ltb, le-ltb}
 use Rattle.rules.specs.Bytes.{byteAt, part}
 use Rattle.rules.specs.Sectors.{sectorOf, sectorCount}
 use Rattle.rules.specs.Kind.{isProgram, isInternal, isVariable, programLength, kindOf}
@@ -15,13 +15,15 @@ use Rattle.rules.specs.Map.{mapBit, zeroBits, freeCount}
 use Rattle.rules.specs.Descriptor.{nameOf, statusOf, sectorsOf, fileKind}
 use Rattle.rules.specs.Volume.{files}
 use Rattle.rules.specs.Verdict.{verdict}
-use Rattle.rules.specs.Outcome.{gives, refuses, judged}
-use Rattle.rules.specs.Calls.Listing.{digits, decimal, unpadded, kindWord, kindLength, diskLine, fileLine, fileLines, listingText, listingOf}
+use Rattle.rules.specs.Tests.{Test, refuse, firstOf}
+use Rattle.rules.specs.Outcome.{gives, refuses}
+use Rattle.rules.specs.Calls.Listing.{digits, decimal, unpadded, kindWord, kindLength, diskLine, fileLine, fileLines, listingText, listingTests, listingOf}
 use Rattle.rules.specs.declared.Kind.{Kind}
 use Rattle.rules.specs.declared.Kind.the-variants.{Program, Fixed, Variable}
 use Rattle.rules.proofs.Bytes.{part-short}
 use Rattle.rules.proofs.Sectors.{sector-below}
-use Rattle.rules.proofs.Verdict.{sound}
+use Rattle.rules.proofs.Verdict.{sound, unsound-first, sound-first}
+use Rattle.rules.proofs.Outcome.{reported-refused, reported-given}
 
 -- digits: one, or those of the tenth part and one more
 pub digits-one : (fuel x : ℕ) → x < 10 → digits (suc fuel) x ≡ (48 + x) ∷ []
@@ -130,14 +132,17 @@ listing-short image small e =
 
 -- the listing, for a buffer of `room` bytes: of an unsound image, where the text is too long, and where it fits
 module _ (image : List ℕ) (room : ℕ) where
+  abbrev narrow : List Test
+  narrow = refuse 15 (ltb room (length (listingText image))) ∷ []
+
   pub listing-unsound : (verdict image ≡ 0 → ⊥) → listingOf image room ≡ refuses (verdict image)
-  unfolding listingOf judged
-  listing-unsound ne = rw (ne-eqb (verdict image) 0 ne)
+  unfolding listingOf listingTests
+  listing-unsound some = reported-refused (listingTests image room) _ _ (verdict image) some (unsound-first image narrow some)
 
   pub listing-narrow : verdict image ≡ 0 → room < length (listingText image) → listingOf image room ≡ refuses 15
-  unfolding listingOf judged
-  listing-narrow e h = rw (eq-eqb (verdict image) 0 e, lt-leb (length (listingText image)) room h)
+  unfolding listingOf listingTests firstOf
+  listing-narrow e h = reported-refused (listingTests image room) _ _ 15 (λ z. omega arith) (sound-first image narrow e ∙ rw (lt-ltb room (length (listingText image)) h))
 
   pub listing-fits : verdict image ≡ 0 → length (listingText image) ≤ room → listingOf image room ≡ gives (length (listingText image)) (listingText image)
-  unfolding listingOf judged
-  listing-fits e h = rw (eq-eqb (verdict image) 0 e, le-leb (length (listingText image)) room h)
+  unfolding listingOf listingTests firstOf
+  listing-fits e h = reported-given (listingTests image room) _ _ (sound-first image narrow e ∙ rw (le-ltb room (length (listingText image)) h))

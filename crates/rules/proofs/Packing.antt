@@ -10,7 +10,7 @@ use Rattle.rules.specs.Descriptor.{IsDescriptor}
 use Rattle.rules.specs.Volume.{File, files, placesIn, fileHolders, holders, headerIn, contentsIn, fileIn, catalogue}
 use Rattle.rules.specs.Sound.{Sound}
 use Rattle.rules.specs.Calls.Load.{joined}
-use Rattle.rules.specs.Packing.{labelArea, oneBlock, packedDescriptor, packedDescriptors, packedData, dataSectors, packedSectors}
+use Rattle.rules.specs.Calls.Pack.{labelArea, oneBlock, packedDescriptor, packedDescriptors, packedData, dataSectors, packedSectors}
 use Rattle.rules.proofs.Bytes.{part-length}
 use Rattle.rules.proofs.Sectors.{sector-length}
 use Rattle.rules.proofs.Map.{count-here, count-more}

@@ -1,12 +1,15 @@
 -- Status and kind: the rules as tests and as facts.
 use mathlib.Core.Path.{_≡_, refl}
 use mathlib.Core.Bool.{Bool, true, false, cond, not, _&&_}
-use Prim.Native.Nat.{ℕ}
+use mathlib.Core.List.{List}
+use Prim.Native.Nat.{ℕ, _/_, _%_}
+use native.Mathlib.Nat.{div-one}
 use native.Mathlib.Omega.{arith}
 use lib.Dec.{eqb}
-use borrow.Author.Tests.{eq-eqb, eqb-true, eqb-false, le-leb, leb-true, not-true}
+use borrow.Author.Tests.{eq-eqb, ne-eqb, eqb-true, eqb-false, le-leb, leb-true, not-true}
 use Rattle.rules.specs.Bytes.{bitOf}
-use Rattle.rules.specs.Kind.{isProgram, isInternal, isVariable, allowed, statusRule, kindRule, IsStatus, IsKind}
+use Rattle.rules.specs.Kind.{isProgram, isInternal, isVariable, isProtected, allowed, statusRule, kindRule, IsStatus, IsKind}
+use Rattle.rules.specs.Descriptor.{statusOf}
 use Rattle.rules.specs.declared.Kind.{Kind}
 use Rattle.rules.specs.declared.Kind.the-variants.{Program, Fixed, Variable}
 use Rattle.rules.proofs.Tests.{both}
@@ -52,3 +55,17 @@ unfolding kindRule IsKind
 is-kind (Program length) c is = le-leb 1 c is
 is-kind (Fixed recordLength internal) c is = refl
 is-kind (Variable recordLength internal) c is = refl
+
+-- the tests of a status, by the bits that the code takes out of it
+module _ (descriptor : List ℕ) (status : ℕ) (is : status ≡ statusOf descriptor) where
+  pub protected : status / 8 % 2 ≡ 1 → isProtected (statusOf descriptor) ≡ true
+  protected set = rw (← is) (eq-eqb (status / 8 % 2) 1 set)
+
+  pub unprotected : (status / 8 % 2 ≡ 1 → ⊥) → isProtected (statusOf descriptor) ≡ false
+  unprotected clear = rw (← is) (ne-eqb (status / 8 % 2) 1 clear)
+
+  pub program : status % 2 ≡ 1 → isProgram (statusOf descriptor) ≡ true
+  program set = rw (← is, div-one status) (eq-eqb (status % 2) 1 set)
+
+  pub no-program : (status % 2 ≡ 1 → ⊥) → isProgram (statusOf descriptor) ≡ false
+  no-program clear = rw (← is, div-one status) (ne-eqb (status % 2) 1 clear)

@@ -1,14 +1,14 @@
 -- The verdict is 0 exactly for sound volumes: `verdict-sound`.
 use mathlib.Core.Path.{_≡_, refl, sym, _∙_}
 use mathlib.Core.Logic.{_↔_}
-use mathlib.Core.Bool.{Bool, true, false, cond, _&&_}
-use mathlib.Core.List.{List, [], _∷_}
+use mathlib.Core.Bool.{true, false, _&&_}
+use mathlib.Core.List.{List, [], _∷_, _++_}
 use Prim.Native.Nat.{ℕ, zero, suc, _*_, _%_, _≤_, _<_}
 use native.Mathlib.Omega.{arith}
 use native.Mathlib.Decide.{decLt, ℕ-discrete}
 use lib.Dec.{eqb, leb, ltb}
 use lib.ListN.{length, getD}
-use borrow.Author.Tests.{eq-eqb, eqb-true, le-leb, leb-true, le-ltb, ltb-false}
+use borrow.Author.Tests.{eq-eqb, eqb-true, le-leb, leb-true, le-ltb, ltb-false, not-false}
 use Rattle.rules.specs.Sectors.{sectorOf, sectorCount}
 use Rattle.rules.specs.Name.{precedes, Before}
 use Rattle.rules.specs.Label.{labelRule}
@@ -16,9 +16,10 @@ use Rattle.rules.specs.Map.{mapBit, count, taken, mapRule}
 use Rattle.rules.specs.Descriptor.{descriptorRule, IsDescriptor}
 use Rattle.rules.specs.Index.{indexRule}
 use Rattle.rules.specs.Volume.{files, nameIn, holders}
-use Rattle.rules.specs.Verdict.{sizeRule, descriptorsRule, heldTwice, verdict}
+use Rattle.rules.specs.Tests.{Test, firstOf, Passed}
+use Rattle.rules.specs.Verdict.{sizeRule, descriptorsRule, heldTwice, volumeTests, verdict}
 use Rattle.rules.specs.Sound.{Sound, fileAt}
-use Rattle.rules.proofs.Tests.{both, neither}
+use Rattle.rules.proofs.Tests.{both, neither, all-passed, first-passed, first-met}
 use Rattle.rules.proofs.Name.{precedes-is, is-precedes, before-trans}
 use Rattle.rules.proofs.Label.{label-is, is-label}
 use Rattle.rules.proofs.Map.{count-none, count-here, count-other, count-more, taken-below, taken-past, map-at, at-map}
@@ -117,41 +118,48 @@ once-held [] f = refl
 once-held (h ∷ hs) f =
     rw (le-ltb 0 (count h hs) (omega (arith, f h, count-here h hs))) (once-held hs (λ k. omega (arith, f k, count-more k h hs)))
 
--- the verdict's nested choices, where it is 0
-all-passed : (a b c d t m : Bool) → _≡_ {A = ℕ} (cond a (cond b (cond c (cond d (cond t 5 (cond m 0 6)) 4) 3) 2) 1) 0
-    → (a ≡ true) × (b ≡ true) × (c ≡ true) × (d ≡ true) × (t ≡ false) × (m ≡ true)
-all-passed true true true true false true e = (refl, refl, refl, refl, refl, refl)
-all-passed true true true true false false e = absurd (omega arith)
-all-passed true true true true true m e = absurd (omega arith)
-all-passed true true true false t m e = absurd (omega arith)
-all-passed true true false d t m e = absurd (omega arith)
-all-passed true false c d t m e = absurd (omega arith)
-all-passed false b c d t m e = absurd (omega arith)
+-- the six tests
+pub record Keeps (image : List ℕ) : Type 0 where
+  pub size : sizeRule image ≡ true
+  pub label : labelRule (sectorCount image) (sectorOf image 0) ≡ true
+  pub index : indexRule (sectorCount image) (sectorOf image 1) ≡ true
+  pub descriptors : descriptorsRule (sectorCount image) image [] (files image) ≡ true
+  pub single : heldTwice (holders image) ≡ false
+  pub map : mapRule (sectorCount image) (holders image) (sectorOf image 0) ≡ true
+
+pub rules-kept : (image : List ℕ) → verdict image ≡ 0 → Keeps image
+unfolding verdict volumeTests Passed
+rules-kept image e =
+    let passed = all-passed (volumeTests image) e in
+    record {
+      size = not-false (sizeRule image) (passed .0);
+      label = not-false _ (passed .1 .0);
+      index = not-false _ (passed .1 .1 .0);
+      descriptors = not-false _ (passed .1 .1 .1 .0);
+      single = passed .1 .1 .1 .1 .0;
+      map = not-false _ (passed .1 .1 .1 .1 .1 .0);
+    }
 
 pub sound : (image : List ℕ) → verdict image ≡ 0 → Sound image
-unfolding verdict
 sound image e =
     let n = sectorCount image in
-    let passed =
-    all-passed (sizeRule image) (labelRule n (sectorOf image 0)) (indexRule n (sectorOf image 1)) (descriptorsRule n image [] (files image)) (heldTwice (holders image))
-    (mapRule n (holders image) (sectorOf image 0)) e
-    in
-    let size = size-is image (passed .0) in
-    let bits = map-at n (holders image) (sectorOf image 0) (passed .5) in
+    let kept = rules-kept image e in
+    let size = size-is image (kept .size) in
+    let bits = map-at n (holders image) (sectorOf image 0) (kept .map) in
     record {
       whole = size .0;
       size = (size .1, size .2);
-      label = label-is n (sectorOf image 0) (passed .1);
-      index = index-is n (sectorOf image 1) (passed .2);
-      descriptors = descriptors-are n image [] (files image) (passed .3);
-      ascending = ascend n image [] (files image) (passed .3);
-      single = held-once (holders image) (passed .4);
+      label = label-is n (sectorOf image 0) (kept .label);
+      index = index-is n (sectorOf image 1) (kept .index);
+      descriptors = descriptors-are n image [] (files image) (kept .descriptors);
+      ascending = ascend n image [] (files image) (kept .descriptors);
+      single = held-once (holders image) (kept .single);
       marked = λ k h. bits k (omega (arith, size .2)) ∙ taken-below n (holders image) k h;
       filled = λ k h l. bits k l ∙ taken-past n (holders image) k h;
     }
 
 pub passes : (image : List ℕ) → Sound image → verdict image ≡ 0
-unfolding verdict
+unfolding verdict volumeTests firstOf
 passes image is =
     let n = sectorCount image in
     rw (
@@ -173,3 +181,13 @@ passes image is =
 
 pub verdict-sound : (image : List ℕ) → (verdict image ≡ 0) ↔ Sound image
 verdict-sound image = (sound image, passes image)
+
+-- a call whose tests begin with those of the volume
+module _ (image : List ℕ) (tests : List Test) where
+  pub unsound-first : (verdict image ≡ 0 → ⊥) → firstOf (volumeTests image ++ tests) ≡ verdict image
+  unfolding verdict
+  unsound-first some = first-met (volumeTests image) tests some
+
+  pub sound-first : verdict image ≡ 0 → firstOf (volumeTests image ++ tests) ≡ firstOf tests
+  unfolding verdict
+  sound-first e = first-passed (volumeTests image) tests e

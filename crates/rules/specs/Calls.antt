@@ -1,7 +1,7 @@
--- The calls, one file each.
+-- The calls, a file for each or for a pair.
 pub mod Format
-pub mod Free
-pub mod Catalogue
+pub mod Summary
+pub mod Entry
 pub mod Read
 pub mod Load
 pub mod Listing
@@ -12,3 +12,4 @@ pub mod Protect
 pub mod Store
 pub mod Delete
 pub mod Rename
+pub mod Pack

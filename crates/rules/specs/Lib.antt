@@ -9,9 +9,10 @@ pub mod Kind
 pub mod Descriptor
 pub mod Index
 pub mod Volume
+pub mod Tests
 pub mod Verdict
 pub mod Sound
 pub mod Choice
 pub mod Outcome
+pub mod Opening
 pub mod Calls
-pub mod Packing

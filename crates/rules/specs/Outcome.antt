@@ -1,30 +1,27 @@
--- What a call gives: its number, and with number 0 what it reads or writes. The refusals stand in the table's order.
+-- What a call gives: its number, and with number 0 what it reads or writes; what its answer says of that; and what the code promises.
+use mathlib.Core.Path.{_≡_}
 use mathlib.Core.Bool.{cond}
-use mathlib.Core.List.{List, [], _∷_}
-use Prim.Native.Nat.{ℕ, _+_}
+use mathlib.Core.List.{List, []}
+use Prim.Native.Nat.{ℕ}
 use lib.Dec.{eqb}
-use Rattle.rules.specs.Bytes.{same}
-use Rattle.rules.specs.Sectors.{Write}
-use Rattle.rules.specs.Name.{nameRule}
-use Rattle.rules.specs.Volume.{files, nameIn}
-use Rattle.rules.specs.Verdict.{verdict}
+use Rattle.rules.specs.Bytes.{splice}
+use Rattle.rules.specs.Sectors.{Write, written}
+use Rattle.rules.specs.Tests.{Test, firstOf, unlessMet}
 use Rattle.rules.specs.declared.Answer.{Answer}
 use Rattle.rules.specs.declared.Amount.{Amount}
-use Rattle.rules.specs.declared.Opened.{Opened}
 use Rattle.rules.specs.declared.Answer.the-variants as answer
 use Rattle.rules.specs.declared.Amount.the-variants as amount
-use Rattle.rules.specs.declared.Opened.the-variants as opened
 
 -- a reading call: its number, a value, and the bytes that it puts at the front of the buffer
-pub record Reading : Type 0 where
+pub record Report : Type 0 where
   pub number : ℕ
   pub value : ℕ
   pub bytes : List ℕ
 
-abbrev pub gives : ℕ → List ℕ → Reading
+abbrev pub gives : ℕ → List ℕ → Report
 gives value bytes = record { number = 0; value = value; bytes = bytes }
 
-abbrev pub refuses : ℕ → Reading
+abbrev pub refuses : ℕ → Report
 refuses number = record { number = number; value = 0; bytes = [] }
 
 -- a call that changes the image: its number, and the whole sectors that it writes, in order
@@ -41,51 +38,39 @@ done writes = record { number = 0; writes = writes }
 abbrev pub refusal : ℕ → Outcome
 refusal number = record { number = number; writes = [] }
 
--- the enum that a call answers with
+-- each by its tests: a refusal puts nothing into the buffer, and writes nothing
+abbrev pub reported : List Test → ℕ → List ℕ → Report
+reported tests value bytes = record { number = firstOf tests; value = unlessMet tests value 0; bytes = unlessMet tests bytes [] }
+
+abbrev pub tested : List Test → List Write → Outcome
+tested tests writes = record { number = firstOf tests; writes = unlessMet tests writes [] }
+
+-- what an answer says, case by case: the paper's number, and the value given with it. No refusal has the number 0.
+unfoldable pub AnswerSays : Answer → ℕ → Type 0
+AnswerSays answer.Done number = number ≡ 0
+AnswerSays (answer.Refused refused) number = (refused ≡ number) × (number ≡ 0 → ⊥)
+
+unfoldable pub AmountSays : Amount → Report → Type 0
+AmountSays (amount.Given value) report = (report .number ≡ 0) × (value ≡ report .value)
+AmountSays (amount.Refused refused) report = (refused ≡ report .number) × (report .number ≡ 0 → ⊥)
+
+-- a call that writes: what it answers, and the image before and after
+pub record Meets (outcome : Outcome) (answer : Answer) (before after : List ℕ) : Type 0 where
+  pub said : AnswerSays answer (outcome .number)
+  pub left : after ≡ written before (outcome .writes)
+
+-- a call that reads: what it answers, as the enum says it, and the buffer before and after
+pub record Gives {Given : Type 0} (Says : Given → Report → Type 0) (report : Report) (given : Given) (before after : List ℕ) : Type 0 where
+  pub said : Says given report
+  pub left : after ≡ splice before 0 (report .bytes)
+
+-- the one answer that says so
 unfoldable pub answerOf : ℕ → Answer
 answerOf number = cond (eqb number 0) answer.Done (answer.Refused number)
 
-unfoldable pub amountOf : Reading → Amount
-amountOf reading = cond (eqb (reading .number) 0) (amount.Given (reading .value)) (amount.Refused (reading .number))
-
--- and its number, case by case
-unfoldable pub answerNumber : Answer → ℕ
-answerNumber answer.Done = 0
-answerNumber (answer.Refused number) = number
-
-unfoldable pub amountNumber : Amount → ℕ
-amountNumber (amount.Given value) = 0
-amountNumber (amount.Refused number) = number
+unfoldable pub amountOf : Report → Amount
+amountOf report = cond (eqb (report .number) 0) (amount.Given (report .value)) (amount.Refused (report .number))
 
 -- what stands behind a pointer afterwards: the value, and after a refusal what stood there
 unfoldable pub behind : ℕ → ℕ → ℕ → ℕ
 behind number value before = cond (eqb number 0) value before
-
--- numbers 1 to 6 come first
-unfoldable pub judged : List ℕ → Reading → Reading
-judged image reading = cond (eqb (verdict image) 0) reading (refuses (verdict image))
-
--- the file of that name among the files ks, the first of which is at place p of the catalogue; or 8
-unfoldable pub findIn : List ℕ → List ℕ → ℕ → List ℕ → Opened
-findIn image name p [] = opened.Refused 8
-findIn image name p (k ∷ ks) = cond (same name (nameIn image k)) (opened.At p k) (findIn image name (p + 1) ks)
-
--- numbers 1 to 8 of a call that names a file
-unfoldable pub openOf : List ℕ → List ℕ → Opened
-openOf image name =
-    cond (eqb (verdict image) 0) (cond (nameRule name) (findIn image name 0 (files image)) (opened.Refused 7)) (opened.Refused (verdict image))
-
--- a reading call on that file, by its descriptor's sector
-unfoldable pub onFile : Opened → (ℕ → Reading) → Reading
-onFile (opened.Refused number) reading = refuses number
-onFile (opened.At p k) reading = reading k
-
--- a change of that file, by its descriptor's sector
-unfoldable pub changing : Opened → (ℕ → Outcome) → Outcome
-changing (opened.Refused number) change = refusal number
-changing (opened.At p k) change = change k
-
--- a call that takes a new name: 9 where it is present
-unfoldable pub adding : Opened → Outcome → Outcome
-adding (opened.Refused number) addition = cond (eqb number 8) addition (refusal number)
-adding (opened.At p k) addition = refusal 9

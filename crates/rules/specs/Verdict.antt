@@ -1,5 +1,5 @@
 -- Numbers 1 to 6, in the table's order: the whole image is tested for 1, then 2, and so on. This is what the judge gives.
-use mathlib.Core.Bool.{Bool, true, false, cond, _&&_, _||_}
+use mathlib.Core.Bool.{Bool, true, false, not, _&&_, _||_}
 use mathlib.Core.List.{List, [], _∷_}
 use Prim.Native.Nat.{ℕ, _%_}
 use lib.Dec.{eqb, leb, ltb}
@@ -11,6 +11,7 @@ use Rattle.rules.specs.Map.{count, mapRule}
 use Rattle.rules.specs.Descriptor.{descriptorRule}
 use Rattle.rules.specs.Index.{indexRule}
 use Rattle.rules.specs.Volume.{files, nameIn, holders}
+use Rattle.rules.specs.Tests.{Test, refuse, firstOf}
 
 -- 1: the length is 256 × n for n 3 to 1,600
 unfoldable pub sizeRule : List ℕ → Bool
@@ -27,16 +28,14 @@ unfoldable pub heldTwice : List ℕ → Bool
 heldTwice [] = false
 heldTwice (h ∷ hs) = ltb 0 (count h hs) || heldTwice hs
 
-unfoldable pub verdict : List ℕ → ℕ
-verdict image =
+unfoldable pub volumeTests : List ℕ → List Test
+volumeTests image =
     let n = sectorCount image in
-    cond (sizeRule image)
-    (cond (labelRule n (sectorOf image 0))
-    (cond (indexRule n (sectorOf image 1))
-    (cond (descriptorsRule n image [] (files image))
-    (cond (heldTwice (holders image)) 5
-    (cond (mapRule n (holders image) (sectorOf image 0)) 0 6))
-    4)
-    3)
-    2)
-    1
+    refuse 1 (not (sizeRule image))
+    ∷ (refuse 2 (not (labelRule n (sectorOf image 0)))
+    ∷ (refuse 3 (not (indexRule n (sectorOf image 1)))
+    ∷ (refuse 4 (not (descriptorsRule n image [] (files image)))
+    ∷ (refuse 5 (heldTwice (holders image)) ∷ (refuse 6 (not (mapRule n (holders image) (sectorOf image 0))) ∷ [])))))
+
+unfoldable pub verdict : List ℕ → ℕ
+verdict image = firstOf (volumeTests image)

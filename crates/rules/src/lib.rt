@@ -59,8 +59,9 @@ pub struct Entry {
     pub row: Row,
 }
 
-// A file that a call names: its place in the catalogue and its descriptor's sector, or the number of the refusal.
+// A file that a call names: its place in the catalogue and its descriptor's sector; absent; or not looked for, with the number of the refusal.
 pub enum Opened {
     At(usize, usize),
+    Absent,
     Refused(u32),
 }

@@ -1,5 +1,5 @@
 -- Creating takes a name, status 00, 02, 80 or 82 hex, record length and records per sector; the descriptor's other bytes are zero.
-use mathlib.Core.Bool.{Bool, cond, _||_}
+use mathlib.Core.Bool.{Bool, not, _||_}
 use mathlib.Core.List.{List, [], _∷_}
 use Prim.Native.Nat.{ℕ}
 use lib.Dec.{eqb, leb, ltb}
@@ -10,7 +10,9 @@ use Rattle.rules.specs.Descriptor.{newDescriptor}
 use Rattle.rules.specs.Index.{indexOf}
 use Rattle.rules.specs.Volume.{files, placed}
 use Rattle.rules.specs.Choice.{descriptorChoice}
-use Rattle.rules.specs.Outcome.{Outcome, write, done, refusal, openOf, adding}
+use Rattle.rules.specs.Tests.{Test, refuse}
+use Rattle.rules.specs.Outcome.{Outcome, write, tested}
+use Rattle.rules.specs.Opening.{openOf, adding}
 
 unfoldable pub createStatus : ℕ → Bool
 createStatus status = eqb status 0 || (eqb status 0x02 || (eqb status 0x80 || eqb status 0x82))
@@ -19,17 +21,15 @@ createStatus status = eqb status 0 || (eqb status 0x02 || (eqb status 0x80 || eq
 unfoldable pub entered : List ℕ → List ℕ → ℕ → List ℕ → List ℕ → List Write
 entered image name k descriptor sector0 = write k descriptor ∷ (write 0 sector0 ∷ (write 1 (indexOf (placed image name k (files image))) ∷ []))
 
+unfoldable pub createTests : List ℕ → ℕ → List Test
+createTests image status =
+    refuse 15 (not (createStatus status)) ∷ (refuse 11 (leb 127 (length (files image))) ∷ (refuse 12 (ltb (freeCount (sectorOf image 0)) 1) ∷ []))
+
 unfoldable pub creating : List ℕ → List ℕ → ℕ → ℕ → ℕ → Outcome
 creating image name status recordLength recordsPerSector =
     let sector0 = sectorOf image 0 in
     let k = descriptorChoice sector0 in
-    cond (createStatus status)
-    (cond (ltb (length (files image)) 127)
-    (cond (leb 1 (freeCount sector0))
-    (done (entered image name k (newDescriptor name status recordsPerSector 0 recordLength) (marked 1 sector0 k)))
-    (refusal 12))
-    (refusal 11))
-    (refusal 15)
+    tested (createTests image status) (entered image name k (newDescriptor name status recordsPerSector 0 recordLength) (marked 1 sector0 k))
 
 unfoldable pub createOf : List ℕ → List ℕ → ℕ → ℕ → ℕ → Outcome
 createOf image name status recordLength recordsPerSector = adding (openOf image name) (creating image name status recordLength recordsPerSector)

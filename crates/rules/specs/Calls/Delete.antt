@@ -1,5 +1,4 @@
 -- Deleting takes the number out of sector 1, moves later ones down by one place, fills in a zero, and clears the map bits of descriptor and data. Those sectors keep their bytes.
-use mathlib.Core.Bool.{cond}
 use mathlib.Core.List.{List, [], _∷_}
 use Prim.Native.Nat.{ℕ}
 use Rattle.rules.specs.Sectors.{sectorOf}
@@ -8,13 +7,17 @@ use Rattle.rules.specs.Kind.{isProtected}
 use Rattle.rules.specs.Descriptor.{statusOf}
 use Rattle.rules.specs.Index.{indexOf, without}
 use Rattle.rules.specs.Volume.{files, placesIn}
-use Rattle.rules.specs.Outcome.{Outcome, write, done, refusal, openOf, changing}
+use Rattle.rules.specs.Tests.{Test, refuse}
+use Rattle.rules.specs.Outcome.{Outcome, write, tested}
+use Rattle.rules.specs.Opening.{openOf, changing}
 
 -- of the file at k
+unfoldable pub deleteTests : List ℕ → ℕ → List Test
+deleteTests image k = refuse 10 (isProtected (statusOf (sectorOf image k))) ∷ []
+
 unfoldable pub deleting : List ℕ → ℕ → Outcome
 deleting image k =
-    cond (isProtected (statusOf (sectorOf image k))) (refusal 10)
-    (done (write 1 (indexOf (without k (files image))) ∷ (write 0 (markedAll 0 (sectorOf image 0) (k ∷ placesIn image k)) ∷ [])))
+    tested (deleteTests image k) (write 1 (indexOf (without k (files image))) ∷ (write 0 (markedAll 0 (sectorOf image 0) (k ∷ placesIn image k)) ∷ []))
 
 unfoldable pub deleteOf : List ℕ → List ℕ → Outcome
 deleteOf image name = changing (openOf image name) (deleting image)

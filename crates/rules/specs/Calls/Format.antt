@@ -1,5 +1,5 @@
 -- Formatting takes n, a disk name, sectors per track, tracks, sides and density. It writes those, "DSK", a space at 16, zeros at 20-55, the map, a zero sector 1, and E5 hex in every other byte. It tests only 1 and 7, and reads nothing of the image.
-use mathlib.Core.Bool.{cond, _&&_}
+use mathlib.Core.Bool.{not}
 use mathlib.Core.List.{List, [], _∷_, _++_}
 use Prim.Native.Nat.{ℕ, _-_, _*_, _/_, _%_}
 use lib.Dec.{eqb}
@@ -7,6 +7,7 @@ use lib.ListN.{replicate}
 use Rattle.rules.specs.Sectors.{sectorCount}
 use Rattle.rules.specs.Name.{nameRule}
 use Rattle.rules.specs.Map.{mapOf}
+use Rattle.rules.specs.Tests.{Test, refuse, firstOf, unlessMet}
 use Rattle.rules.specs.Verdict.{sizeRule}
 
 -- sectors per track, tracks, sides, density
@@ -26,9 +27,13 @@ newLabel n name g =
 unfoldable pub formatted : ℕ → List ℕ → Geometry → List ℕ
 formatted n name g = newLabel n name g ++ (mapOf n (0 ∷ (1 ∷ [])) ++ (replicate 256 0 ++ replicate (256 * (n - 2)) 0xE5))
 
-unfoldable pub formatNumber : List ℕ → ℕ → List ℕ → ℕ
-formatNumber image n name = cond (sizeRule image && eqb n (sectorCount image)) (cond (nameRule name) 0 7) 1
+unfoldable pub formatTests : List ℕ → ℕ → List ℕ → List Test
+formatTests image n name =
+    refuse 1 (not (sizeRule image)) ∷ (refuse 1 (not (eqb n (sectorCount image))) ∷ (refuse 7 (not (nameRule name)) ∷ []))
+
+abbrev pub formatNumber : List ℕ → ℕ → List ℕ → ℕ
+formatNumber image n name = firstOf (formatTests image n name)
 
 -- the whole image afterwards
 unfoldable pub afterFormat : List ℕ → ℕ → List ℕ → Geometry → List ℕ
-afterFormat image n name g = cond (eqb (formatNumber image n name) 0) (formatted n name g) image
+afterFormat image n name g = unlessMet (formatTests image n name) (formatted n name g) image

@@ -2,7 +2,7 @@
 use mathlib.Core.Bool.{cond}
 use mathlib.Core.List.{List, [], _∷_, _++_}
 use Prim.Native.Nat.{ℕ, zero, suc, _+_, _/_, _%_}
-use lib.Dec.{eqb, leb, ltb}
+use lib.Dec.{eqb, ltb}
 use lib.ListN.{length}
 use Rattle.rules.specs.Bytes.{part}
 use Rattle.rules.specs.Sectors.{sectorOf, sectorCount}
@@ -10,7 +10,9 @@ use Rattle.rules.specs.Map.{freeCount}
 use Rattle.rules.specs.Descriptor.{nameOf, statusOf, sectorsOf, fileKind}
 use Rattle.rules.specs.Volume.{files}
 use Rattle.rules.specs.Kind.{isProtected}
-use Rattle.rules.specs.Outcome.{Reading, gives, refuses, judged}
+use Rattle.rules.specs.Tests.{Test, refuse}
+use Rattle.rules.specs.Verdict.{volumeTests}
+use Rattle.rules.specs.Outcome.{Report, reported}
 use Rattle.rules.specs.declared.Kind.{Kind}
 use Rattle.rules.specs.declared.Kind.the-variants.{Program, Fixed, Variable}
 
@@ -63,8 +65,11 @@ unfoldable pub listingText : List ℕ → List ℕ
 listingText image = diskLine image ++ fileLines image (files image)
 
 -- for a buffer of `room` bytes
-unfoldable pub listingOf : List ℕ → ℕ → Reading
-listingOf image room = judged image (cond (leb (length (listingText image)) room) (gives (length (listingText image)) (listingText image)) (refuses 15))
+unfoldable pub listingTests : List ℕ → ℕ → List Test
+listingTests image room = volumeTests image ++ (refuse 15 (ltb room (length (listingText image))) ∷ [])
+
+unfoldable pub listingOf : List ℕ → ℕ → Report
+listingOf image room = reported (listingTests image room) (length (listingText image)) (listingText image)
 
 -- an unsound image gives only `REFUSED` and its number
 unfoldable pub refusedLine : ℕ → List ℕ

@@ -1,15 +1,17 @@
 -- A load gives the program's bytes and their number: the contents of its sectors one after another, cut at its length.
-use mathlib.Core.Bool.{cond}
+use mathlib.Core.Bool.{not}
 use mathlib.Core.List.{List, [], _∷_, _++_}
 use Prim.Native.Nat.{ℕ}
-use lib.Dec.{leb}
+use lib.Dec.{ltb}
 use lib.ListN.{take}
 use Rattle.rules.specs.Bytes.{byteAt}
 use Rattle.rules.specs.Sectors.{sectorOf}
 use Rattle.rules.specs.Kind.{isProgram, programLength}
 use Rattle.rules.specs.Descriptor.{statusOf, sectorsOf}
 use Rattle.rules.specs.Volume.{contentsIn}
-use Rattle.rules.specs.Outcome.{Reading, gives, refuses, openOf, onFile}
+use Rattle.rules.specs.Tests.{Test, refuse}
+use Rattle.rules.specs.Outcome.{Report, reported}
+use Rattle.rules.specs.Opening.{openOf, onFile}
 
 -- sectors laid end to end
 unfoldable pub joined : List (List ℕ) → List ℕ
@@ -23,9 +25,11 @@ unfoldable pub programIn : List ℕ → ℕ → List ℕ
 programIn image k = take (lengthIn image k) (joined (contentsIn image k))
 
 -- of the file at k, for a buffer of `room` bytes
-unfoldable pub loading : List ℕ → ℕ → ℕ → Reading
-loading image room k =
-    cond (isProgram (statusOf (sectorOf image k))) (cond (leb (lengthIn image k) room) (gives (lengthIn image k) (programIn image k)) (refuses 15)) (refuses 14)
+unfoldable pub loadTests : List ℕ → ℕ → ℕ → List Test
+loadTests image room k = refuse 14 (not (isProgram (statusOf (sectorOf image k)))) ∷ (refuse 15 (ltb room (lengthIn image k)) ∷ [])
 
-unfoldable pub loadOf : List ℕ → List ℕ → ℕ → Reading
+unfoldable pub loading : List ℕ → ℕ → ℕ → Report
+loading image room k = reported (loadTests image room k) (lengthIn image k) (programIn image k)
+
+unfoldable pub loadOf : List ℕ → List ℕ → ℕ → Report
 loadOf image name room = onFile (openOf image name) (loading image room)

@@ -1,18 +1,26 @@
 -- A sector read gives the 256 bytes. It is allowed on programs and on protected files.
-use mathlib.Core.Bool.{cond}
-use mathlib.Core.List.{List}
+use mathlib.Core.List.{List, [], _∷_}
 use Prim.Native.Nat.{ℕ}
 use lib.Dec.{leb, ltb}
 use lib.ListN.{getD}
 use Rattle.rules.specs.Sectors.{sectorOf}
 use Rattle.rules.specs.Descriptor.{sectorsOf}
 use Rattle.rules.specs.Volume.{placesIn}
-use Rattle.rules.specs.Outcome.{Reading, gives, refuses, openOf, onFile}
+use Rattle.rules.specs.Tests.{Test, refuse}
+use Rattle.rules.specs.Outcome.{Report, reported, AnswerSays}
+use Rattle.rules.specs.Opening.{openOf, onFile}
+use Rattle.rules.specs.declared.Answer.{Answer}
 
 -- of the file at k, its sector `offset`, for a buffer of `room` bytes
-unfoldable pub reading : List ℕ → ℕ → ℕ → ℕ → Reading
-reading image offset room k =
-    cond (ltb offset (sectorsOf (sectorOf image k))) (cond (leb 256 room) (gives 0 (sectorOf image (getD (placesIn image k) offset 0))) (refuses 15)) (refuses 15)
+unfoldable pub readTests : List ℕ → ℕ → ℕ → ℕ → List Test
+readTests image offset room k = refuse 15 (leb (sectorsOf (sectorOf image k)) offset) ∷ (refuse 15 (ltb room 256) ∷ [])
 
-unfoldable pub readOf : List ℕ → List ℕ → ℕ → ℕ → Reading
+unfoldable pub reading : List ℕ → ℕ → ℕ → ℕ → Report
+reading image offset room k = reported (readTests image offset room k) 0 (sectorOf image (getD (placesIn image k) offset 0))
+
+unfoldable pub readOf : List ℕ → List ℕ → ℕ → ℕ → Report
 readOf image name offset room = onFile (openOf image name) (reading image offset room)
+
+-- what the answer says
+abbrev pub ReadSays : Answer → Report → Type 0
+ReadSays answer report = AnswerSays answer (report .number)

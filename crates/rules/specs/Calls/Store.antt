@@ -1,5 +1,4 @@
 -- Storing takes a name and the program's bytes, and writes status 01, c, byte 16 and the chain; the descriptor's other bytes are zero. L bytes take L/256 rounded down, + 1, sectors; the rest of the last sector is zero.
-use mathlib.Core.Bool.{cond}
 use mathlib.Core.List.{List, [], _∷_, _++_}
 use Prim.Native.Nat.{ℕ, _+_, _/_, _%_}
 use lib.Dec.{leb, ltb}
@@ -11,8 +10,11 @@ use Rattle.rules.specs.Chain.{extendedAll}
 use Rattle.rules.specs.Descriptor.{newDescriptor, withChain}
 use Rattle.rules.specs.Volume.{files}
 use Rattle.rules.specs.Choice.{descriptorChoice, dataChoices}
-use Rattle.rules.specs.Outcome.{Outcome, write, done, refusal, openOf, adding}
+use Rattle.rules.specs.Tests.{Test, refuse}
+use Rattle.rules.specs.Outcome.{Outcome, write, tested}
+use Rattle.rules.specs.Opening.{openOf, adding}
 use Rattle.rules.specs.Calls.Create.{entered}
+use Rattle.rules.specs.declared.Block.{Block}
 
 abbrev pub sectorsFor : ℕ → ℕ
 sectorsFor bytes = bytes / 256 + 1
@@ -22,22 +24,28 @@ unfoldable pub dataWrites : List ℕ → List ℕ → List Write
 dataWrites bytes [] = []
 dataWrites bytes (k ∷ ks) = write k (over (replicate 256 0) bytes) ∷ dataWrites (drop 256 bytes) ks
 
+-- the sectors of the data, chosen after the descriptor's, and their blocks
+unfoldable pub newSectors : List ℕ → ℕ → List ℕ
+newSectors image many = dataChoices many (marked 1 (sectorOf image 0) (descriptorChoice (sectorOf image 0)))
+
+unfoldable pub newBlocks : List ℕ → ℕ → List Block
+newBlocks image many = extendedAll [] (newSectors image many)
+
+unfoldable pub storeTests : List ℕ → List ℕ → List Test
+storeTests image bytes =
+    let many = sectorsFor (length bytes) in
+    refuse 15 (ltb 32768 (length bytes))
+    ∷ (refuse 11 (leb 127 (length (files image)))
+    ∷ (refuse 12 (ltb (freeCount (sectorOf image 0)) (1 + many)) ∷ (refuse 13 (ltb 76 (length (newBlocks image many))) ∷ [])))
+
 unfoldable pub storing : List ℕ → List ℕ → List ℕ → Outcome
 storing image name bytes =
     let many = sectorsFor (length bytes) in
-    let sector0 = sectorOf image 0 in
-    let k = descriptorChoice sector0 in
-    let ks = dataChoices many (marked 1 sector0 k) in
-    let bs = extendedAll [] ks in
-    cond (leb (length bytes) 32768)
-    (cond (ltb (length (files image)) 127)
-    (cond (leb (1 + many) (freeCount sector0))
-    (cond (leb (length bs) 76)
-    (done (dataWrites bytes ks ++ entered image name k (withChain (newDescriptor name 0x01 0 (length bytes % 256) 0) many bs) (markedAll 1 sector0 (k ∷ ks))))
-    (refusal 13))
-    (refusal 12))
-    (refusal 11))
-    (refusal 15)
+    let k = descriptorChoice (sectorOf image 0) in
+    let ks = newSectors image many in
+    tested (storeTests image bytes)
+    (dataWrites bytes ks
+    ++ entered image name k (withChain (newDescriptor name 0x01 0 (length bytes % 256) 0) many (newBlocks image many)) (markedAll 1 (sectorOf image 0) (k ∷ ks)))
 
 unfoldable pub storeOf : List ℕ → List ℕ → List ℕ → Outcome
 storeOf image name bytes = adding (openOf image name) (storing image name bytes)

@@ -1,5 +1,5 @@
 -- Packing: the one laid down form, a function of n, the label area and the catalogue alone. Packing keeps sector 0 bytes 0-55. With f files in name order, descriptors go to sectors 2 to f + 1 with bytes 0-27 kept; data follows from sector f + 2 in the same order without a gap; a file with sectors has one block; unused blocks and index places are zero; free sectors are all E5 hex.
-use mathlib.Core.Bool.{cond}
+use mathlib.Core.Bool.{not}
 use mathlib.Core.List.{List, [], _∷_, _++_}
 use Prim.Native.Nat.{ℕ, zero, suc, _+_, _-_, _*_}
 use lib.Dec.{eqb}
@@ -10,7 +10,8 @@ use Rattle.rules.specs.Map.{mapOf}
 use Rattle.rules.specs.Chain.{run, blocksBytes}
 use Rattle.rules.specs.Index.{indexOf}
 use Rattle.rules.specs.Volume.{File, catalogue}
-use Rattle.rules.specs.Verdict.{verdict}
+use Rattle.rules.specs.Tests.{Test, refuse, firstOf, unlessMet}
+use Rattle.rules.specs.Verdict.{volumeTests}
 use Rattle.rules.specs.Calls.Load.{joined}
 use Rattle.rules.specs.declared.Block.{Block}
 
@@ -52,9 +53,12 @@ packed n label files =
     ++ (packedDescriptors (2 + length files) files ++ (packedData files ++ replicate (256 * (n - packedSectors files)) 0xE5))))
 
 -- the call: 1 to 6 of the source, then 15 for a target of another length; the target's old bytes do not matter
-unfoldable pub packNumber : List ℕ → List ℕ → ℕ
-packNumber source target = cond (eqb (verdict source) 0) (cond (eqb (length target) (length source)) 0 15) (verdict source)
+unfoldable pub packTests : List ℕ → List ℕ → List Test
+packTests source target = volumeTests source ++ (refuse 15 (not (eqb (length target) (length source))) ∷ [])
+
+abbrev pub packNumber : List ℕ → List ℕ → ℕ
+packNumber source target = firstOf (packTests source target)
 
 -- the whole target afterwards
 unfoldable pub afterPack : List ℕ → List ℕ → List ℕ
-afterPack source target = cond (eqb (packNumber source target) 0) (packed (sectorCount source) (labelArea source) (catalogue source)) target
+afterPack source target = unlessMet (packTests source target) (packed (sectorCount source) (labelArea source) (catalogue source)) target

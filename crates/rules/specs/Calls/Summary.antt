@@ -1,0 +1,31 @@
+-- The free count, and a volume's summary: disk name, n, file count and free count.
+use mathlib.Core.Path.{_≡_}
+use mathlib.Core.List.{List, []}
+use Prim.Native.Nat.{ℕ}
+use lib.ListN.{length}
+use Rattle.rules.specs.Bytes.{part}
+use Rattle.rules.specs.Sectors.{sectorOf, sectorCount}
+use Rattle.rules.specs.Map.{freeCount}
+use Rattle.rules.specs.Volume.{files}
+use Rattle.rules.specs.Tests.{unlessMet}
+use Rattle.rules.specs.Verdict.{volumeTests, verdict}
+use Rattle.rules.specs.Outcome.{Report, reported}
+use Rattle.rules.specs.declared.Summary.{Summary}
+use Rattle.rules.specs.declared.Summary.the-variants.{Given, Refused}
+
+unfoldable pub freeCountOf : List ℕ → Report
+freeCountOf image = reported (volumeTests image) (freeCount (sectorOf image 0)) []
+
+-- the disk name goes into the lent array; the numbers stand in the answer
+unfoldable pub summaryOf : List ℕ → Report
+summaryOf image = reported (volumeTests image) 0 (part (sectorOf image 0) 0 10)
+
+unfoldable pub SummarySays : List ℕ → Summary → Report → Type 0
+SummarySays image (Given sectors listed free) report =
+    (report .number ≡ 0) × (sectors ≡ sectorCount image) × (listed ≡ length (files image)) × (free ≡ freeCount (sectorOf image 0))
+SummarySays image (Refused refused) report = (refused ≡ report .number) × (report .number ≡ 0 → ⊥)
+
+-- the one answer that says so
+unfoldable pub summaryAnswer : List ℕ → Summary
+summaryAnswer image =
+    unlessMet (volumeTests image) (Given (sectorCount image) (length (files image)) (freeCount (sectorOf image 0))) (Refused (verdict image))
