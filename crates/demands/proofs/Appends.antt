@@ -6,21 +6,22 @@ use mathlib.Core.List.{List, [], _∷_, _++_, map, map-append}
 use Prim.Native.Nat.{ℕ, zero, suc, _+_, _-_, _*_, _≤_, _<_}
 use native.Mathlib.Omega.{arith}
 use native.Mathlib.Decide.{decLt, ℕ-discrete}
-use lib.Dec.{eqb, leb}
 use lib.ListN.{length, take, length-map, List·getD-eq-default}
-use borrow.Author.Tests.{eqb-true, leb-true}
+use borrow.Author.Tests.{not-false, eqb-true, ltb-false}
 use Rattle.rules.specs.Bytes.{byteAt, wordBytes, over, splice}
 use Rattle.rules.specs.Sectors.{Write, sectorOf, sectorCount, written}
 use Rattle.rules.specs.Map.{count, freeCount, marked, markedAll}
 use Rattle.rules.specs.declared.Block.{Block}
 use Rattle.rules.specs.Chain.{blocks, placesFrom, places, extended, blocksBytes, Linked}
-use Rattle.rules.specs.Kind.{isProgram, isProtected, isVariable, isInternal, kindOf, IsKind}
+use Rattle.rules.specs.Kind.{isProgram, isVariable, isInternal, kindOf, IsKind}
 use Rattle.rules.specs.declared.Kind.the-variants.{Fixed, Variable}
 use Rattle.rules.specs.Descriptor.{nameOf, statusOf, sectorsOf, chainOf, fileKind, withChain, IsDescriptor}
 use Rattle.rules.specs.Volume.{files, nameIn, placesIn, fileHolders, holders, headerIn, contentsIn, fileIn, catalogue}
 use Rattle.rules.specs.Choice.{dataChoice}
-use Rattle.rules.specs.Outcome.{write, done, refusal}
-use Rattle.rules.specs.Calls.Append.{appending, appendOf}
+use Rattle.rules.specs.Outcome.{write, done}
+use Rattle.rules.specs.Tests.{Passed}
+use Rattle.rules.specs.Opening.{openOf}
+use Rattle.rules.specs.Calls.Append.{longerBlocks, appendTests, appending, appendOf}
 use Rattle.rules.proofs.Bytes.{part-at}
 use Rattle.rules.proofs.Splice.{splice-length}
 use Rattle.rules.proofs.Extended.{Writable, extended-places, extended-linked, extended-length, linked-writable, with-chain-length, with-chain-sectors, with-chain-before, with-chain-blocks, with-chain-is, sectors-few}
@@ -28,8 +29,9 @@ use Rattle.rules.proofs.Map.{count-none, count-here, count-other, count-more}
 use Rattle.rules.proofs.Volume.{places-count}
 use Rattle.rules.proofs.Marking.{marked-length}
 use Rattle.rules.proofs.Choice.{Chosen, sound-fenced, data-choice-free}
-use Rattle.rules.proofs.Outcome.{IsOpened, opened-is, file-long}
-use Rattle.rules.proofs.Changes.{changed-done}
+use Rattle.rules.proofs.Tests.{all-passed}
+use Rattle.rules.proofs.Outcome.{tested-done}
+use Rattle.rules.proofs.Opening.{IsOpened, opened-is, open-refused, changed-done, file-long}
 use Rattle.rules.proofs.Written.{sector-same, Whole, written-length, Apart, written-apart}
 use Rattle.rules.proofs.Kept.{free-unheld, map-agree}
 use Rattle.demands.specs.Catalogue.{changed}
@@ -70,18 +72,6 @@ written-at image (first ∷ before) this behind whole apart =
     let size = splice-length image (256 * first .sector) (first .bytes) in
     written-at (splice image (256 * first .sector) (first .bytes)) before this behind (rw size (whole .2)) apart
 
--- the tests, where the number is 0
-passed : (t u v w x : Bool) (writes : List Write)
-    → cond t (refusal 10) (cond u (refusal 14) (cond v (cond w (cond x (done writes) (refusal 13)) (refusal 12)) (refusal 15))) .number ≡ 0
-    → (u ≡ false) × (v ≡ true) × (w ≡ true) × (x ≡ true)
-    × (cond t (refusal 10) (cond u (refusal 14) (cond v (cond w (cond x (done writes) (refusal 13)) (refusal 12)) (refusal 15))) ≡ done writes)
-passed true u v w x writes e = absurd (omega arith)
-passed false true v w x writes e = absurd (omega arith)
-passed false false false w x writes e = absurd (omega arith)
-passed false false true false x writes e = absurd (omega arith)
-passed false false true true false writes e = absurd (omega arith)
-passed false false true true true writes e = (refl, refl, refl, refl, refl)
-
 -- the sector that is taken, the blocks with it, and the descriptor with those
 abbrev taken-sector : List ℕ → ℕ
 taken-sector image = dataChoice (sectorOf image 0)
@@ -97,6 +87,7 @@ writes-of image bytes k =
     write (taken-sector image) bytes
     ∷ (write 0 (marked 1 (sectorOf image 0) (taken-sector image)) ∷ (write k (longer-descriptor (sectorOf image k) (taken-sector image)) ∷ []))
 
+-- number 0: which tests were passed
 record Appended (image bytes : List ℕ) (k : ℕ) : Type 0 where
   records : isProgram (statusOf (sectorOf image k)) ≡ false
   long : length bytes ≡ 256
@@ -105,16 +96,15 @@ record Appended (image bytes : List ℕ) (k : ℕ) : Type 0 where
   is : appending image bytes k ≡ done (writes-of image bytes k)
 
 append-facts : (image bytes : List ℕ) (k : ℕ) → appending image bytes k .number ≡ 0 → Appended image bytes k
-unfolding appending
+unfolding appending appendTests longerBlocks Passed
 append-facts image bytes k e =
-    let d = sectorOf image k in
-    let all = passed (isProtected (statusOf d)) (isProgram (statusOf d)) (eqb (length bytes) 256) (leb 1 (freeCount (sectorOf image 0))) (leb (length (longer-blocks d (taken-sector image))) 76) (writes-of image bytes k) e in
+    let passed = all-passed (appendTests image bytes k) e in
     record {
-      records = all .0;
-      long = eqb-true (length bytes) 256 (all .1);
-      room = leb-true 1 (freeCount (sectorOf image 0)) (all .2);
-      few = leb-true (length (longer-blocks d (taken-sector image))) 76 (all .3);
-      is = all .4;
+      records = passed .1 .0;
+      long = eqb-true (length bytes) 256 (not-false _ (passed .1 .1 .0));
+      room = ltb-false (freeCount (sectorOf image 0)) 1 (passed .1 .1 .1 .0);
+      few = ltb-false 76 (length (longer-blocks (sectorOf image k) (taken-sector image))) (passed .1 .1 .1 .1 .0);
+      is = tested-done (appendTests image bytes k) (writes-of image bytes k) e;
     }
 
 -- a file that is no program may have any number of sectors
@@ -339,6 +329,6 @@ appending-done image name bytes p k o a =
 pub appends : (bytes : List ℕ) → Does (append bytes)
 unfolding outcome appendOf
 appends bytes image name e =
-    let c = changed-done image name (appending image bytes) e in
+    let c = changed-done (openOf image name) (appending image bytes) (open-refused image name) e in
     let a = append-facts image bytes (c .sector) (c .number) in
-    rw (c .is, a .is) (appending-done image name bytes (c .place) (c .sector) (opened-is image name (c .place) (c .sector) (c .opened)) a)
+    rw (c .is, a .is) (appending-done image name bytes (c .place) (c .sector) (opened-is image name (c .place) (c .sector) (c .found-at)) a)

@@ -19,7 +19,7 @@ use Rattle.rules.proofs.Splice.{splice-length}
 use Rattle.rules.proofs.Name.{before-irrefl}
 use Rattle.rules.proofs.Map.{count-none, count-here, count-other, count-more, count-at, count-append}
 use Rattle.rules.proofs.Volume.{file-holders-inside}
-use Rattle.rules.proofs.Outcome.{IsOpened, file-long}
+use Rattle.rules.proofs.Opening.{IsOpened, file-long}
 use Rattle.rules.proofs.Choice.{Chosen}
 use Rattle.rules.proofs.Marking.{all-label, marked-holders, all-free}
 use Rattle.rules.proofs.Indexed.{without-count}

@@ -18,15 +18,16 @@ use Rattle.rules.specs.Kind.{statusRule, programLength, kindOf, kindRule}
 use Rattle.rules.specs.Descriptor.{nameOf, chainOf, fileKind, descriptorRule, newDescriptor, withChain}
 use Rattle.rules.specs.Index.{numbers, rangeRule, indexRule, numbersBytes, indexOf, without}
 use Rattle.rules.specs.Volume.{files, nameIn, placesIn, fileHolders, holders, placed, headerIn, contentsIn, fileIn, catalogue}
-use Rattle.rules.specs.Packing.{labelArea, oneBlock, packedDescriptor, packedDescriptors, packedData, dataSectors, packedSectors, packed}
+use Rattle.rules.specs.Calls.Pack.{labelArea, oneBlock, packedDescriptor, packedDescriptors, packedData, dataSectors, packedSectors, packed}
 use Rattle.rules.specs.Calls.Load.{joined}
-use Rattle.rules.specs.Verdict.{sizeRule, descriptorsRule, heldTwice, verdict}
+use Rattle.rules.specs.Verdict.{sizeRule, descriptorsRule, heldTwice, volumeTests, verdict}
 use Rattle.rules.specs.Choice.{lowestFree, descriptorChoice, dataChoice, dataChoices}
-use Rattle.rules.specs.Outcome.{findIn, openOf, changing, adding}
+use Rattle.rules.specs.Tests.{firstOf, unlessMet}
+use Rattle.rules.specs.Opening.{findIn, opening, nameTests, openOf, changing, adding}
 use Rattle.rules.specs.Calls.Format.{newLabel, formatted}
-use Rattle.rules.specs.Calls.Create.{createStatus, entered, creating, createOf}
-use Rattle.rules.specs.Calls.Append.{appending, appendOf}
-use Rattle.rules.specs.Calls.Store.{dataWrites, storing, storeOf}
+use Rattle.rules.specs.Calls.Create.{createStatus, entered, createTests, creating, createOf}
+use Rattle.rules.specs.Calls.Append.{longerBlocks, appendTests, appending, appendOf}
+use Rattle.rules.specs.Calls.Store.{dataWrites, newSectors, newBlocks, storeTests, storing, storeOf}
 use Rattle.rules.specs.Calls.Listing.{digits, decimal, unpadded, kindWord, kindLength, diskLine, fileLine, fileLines, listingText}
 use Rattle.rules.proofs.Tests.{both}
 use Rattle.demands.specs.Catalogue.{fileName, named}
@@ -76,7 +77,7 @@ passed m e =
     }
 
 all-pass : tests caseM ≡ true
-unfolding headerIn contentsIn fileIn catalogue joined labelArea oneBlock packedDescriptor packedDescriptors packedData dataSectors packedSectors packed same holds tableOf caseM over splice allAre withBit sectorOf written nameByte padded nameRule precedes labelRule mapBit count taken bitsRule mapRule byteOf bytesOf mapOf zeroBits freeCount marked markedAll blockBytes blockOf endsChain blocks blocksRule chainRule run placesFrom places extended extendedAll blocksBytes statusRule programLength kindOf kindRule nameOf chainOf fileKind descriptorRule newDescriptor withChain numbers rangeRule indexRule numbersBytes indexOf without files nameIn placesIn fileHolders holders placed sizeRule descriptorsRule heldTwice verdict lowestFree descriptorChoice dataChoice dataChoices findIn openOf changing adding newLabel formatted createStatus entered creating createOf appending appendOf dataWrites storing storeOf digits decimal unpadded kindWord kindLength diskLine fileLine fileLines listingText fileName named tests ready
+unfolding headerIn contentsIn fileIn catalogue joined labelArea oneBlock packedDescriptor packedDescriptors packedData dataSectors packedSectors packed same holds tableOf caseM over splice allAre withBit sectorOf written nameByte padded nameRule precedes labelRule mapBit count taken bitsRule mapRule byteOf bytesOf mapOf zeroBits freeCount marked markedAll blockBytes blockOf endsChain blocks blocksRule chainRule run placesFrom places extended extendedAll blocksBytes statusRule programLength kindOf kindRule nameOf chainOf fileKind descriptorRule newDescriptor withChain numbers rangeRule indexRule numbersBytes indexOf without files nameIn placesIn fileHolders holders placed sizeRule descriptorsRule heldTwice volumeTests verdict firstOf unlessMet lowestFree descriptorChoice dataChoice dataChoices findIn opening nameTests openOf changing adding newLabel formatted createStatus entered createTests creating createOf longerBlocks appendTests appending appendOf dataWrites newSectors newBlocks storeTests storing storeOf digits decimal unpadded kindWord kindLength diskLine fileLine fileLines listingText fileName named tests ready
 all-pass = refl
 
 pub computed : Passed caseM

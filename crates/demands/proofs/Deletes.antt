@@ -1,6 +1,5 @@
 -- Delete takes one file out: its number leaves sector 1, the bits of its descriptor and places are cleared, and every other sector stands as it stood.
-use mathlib.Core.Path.{_≡_, refl, sym, ap, _∙_}
-use mathlib.Core.Bool.{Bool, true, false, cond}
+use mathlib.Core.Path.{_≡_, sym, ap, _∙_}
 use mathlib.Core.List.{List, [], _∷_, map}
 use Prim.Native.Nat.{ℕ, _+_, _*_, _≤_, _<_}
 use native.Mathlib.Omega.{arith}
@@ -9,20 +8,20 @@ use lib.ListN.{length, getD, length-map}
 use Rattle.rules.specs.Bytes.{byteAt}
 use Rattle.rules.specs.Sectors.{Write, sectorOf, sectorCount, written}
 use Rattle.rules.specs.Map.{mapBit, count, taken, freeCount, markedAll}
-use Rattle.rules.specs.Kind.{isProtected}
-use Rattle.rules.specs.Descriptor.{statusOf, IsDescriptor}
+use Rattle.rules.specs.Descriptor.{IsDescriptor}
 use Rattle.rules.specs.Index.{indexOf, without, IsIndex}
 use Rattle.rules.specs.Volume.{files, nameIn, placesIn, fileHolders, holders, contentsIn, fileIn, catalogue}
 use Rattle.rules.specs.Sound.{Sound}
-use Rattle.rules.specs.Outcome.{write, done, refusal}
-use Rattle.rules.specs.Calls.Delete.{deleting, deleteOf}
+use Rattle.rules.specs.Outcome.{write}
+use Rattle.rules.specs.Opening.{openOf}
+use Rattle.rules.specs.Calls.Delete.{deleteTests, deleting, deleteOf}
 use Rattle.rules.proofs.Sectors.{sector-length}
 use Rattle.rules.proofs.Map.{count-other, count-at}
 use Rattle.rules.proofs.Marking.{all-length, all-label, cleared-holders, all-free}
 use Rattle.rules.proofs.Indexed.{without-length, without-all, without-ascending, Ascending, index-length, index-is-index, left-numbers}
 use Rattle.rules.proofs.Kept.{holders-kept, file-kept, files-kept}
-use Rattle.rules.proofs.Outcome.{opened-is}
-use Rattle.rules.proofs.Changes.{changed-done}
+use Rattle.rules.proofs.Tests.{unless-passed}
+use Rattle.rules.proofs.Opening.{opened-is, open-refused, changed-done}
 use Rattle.rules.proofs.Written.{written-length, Rebuilt, sound-again}
 use Rattle.demands.specs.Catalogue.{takenOut, named, held}
 use Rattle.demands.specs.Call.{delete}
@@ -180,20 +179,11 @@ module _ (image name : List ℕ) (k : ℕ) (is : Sound image) (there : 1 ≤ cou
       (λ j from inside. others-stand image 1 0 index map0 long zeroth-long fits fits0 j (λ e. omega (arith, e)) (λ e. omega (arith, e)) (sector-inside image is j inside))
       name is-named
 
--- number 0: the file is found and not protected
-deleting-done : (image : List ℕ) (k : ℕ) → deleting image k .number ≡ 0 → deleting image k ≡ done (deletion image k)
-unfolding deleting
-deleting-done image k e = go (isProtected (statusOf (sectorOf image k))) e
-  where
-    go : (t : Bool) → cond t (refusal 10) (done (deletion image k)) .number ≡ 0 → cond t (refusal 10) (done (deletion image k)) ≡ done (deletion image k)
-    go true e = absurd (omega (arith, e))
-    go false e = refl
-
 pub deletes : Does delete
-unfolding outcome deleteOf
+unfolding outcome deleteOf deleting
 deletes image name e =
-    let was = changed-done image name (deleting image) e in
-    let opened = opened-is image name (was .place) (was .sector) (was .opened) in
+    let was = changed-done (openOf image name) (deleting image) (open-refused image name) e in
+    let k = was .sector in
+    let opened = opened-is image name (was .place) k (was .found-at) in
     let there = rw (opened .is) at (count-at (files image) (was .place) (opened .inside)) in
-    rw (was .is, deleting-done image (was .sector) (was .number))
-    (after-deletion image name (was .sector) (opened .whole) there (opened .named))
+    rw (was .is, unless-passed (deleteTests image k) (deletion image k) [] (was .number)) (after-deletion image name k (opened .whole) there (opened .named))

@@ -17,7 +17,7 @@ use Rattle.rules.specs.Volume.{files, nameIn, placesIn, fileHolders, holders, h
 use Rattle.rules.specs.Sound.{Sound}
 use Rattle.rules.specs.Calls.Create.{entered}
 use Rattle.rules.specs.Calls.Store.{dataWrites}
-use Rattle.rules.proofs.Outcome.{unfound}
+use Rattle.rules.proofs.Opening.{IsAbsent, unfound}
 use Rattle.rules.proofs.Sectors.{sector-length}
 use Rattle.rules.proofs.Name.{name-is}
 use Rattle.rules.proofs.Map.{count-here, count-more, count-at}
@@ -28,7 +28,6 @@ use Rattle.rules.proofs.Volume.{file-holders-inside}
 use Rattle.rules.proofs.Indexed.{numbers-index, index-is-index, placed-count, placed-length, placed-all, placed-ascending}
 use Rattle.rules.proofs.Kept.{holders-kept, file-kept, files-kept, holders-placed, file-holds, free-unheld}
 use Rattle.rules.proofs.Written.{Rebuilt, sound-again}
-use Rattle.rules.proofs.Changes.{IsAbsent}
 use Rattle.demands.specs.Catalogue.{putIn}
 use Rattle.demands.specs.Effects.{Kept, effect, Done, newHeader, pieces}
 use Rattle.demands.proofs.Listed.{map-is}

@@ -20,6 +20,7 @@ pub mod Stores
 pub mod Deletes
 pub mod Renames
 mod Described
+mod Deciding
 mod Faults
 mod Opening
 pub mod Progress

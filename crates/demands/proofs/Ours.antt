@@ -1,45 +1,41 @@
 -- Our version meets demand 2, all but progress, whose proof is handed in: a refusal changes nothing, a call that was done means what the paper says and leaves the
 -- rest as it stood, and a sound volume stays sound. Each part is proved call by call.
 use mathlib.Core.Path.{_≡_, refl, sym, ap, _∙_}
-use mathlib.Core.Bool.{Bool, true, false, cond}
 use mathlib.Core.List.{List, [], _∷_}
 use Prim.Native.Nat.{ℕ}
 use native.Mathlib.Decide.{ℕ-discrete}
-use lib.Dec.{eqb}
 use lib.ListN.{length}
 use lib.Seq.{take-at}
-use borrow.Author.Tests.{ne-eqb}
 use Rattle.rules.specs.Bytes.{part, splice}
-use Rattle.rules.specs.Sectors.{sectorOf, sectorCount, written}
-use Rattle.rules.specs.Name.{nameRule}
+use Rattle.rules.specs.Sectors.{sectorOf, written}
 use Rattle.rules.specs.Map.{freeCount, mapOf}
-use Rattle.rules.specs.Volume.{files}
-use Rattle.rules.specs.Verdict.{sizeRule, verdict}
+use Rattle.rules.specs.Verdict.{volumeTests, verdict}
 use Rattle.rules.specs.Sound.{Sound}
-use Rattle.rules.specs.Outcome.{Outcome, Reading, answerOf, answerNumber, amountOf, judged}
-use Rattle.rules.specs.Calls.Format.{Geometry, newLabel, formatNumber, afterFormat}
-use Rattle.rules.specs.Calls.Free.{freeCountOf, summaryOf, summaryName}
-use Rattle.rules.specs.Calls.Catalogue.{entryOf, entryAnswer}
-use Rattle.rules.specs.Calls.Read.{readOf}
-use Rattle.rules.specs.Calls.Load.{loadOf}
+use Rattle.rules.specs.Outcome.{Outcome, Report, answerOf, amountOf}
+use Rattle.rules.specs.Opening.{openOf}
+use Rattle.rules.specs.Calls.Format.{Geometry, newLabel, formatted, formatTests, formatNumber, afterFormat}
+use Rattle.rules.specs.Calls.Summary.{freeCountOf, summaryOf, summaryAnswer}
+use Rattle.rules.specs.Calls.Entry.{entryOf}
+use Rattle.rules.specs.Calls.Read.{reading, readOf}
+use Rattle.rules.specs.Calls.Load.{loading, loadOf}
 use Rattle.rules.specs.Calls.Listing.{listingOf}
-use Rattle.rules.specs.Packing.{packNumber}
-use Rattle.rules.specs.declared.Summary.the-variants as summary
+use Rattle.rules.specs.Calls.Pack.{packNumber}
+use Rattle.rules.proofs.Tests.{unless-passed, unless-met}
 use Rattle.rules.proofs.Splice.{splice-none}
 use Rattle.rules.proofs.Name.{name-is}
 use Rattle.rules.proofs.Verdict.{passes}
 use Rattle.rules.proofs.Free.{free-holders}
 use Rattle.rules.proofs.Formatted.{label-length, formatted-sector0}
-use Rattle.rules.proofs.Outcome.{answer-number, amount-number}
+use Rattle.rules.proofs.Outcome.{reported-given}
 use Rattle.demands.specs.Effects.{Kept, Does, Loads}
 use Rattle.demands.specs.Formatting.{EmptyVolume, FormatCall}
 use Rattle.demands.specs.Call as call
-use Rattle.demands.specs.Call.{Form, numberIn, summaryNumber, Look, Change, Call, lent, numberOf, run}
+use Rattle.demands.specs.Call.{Form, answerNumber, numberIn, Look, Change, Call, lent, numberOf, run}
 use Rattle.demands.specs.Ours.{seen, outcome, ours}
 use Rattle.demands.specs.Demand3.{packs}
 use Rattle.demands.specs.Grounds.{First, grounds}
 use Rattle.demands.specs.Demand2.{FreeIs, FreeGiven, Summarized, Shows, Means, Frame, Demand2}
-use Rattle.demands.proofs.Formatting.{passed, format-call}
+use Rattle.demands.proofs.Formatting.{format-passed, format-call}
 use Rattle.demands.proofs.Creates.{creates}
 use Rattle.demands.proofs.Stores.{stores, stored-loads}
 use Rattle.demands.proofs.Appends.{appends}
@@ -47,9 +43,9 @@ use Rattle.demands.proofs.Overwrites.{overwrites}
 use Rattle.demands.proofs.Protects.{protects, unprotects}
 use Rattle.demands.proofs.Deletes.{deletes}
 use Rattle.demands.proofs.Renames.{renames}
-use Rattle.demands.proofs.Refusals.{Writes, Puts, change-writes, entry-puts, read-puts, load-puts, listing-puts}
+use Rattle.demands.proofs.Refusals.{Writes, Puts, reported-puts, on-file-puts, change-writes}
 use Rattle.demands.proofs.Demand3.{packing-demand}
-use Rattle.demands.proofs.Plain.{plain}
+use Rattle.demands.proofs.Plain.{answer-number, amount-number, summary-number, plain}
 use Rattle.demands.proofs.Given.{catalogue-length, entry-bytes, entry-answers, read-is, load-is, listing-is}
 
 -- what a refusal leaves: of the image, and of the buffer lent
@@ -57,35 +53,24 @@ refused-image : (image : List ℕ) (outcome : Outcome) → Writes outcome → (a
 unfolding written
 refused-image image outcome writes some = rw (writes .none (λ z. some (answer-number (outcome .number) ∙ z)))
 
-refused-buffer : (buffer : List ℕ) (reading : Reading) → Puts reading → (reading .number ≡ 0 → ⊥) → splice buffer 0 (reading .bytes) ≡ buffer
-refused-buffer buffer reading puts some = rw (puts .none some) (splice-none buffer 0)
+refused-buffer : (buffer : List ℕ) (report : Report) → Puts report → (report .number ≡ 0 → ⊥) → splice buffer 0 (report .bytes) ≡ buffer
+refused-buffer buffer report puts some = rw (puts .none some) (splice-none buffer 0)
 
 refused-format : (image : List ℕ) (n : ℕ) (name : List ℕ) (g : Geometry) → (answerNumber (answerOf (formatNumber image n name)) ≡ 0 → ⊥) → afterFormat image n name g ≡ image
 unfolding afterFormat
-refused-format image n name g some = rw (ne-eqb (formatNumber image n name) 0 (λ z. some (answer-number (formatNumber image n name) ∙ z)))
-
-refused-summary : (image buffer : List ℕ) → (summaryNumber (summaryOf image) ≡ 0 → ⊥) → splice buffer 0 (summaryName image) ≡ buffer
-unfolding summaryNumber summaryOf summaryName
-refused-summary image buffer some = go (eqb (verdict image) 0) some
-  where
-    go : (t : Bool) → (summaryNumber (cond t (summary.Given (sectorCount image) (length (files image)) (freeCount (sectorOf image 0))) (summary.Refused (verdict image))) ≡ 0 → ⊥)
-        → splice buffer 0 (cond t (part (sectorOf image 0) 0 10) []) ≡ buffer
-    go true some = absurd (some refl)
-    go false some = splice-none buffer 0
+refused-format image n name g some = unless-met (formatTests image n name) _ image (λ z. some (answer-number (formatNumber image n name) ∙ z))
 
 look-refuses : {form : Form} (look : Look form) (buffer image : List ℕ) → (numberIn form (seen look buffer image .answer) ≡ 0 → ⊥) → seen look buffer image .buffer ≡ buffer
-unfolding seen entryAnswer packs
+unfolding seen summaryOf entryOf readOf reading loadOf loading listingOf verdict packs
 look-refuses call.judge buffer image some = splice-none buffer 0
 look-refuses call.freeCount buffer image some = splice-none buffer 0
-look-refuses call.summarize buffer image some = refused-summary image buffer some
-look-refuses (call.entry place) buffer image some =
-    refused-buffer buffer (entryOf image place (length buffer)) (entry-puts image place (length buffer)) (λ z. some (answer-number (entryOf image place (length buffer) .number) ∙ z))
+look-refuses call.summarize buffer image some = refused-buffer buffer (summaryOf image) (reported-puts _ _ _) (λ z. some (summary-number image ∙ z))
+look-refuses (call.entry place) buffer image some = refused-buffer buffer (entryOf image place (length buffer)) (reported-puts _ _ _) (λ z. some (answer-number _ ∙ z))
 look-refuses (call.read name offset) buffer image some =
-    refused-buffer buffer (readOf image name offset (length buffer)) (read-puts image name offset (length buffer)) (λ z. some (answer-number (readOf image name offset (length buffer) .number) ∙ z))
+    refused-buffer buffer (readOf image name offset (length buffer)) (on-file-puts (openOf image name) (reading image offset (length buffer)) (λ k. reported-puts _ _ _)) (λ z. some (answer-number _ ∙ z))
 look-refuses (call.load name) buffer image some =
-    refused-buffer buffer (loadOf image name (length buffer)) (load-puts image name (length buffer)) (λ z. some (amount-number (loadOf image name (length buffer)) ∙ z))
-look-refuses call.list buffer image some =
-    refused-buffer buffer (listingOf image (length buffer)) (listing-puts image (length buffer)) (λ z. some (amount-number (listingOf image (length buffer)) ∙ z))
+    refused-buffer buffer (loadOf image name (length buffer)) (on-file-puts (openOf image name) (loading image (length buffer)) (λ k. reported-puts _ _ _)) (λ z. some (amount-number _ ∙ z))
+look-refuses call.list buffer image some = refused-buffer buffer (listingOf image (length buffer)) (reported-puts _ _ _) (λ z. some (amount-number _ ∙ z))
 look-refuses call.pack buffer image some = packing-demand .refuses image buffer (λ z. some (answer-number (packNumber image buffer) ∙ z))
 
 pub refuses : (c : Call) (image : List ℕ) → (numberOf ours c image ≡ 0 → ⊥) → (ours c image .image ≡ image) × (ours c image .buffer ≡ lent c)
@@ -97,10 +82,12 @@ refuses (call.format n name geometry) image some = (refused-format image n name 
 -- what a call that was done means: formatting, whatever the image was
 format-means : (image : List ℕ) (n : ℕ) (name : List ℕ) (g : Geometry) → formatNumber image n name ≡ 0
     → EmptyVolume (afterFormat image n name g) × (part (sectorOf (afterFormat image n name g) 0) 0 56 ≡ newLabel n name g)
-unfolding FormatCall afterFormat formatNumber
+unfolding FormatCall afterFormat
 format-means image n name g e =
-    let ten = name-is name (passed (sizeRule image) (eqb n (sectorCount image)) (nameRule name) e .2) .ten in
-    (format-call image n name g e, rw (e, formatted-sector0 n name g ten) (take-at (newLabel n name g) (mapOf n (0 ∷ (1 ∷ []))) 56 (label-length n name g ten)))
+    let ten = name-is name (format-passed image n name e .2) .ten in (
+      format-call image n name g e,
+      rw (unless-passed (formatTests image n name) (formatted n name g) image e, formatted-sector0 n name g ten) (take-at (newLabel n name g) (mapOf n (0 ∷ (1 ∷ []))) 56 (label-length n name g ten)),
+    )
 
 pub formats : (n : ℕ) (name : List ℕ) (geometry : Geometry) (image : List ℕ) →
     let c = call.format n name geometry in
@@ -113,17 +100,21 @@ free-is : (image : List ℕ) → Sound image → FreeIs image (freeCount (sector
 free-is image is = record { is = free-holders image is }
 
 free-means : (image : List ℕ) → Sound image → FreeGiven image (amountOf (freeCountOf image))
-unfolding amountOf freeCountOf judged
-free-means image is = record { free = freeCount (sectorOf image 0); is = rw (passes image is); count = free-is image is }
+unfolding amountOf freeCountOf verdict
+free-means image is =
+    record { free = freeCount (sectorOf image 0); is = ap amountOf (reported-given (volumeTests image) (freeCount (sectorOf image 0)) [] (passes image is)); count = free-is image is }
 
-summary-means : (image buffer : List ℕ) → Sound image → Summarized image (summaryOf image) × (splice buffer 0 (summaryName image) ≡ splice buffer 0 (part (sectorOf image 0) 0 10))
-unfolding summaryOf summaryName
-summary-means image buffer is =
-    (record { free = freeCount (sectorOf image 0); is = rw (passes image is, catalogue-length image); count = free-is image is }, rw (passes image is))
+summary-means : (image buffer : List ℕ) → Sound image
+    → Summarized image (summaryAnswer image) × (splice buffer 0 (summaryOf image .bytes) ≡ splice buffer 0 (part (sectorOf image 0) 0 10))
+unfolding summaryAnswer summaryOf verdict
+summary-means image buffer is = (
+  record { free = freeCount (sectorOf image 0); is = unless-passed (volumeTests image) _ _ (passes image is) ∙ rw (catalogue-length image); count = free-is image is },
+  rw (unless-passed (volumeTests image) (part (sectorOf image 0) 0 10) [] (passes image is)),
+)
 
 shows : {form : Form} (look : Look form) (buffer image : List ℕ) → Sound image → numberIn form (seen look buffer image .answer) ≡ 0
     → Shows look buffer image (record { answer = seen look buffer image .answer; buffer = seen look buffer image .buffer; image = image })
-unfolding seen Shows packs entryAnswer amountOf
+unfolding seen Shows packs amountOf
 shows call.judge buffer image is e = tt
 shows call.freeCount buffer image is e = free-means image is
 shows call.summarize buffer image is e = summary-means image buffer is
@@ -134,10 +125,10 @@ shows (call.read name offset) buffer image is e =
     ap (splice buffer 0) (read-is image name offset (length buffer) (sym (answer-number (readOf image name offset (length buffer) .number)) ∙ e))
 shows (call.load name) buffer image is e =
     let loaded = load-is image name (length buffer) (sym (amount-number (loadOf image name (length buffer))) ∙ e) in
-    (ap amountOf loaded, ap (λ (r : Reading). splice buffer 0 (r .bytes)) loaded)
+    (ap amountOf loaded, ap (λ (r : Report). splice buffer 0 (r .bytes)) loaded)
 shows call.list buffer image is e =
-    let listed = listing-is image (length buffer) is (sym (amount-number (listingOf image (length buffer))) ∙ e) in
-    (ap amountOf listed, ap (λ (r : Reading). splice buffer 0 (r .bytes)) listed)
+    let listed = listing-is image (length buffer) (sym (amount-number (listingOf image (length buffer))) ∙ e) in
+    (ap amountOf listed, ap (λ (r : Report). splice buffer 0 (r .bytes)) listed)
 shows call.pack buffer image is e =
     let can = packing-demand .done image buffer .0 (sym (answer-number (packNumber image buffer)) ∙ e) in
     (packing-demand .sound image buffer can, packing-demand .label image buffer can, packing-demand .listed image buffer can)

@@ -1,24 +1,24 @@
 -- Overwrite: the sector written is a place of the file and stands there once, so the descriptor and the other contents stay.
-use mathlib.Core.Path.{_≡_, refl, sym, ap, _∙_}
-use mathlib.Core.Bool.{Bool, true, false, cond}
+use mathlib.Core.Path.{_≡_, sym, ap, _∙_}
 use mathlib.Core.List.{List, [], _∷_, map}
 use Prim.Native.Nat.{ℕ, _*_, _≤_, _<_}
 use native.Mathlib.Omega.{arith}
-use lib.Dec.{eqb, ltb}
 use lib.ListN.{length, getD, set}
-use borrow.Author.Tests.{eqb-true, ltb-true}
+use borrow.Author.Tests.{not-false, eqb-true, leb-false}
 use Rattle.rules.specs.Bytes.{splice}
-use Rattle.rules.specs.Sectors.{Write, sectorOf, sectorCount, written}
+use Rattle.rules.specs.Sectors.{sectorOf, sectorCount, written}
 use Rattle.rules.specs.Map.{count}
-use Rattle.rules.specs.Kind.{isProgram, isProtected}
-use Rattle.rules.specs.Descriptor.{nameOf, statusOf, sectorsOf}
+use Rattle.rules.specs.Descriptor.{nameOf, sectorsOf}
 use Rattle.rules.specs.Volume.{nameIn, placesIn, headerIn, contentsIn, fileIn, catalogue}
-use Rattle.rules.specs.Outcome.{write, done, refusal}
-use Rattle.rules.specs.Calls.Overwrite.{overwriting, overwriteOf}
+use Rattle.rules.specs.Outcome.{write, done}
+use Rattle.rules.specs.Tests.{Passed}
+use Rattle.rules.specs.Opening.{openOf}
+use Rattle.rules.specs.Calls.Overwrite.{overwriteTests, overwriting, overwriteOf}
 use Rattle.rules.proofs.Map.{count-here, count-more, count-at}
 use Rattle.rules.proofs.Volume.{places-count}
-use Rattle.rules.proofs.Outcome.{IsOpened, opened-is}
-use Rattle.rules.proofs.Changes.{changed-done}
+use Rattle.rules.proofs.Tests.{all-passed}
+use Rattle.rules.proofs.Outcome.{tested-done}
+use Rattle.rules.proofs.Opening.{IsOpened, opened-is, open-refused, changed-done}
 use Rattle.rules.proofs.Kept.{places-kept}
 use Rattle.demands.specs.Catalogue.{changed}
 use Rattle.demands.specs.Call.{overwrite}
@@ -26,22 +26,16 @@ use Rattle.demands.specs.Ours.{outcome}
 use Rattle.demands.specs.Effects.{effect, Done, overwritten, Does}
 use Rattle.demands.proofs.Changing.{map-changed, altered-done, own-once, own-inside, own-here, own-other, own-altered}
 
--- the tests, where the number is 0
-passed : (t u v w : Bool) (writes : List Write) → cond t (refusal 10) (cond u (refusal 14) (cond v (cond w (done writes) (refusal 15)) (refusal 15))) .number ≡ 0
-    → (v ≡ true) × (w ≡ true) × (cond t (refusal 10) (cond u (refusal 14) (cond v (cond w (done writes) (refusal 15)) (refusal 15))) ≡ done writes)
-passed true u v w writes e = absurd (omega arith)
-passed false true v w writes e = absurd (omega arith)
-passed false false true true writes e = (refl, refl, refl)
-passed false false true false writes e = absurd (omega arith)
-passed false false false w writes e = absurd (omega arith)
-
+-- number 0: which tests were passed
 over-facts : (image bytes : List ℕ) (offset k : ℕ) → overwriting image offset bytes k .number ≡ 0
     → (offset < sectorsOf (sectorOf image k)) × (length bytes ≡ 256) × (overwriting image offset bytes k ≡ done (write (getD (placesIn image k) offset 0) bytes ∷ []))
-unfolding overwriting
+unfolding overwriting overwriteTests Passed
 over-facts image bytes offset k e =
-    let d = sectorOf image k in
-    let all = passed (isProtected (statusOf d)) (isProgram (statusOf d)) (ltb offset (sectorsOf d)) (eqb (length bytes) 256) (write (getD (placesIn image k) offset 0) bytes ∷ []) e in
-    (ltb-true offset (sectorsOf d) (all .0), eqb-true (length bytes) 256 (all .1), all .2)
+    let passed = all-passed (overwriteTests image offset bytes k) e in (
+      leb-false (sectorsOf (sectorOf image k)) offset (passed .1 .1 .0),
+      eqb-true (length bytes) 256 (not-false _ (passed .1 .1 .1 .0)),
+      tested-done (overwriteTests image offset bytes k) _ e,
+    )
 
 -- the call on the file at sector k
 module _ (image name : List ℕ) (p k : ℕ) (o : IsOpened image name p k) (offset : ℕ) (bytes : List ℕ) (inside : offset < sectorsOf (sectorOf image k)) (long : length bytes ≡ 256) where
@@ -91,6 +85,6 @@ module _ (image name : List ℕ) (p k : ℕ) (o : IsOpened image name p k) (offs
 pub overwrites : (offset : ℕ) (bytes : List ℕ) → Does (overwrite offset bytes)
 unfolding outcome overwriteOf written
 overwrites offset bytes image name e =
-    let c = changed-done image name (overwriting image offset bytes) e in
+    let c = changed-done (openOf image name) (overwriting image offset bytes) (open-refused image name) e in
     let all = over-facts image bytes offset (c .sector) (c .number) in
-    rw (c .is, all .2) (overwritten-done image name (c .place) (c .sector) (opened-is image name (c .place) (c .sector) (c .opened)) offset bytes (all .0) (all .1))
+    rw (c .is, all .2) (overwritten-done image name (c .place) (c .sector) (opened-is image name (c .place) (c .sector) (c .found-at)) offset bytes (all .0) (all .1))

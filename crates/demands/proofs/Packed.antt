@@ -15,7 +15,7 @@ use Rattle.rules.specs.Kind.{kindOf, IsStatus, IsKind}
 use Rattle.rules.specs.Descriptor.{nameOf, sectorsOf, chainOf, fileKind, IsDescriptor}
 use Rattle.rules.specs.Volume.{File, placesIn, fileHolders, headerIn, contentsIn, fileIn}
 use Rattle.rules.specs.Calls.Load.{joined}
-use Rattle.rules.specs.Packing.{oneBlock, packedDescriptor, packedDescriptors, packedData, dataSectors}
+use Rattle.rules.specs.Calls.Pack.{oneBlock, packedDescriptor, packedDescriptors, packedData, dataSectors}
 use Rattle.rules.specs.declared.Block.{Block}
 use Rattle.rules.proofs.Map.{count-append}
 use Rattle.rules.proofs.Extended.{chainWith, chain-with-length, chain-with-past, blocks-over, linked-writable}

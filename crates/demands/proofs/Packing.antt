@@ -14,7 +14,7 @@ use Rattle.rules.specs.Descriptor.{fileKind, IsDescriptor}
 use Rattle.rules.specs.Index.{indexOf, IsIndex}
 use Rattle.rules.specs.Volume.{File, files, nameIn, placesIn, fileHolders, headerIn, contentsIn, fileIn, catalogue}
 use Rattle.rules.specs.Sound.{Sound}
-use Rattle.rules.specs.Packing.{labelArea, packedDescriptors, packedData, dataSectors, packedSectors, packed}
+use Rattle.rules.specs.Calls.Pack.{labelArea, packedDescriptors, packedData, dataSectors, packedSectors, packed}
 use Rattle.rules.proofs.Bytes.{part-at}
 use Rattle.rules.proofs.Sectors.{sector-length}
 use Rattle.rules.proofs.Map.{count-none, count-here, count-other, count-append, map-of-bits}

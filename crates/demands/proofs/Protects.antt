@@ -12,12 +12,11 @@ use Rattle.rules.specs.Chain.{places}
 use Rattle.rules.specs.Kind.{kindOf, IsStatus}
 use Rattle.rules.specs.Descriptor.{nameOf, statusOf, sectorsOf, chainOf, fileKind, IsDescriptor}
 use Rattle.rules.specs.Volume.{nameIn, placesIn, headerIn, contentsIn, fileIn, catalogue}
-use Rattle.rules.specs.Outcome.{openOf, changing}
-use Rattle.rules.specs.Calls.Protect.{protecting, protectOf, unprotectOf}
+use Rattle.rules.specs.Opening.{openOf}
+use Rattle.rules.specs.Calls.Protect.{settingBit, setBitOf}
 use Rattle.rules.proofs.Map.{count-here, count-more}
 use Rattle.rules.proofs.Marking.{with-bit-same, with-bit-other}
-use Rattle.rules.proofs.Outcome.{IsOpened, opened-is}
-use Rattle.rules.proofs.Changes.{changed-done}
+use Rattle.rules.proofs.Opening.{IsOpened, opened-is, open-refused, changed-done}
 use Rattle.rules.proofs.Kept.{map-agree}
 use Rattle.demands.specs.Catalogue.{changed}
 use Rattle.demands.specs.Call.{protect, unprotect}
@@ -138,17 +137,17 @@ module _ (bit : ℕ) (small : bit ≤ 1) where
         (own-altered image name p k o k new new-long own (rw descriptor-now (rules-kept (sectorOf image k) (o .long) (sectorCount image) (o .descriptor))) name-now places-now)
         (withProtection bit) file-now
 
-  protection-done : (image name : List ℕ) → changing (openOf image name) (protecting bit image) .number ≡ 0
-      → Done image (written image (changing (openOf image name) (protecting bit image) .writes)) name (effect (changed name (withProtection bit) (catalogue image)) 0 0)
-  unfolding protecting written
+  protection-done : (image name : List ℕ) → setBitOf 3 bit image name .number ≡ 0
+      → Done image (written image (setBitOf 3 bit image name .writes)) name (effect (changed name (withProtection bit) (catalogue image)) 0 0)
+  unfolding setBitOf settingBit written
   protection-done image name e =
-      let c = changed-done image name (protecting bit image) e in
-      rw (c .is) (protected-done image name (c .place) (c .sector) (opened-is image name (c .place) (c .sector) (c .opened)))
+      let c = changed-done (openOf image name) (settingBit 3 bit image) (open-refused image name) e in
+      rw (c .is) (protected-done image name (c .place) (c .sector) (opened-is image name (c .place) (c .sector) (c .found-at)))
 
 pub protects : Does protect
-unfolding outcome protectOf
+unfolding outcome
 protects image name e = protection-done 1 (omega arith) image name e
 
 pub unprotects : Does unprotect
-unfolding outcome unprotectOf
+unfolding outcome
 unprotects image name e = protection-done 0 (omega arith) image name e

@@ -1,29 +1,28 @@
 -- Rename changes one name: the ten bytes in that file's descriptor, and the place of its number in sector 1. The new name is no file's, so the names ascend again;
 -- the chain stands as it stood, so the holders are the same and the map needs no change.
 use mathlib.Core.Path.{_≡_, refl, sym, ap, _∙_}
-use mathlib.Core.Bool.{Bool, true, false, cond, _&&_}
+use mathlib.Core.Bool.{true, not}
 use mathlib.Core.List.{List, [], _∷_, map}
 use Prim.Native.Nat.{ℕ, zero, suc, _+_, _*_, _≤_, _<_}
 use native.Mathlib.Omega.{arith}
-use native.Mathlib.Decide.{decLt}
-use lib.Dec.{eqb}
+use native.Mathlib.Decide.{decLt, ℕ-discrete}
 use lib.ListN.{length, take, getD}
 use lib.Seq.{ext-getD}
-use borrow.Author.Tests.{eqb-false}
+use borrow.Author.Tests.{not-false}
 use Rattle.rules.specs.Bytes.{byteAt, part, over, splice}
 use Rattle.rules.specs.Sectors.{Write, sectorOf, sectorCount, written}
 use Rattle.rules.specs.Name.{nameRule, IsName}
 use Rattle.rules.specs.Map.{count, taken}
-use Rattle.rules.specs.Kind.{isProtected}
 use Rattle.rules.specs.Chain.{places}
-use Rattle.rules.specs.Descriptor.{nameOf, statusOf, sectorsOf, chainOf, fileKind, IsDescriptor}
+use Rattle.rules.specs.Descriptor.{nameOf, sectorsOf, chainOf, fileKind, IsDescriptor}
 use Rattle.rules.specs.Index.{indexOf, without, IsIndex}
 use Rattle.rules.specs.Volume.{files, nameIn, placesIn, fileHolders, holders, placed, headerIn, contentsIn, fileIn, catalogue}
-use Rattle.rules.specs.Verdict.{verdict}
 use Rattle.rules.specs.Sound.{Sound}
-use Rattle.rules.specs.Outcome.{Outcome, write, done, refusal, findIn, openOf, changing, adding}
-use Rattle.rules.specs.Calls.Rename.{renaming, renameOf}
-use Rattle.rules.proofs.Tests.{both}
+use Rattle.rules.specs.Tests.{refuse, firstOf, unlessMet, Passed}
+use Rattle.rules.specs.Outcome.{write, tested}
+use Rattle.rules.specs.Opening.{findIn, opening, nameTests, changing}
+use Rattle.rules.specs.Calls.Rename.{renameTests, renaming, namesTests, renameOf}
+use Rattle.rules.proofs.Tests.{all-passed, none-met, passed-both, unless-passed}
 use Rattle.rules.proofs.Bytes.{part-length, part-at}
 use Rattle.rules.proofs.Splice.{splice-length, splice-front, splice-above}
 use Rattle.rules.proofs.Sectors.{sector-length}
@@ -31,8 +30,7 @@ use Rattle.rules.proofs.Name.{name-is}
 use Rattle.rules.proofs.Map.{count-more, count-at, taken-below, taken-past}
 use Rattle.rules.proofs.Indexed.{placed-count, without-length, placed-length, without-all, placed-all, without-ascending, placed-ascending, Ascending, index-length, numbers-index, index-is-index}
 use Rattle.rules.proofs.Kept.{holders-kept, holders-placed, file-kept, files-kept, map-agree}
-use Rattle.rules.proofs.Outcome.{opened-is, unfound}
-use Rattle.rules.proofs.Changes.{changed-done, added-done}
+use Rattle.rules.proofs.Opening.{name-passed, opening-met, opened-by, refused-by, unfound, changed-done, added-done}
 use Rattle.rules.proofs.Written.{written-length, Rebuilt, sound-again}
 use Rattle.demands.specs.Catalogue.{putIn, takenOut, named}
 use Rattle.demands.specs.Call.{rename}
@@ -240,7 +238,7 @@ module _ (image after new : List ℕ) (k : ℕ) (is : Sound image) (there : 1 �
         }
 
 -- the writes, and their sectors
-abbrev renamings : List ℕ → List ℕ → ℕ → List Write
+abbrev pub renamings : List ℕ → List ℕ → ℕ → List Write
 renamings image new k = write k (splice (sectorOf image k) 0 new) ∷ (write 1 (indexOf (placed image new k (without k (files image)))) ∷ [])
 
 module _ (image old new : List ℕ) (k : ℕ) (is : Sound image) (there : 1 ≤ count k (files image)) (is-named : old ≡ nameIn image k) (is-name : IsName new)
@@ -260,50 +258,32 @@ module _ (image old new : List ℕ) (k : ℕ) (is : Sound image) (there : 1 ≤ 
       (λ j other apart inside. others-stand image k 1 descriptor index long long1 fits fits1 j other apart (sector-inside image is j inside))
       old is-named
 
--- number 0: both names keep the rule, the old one is found and the new one is not, and the file is not protected
-open-is : (image name : List ℕ) → eqb (verdict image) 0 ≡ true → nameRule name ≡ true → findIn image name 0 (files image) ≡ openOf image name
-unfolding openOf
-open-is image name sound rule = rw (sound, rule)
+-- numbers 1 to 7 passed: a sound volume, and both names keep the rule
+pub names-passed : (image old new : List ℕ) → firstOf (namesTests image old new) ≡ 0 → (Sound image × (nameRule old ≡ true)) × (nameRule new ≡ true)
+unfolding namesTests Passed
+names-passed image old new e =
+    let passed = passed-both (nameTests image old) (refuse 7 (not (nameRule new)) ∷ []) (all-passed (namesTests image old new) e) in
+    (name-passed image old (none-met (nameTests image old) (passed .0)), not-false (nameRule new) (passed .1 .0))
 
--- what is left to test once the new name was not found
-unprotected : (image new : List ℕ) (k : ℕ) → Outcome
-unprotected image new k = cond (isProtected (statusOf (sectorOf image k))) (refusal 10) (done (renamings image new k))
-
-unprotected-done : (image new : List ℕ) (k : ℕ) → unprotected image new k .number ≡ 0 → unprotected image new k ≡ done (renamings image new k)
-unfolding unprotected
-unprotected-done image new k e = go (isProtected (statusOf (sectorOf image k))) e
-  where
-    go : (t : Bool) → cond t (refusal 10) (done (renamings image new k)) .number ≡ 0 → cond t (refusal 10) (done (renamings image new k)) ≡ done (renamings image new k)
-    go true e = absurd (omega (arith, e))
-    go false e = refl
-
-module _ (image : List ℕ) (sound : eqb (verdict image) 0 ≡ true) (old new : List ℕ) (old-rule : nameRule old ≡ true) (new-rule : nameRule new ≡ true) where
-  renaming-is : (k : ℕ) → renaming image new k ≡ adding (openOf image new) (unprotected image new k)
-  unfolding renaming unprotected
-  renaming-is k = rw (open-is image new sound new-rule)
-
-  ruled-done : changing (findIn image old 0 (files image)) (renaming image new) .number ≡ 0
-      → Done image (written image (changing (findIn image old 0 (files image)) (renaming image new) .writes)) old
-      (effect (putIn (renamed new (named old (catalogue image))) (takenOut old (catalogue image))) 0 0)
-  ruled-done e =
-      let found = open-is image old sound old-rule in
-      let was = changed-done image old (renaming image new) (rw found at e) in
-      let k = was .sector in
-      let opened = opened-is image old (was .place) k (was .opened) in
-      let there = rw (opened .is) at (count-at (files image) (was .place) (opened .inside)) in
-      let added = added-done image new (unprotected image new k) (rw (renaming-is k) at (was .number)) in
-      let done-is = unprotected-done image new k (added .number) in
-      rw (found, was .is, renaming-is k, added .is, done-is)
-      (after-renaming image old new k (opened .whole) there (opened .named) (name-is new new-rule) (unfound image new 0 (files image) (added .absent .absent)))
+-- number 0: the old name is found and the new one is not, and the file is not protected
+ruled-done : (image old new : List ℕ) → firstOf (namesTests image old new) ≡ 0 → renameOf image old new .number ≡ 0
+    → Done image (written image (renameOf image old new .writes)) old (effect (putIn (renamed new (named old (catalogue image))) (takenOut old (catalogue image))) 0 0)
+unfolding renameOf renaming opening unlessMet firstOf
+ruled-done image old new ruled-by e =
+    let tests = namesTests image old new in
+    let ruled = names-passed image old new ruled-by in
+    let was = changed-done (opening tests image old) (renaming image new) (λ number found. refused-by tests image old number found .1) e in
+    let k = was .sector in
+    let opened = opened-by tests image old (λ z. ruled .0) (was .place) k (was .found-at) in
+    let there = rw (opened .is) at (count-at (files image) (was .place) (opened .inside)) in
+    let added = added-done (findIn image new 0 (files image)) (tested (renameTests image k) (renamings image new k)) (λ number found. refused-by [] image new number found .1) (was .number) in
+    rw (was .is, added .is, unless-passed (renameTests image k) (renamings image new k) [] (added .number))
+    (after-renaming image old new k (opened .whole) there (opened .named) (name-is new (ruled .1)) (unfound image new 0 (files image) (added .absent)))
 
 pub renames : (new : List ℕ) → Does (rename new)
-unfolding outcome renameOf
-renames new image old e = go (eqb (verdict image) 0) (nameRule old && nameRule new) refl refl e
-  where
-    go : (t u : Bool) → eqb (verdict image) 0 ≡ t → (nameRule old && nameRule new) ≡ u
-        → cond t (cond u (changing (findIn image old 0 (files image)) (renaming image new)) (refusal 7)) (refusal (verdict image)) .number ≡ 0
-        → Done image (written image (cond t (cond u (changing (findIn image old 0 (files image)) (renaming image new)) (refusal 7)) (refusal (verdict image)) .writes)) old
-        (effect (putIn (renamed new (named old (catalogue image))) (takenOut old (catalogue image))) 0 0)
-    go true true sound rules e = let each = both (nameRule old) (nameRule new) rules in ruled-done image sound old new (each .0) (each .1) e
-    go true false sound rules e = absurd (omega (arith, e))
-    go false u sound rules e = absurd (eqb-false (verdict image) 0 sound e)
+unfolding outcome renameOf changing
+renames new image old e =
+    elim (ℕ-discrete (firstOf (namesTests image old new)) 0) [
+      | yes none ↦ ruled-done image old new none e
+      | no some ↦ absurd (some (rw (opening-met (namesTests image old new) image old some) at e))
+    ]

@@ -1,6 +1,6 @@
 -- Demand 2 shuts out the wrong versions that the paper names. First what it asks of any version on three calls: create and the free count on a volume just formatted,
 -- and an append on case M's volume; then each wrong version departs from one of these.
-use mathlib.Core.Path.{_≡_, refl, ap, _∙_}
+use mathlib.Core.Path.{_≡_, refl, sym, ap, _∙_}
 use mathlib.Core.Bool.{true}
 use mathlib.Core.List.{List, [], _∷_, _++_, map}
 use mathlib.Core.Logic.{_⊎_, inl, inr}
@@ -13,7 +13,8 @@ use Rattle.rules.specs.Name.{nameByte, padded, nameRule}
 use Rattle.rules.specs.Map.{count, freeCount, marked}
 use Rattle.rules.specs.Volume.{files, fileHolders, holders, fileIn, catalogue}
 use Rattle.rules.specs.Sound.{Sound}
-use Rattle.rules.specs.Outcome.{gives, answerNumber, judged}
+use Rattle.rules.specs.Verdict.{volumeTests, verdict}
+use Rattle.rules.specs.Outcome.{amountOf}
 use Rattle.rules.specs.Calls.Format.{formatted}
 use Rattle.rules.specs.Calls.Append.{appendOf}
 use Rattle.rules.specs.declared.Amount.the-variants as amount
@@ -21,10 +22,10 @@ use Rattle.rules.proofs.Name.{name-is}
 use Rattle.rules.proofs.Verdict.{sound, passes}
 use Rattle.rules.proofs.Free.{free-holders}
 use Rattle.rules.proofs.Formatted.{formatted-length}
-use Rattle.rules.proofs.Outcome.{answer-number, amount-value}
+use Rattle.rules.proofs.Outcome.{reported-given}
 use Rattle.demands.specs.Catalogue.{named}
 use Rattle.demands.specs.Call as call
-use Rattle.demands.specs.Call.{Call, Version, numberOf}
+use Rattle.demands.specs.Call.{Call, Version, answerNumber, numberOf}
 use Rattle.demands.specs.Ours.{outcome, ours}
 use Rattle.demands.specs.Grounds.{Ground, First, faults, lookGrounds, changeGrounds, grounds}
 use Rattle.demands.specs.CaseM.{notes, caseM}
@@ -33,6 +34,7 @@ use Rattle.demands.specs.Formatting.{EmptyVolume, Formatting}
 use Rattle.demands.specs.Demand2.{FreeIs, Shows, Means, Demand2}
 use Rattle.demands.specs.Wrong.{fixed, refusesAlways, answersSame, doesNothing, invented, inventsFree, marksFirst}
 use Rattle.demands.proofs.Formatting.{formatting}
+use Rattle.demands.proofs.Plain.{answer-number}
 use Rattle.demands.proofs.Computed.{secondSector, computed}
 
 -- a ground that is not there is passed, and one that is there gives its number
@@ -164,12 +166,13 @@ does-nothing all = create-marks doesNothing all (volume 64) new-64 refl
 
 -- the same number for two volumes of unequal size
 invents : (free : ℕ) → Demand2 (inventsFree free) → (n : ℕ) → 3 ≤ n → n ≤ 1600 → free + 2 ≡ n
-unfolding inventsFree invented judged
+unfolding inventsFree invented amountOf verdict
 invents free all n large small =
     let new = new-volume n large small in
-    let given = rw (passes (volume n) (new .sound)) at (counts-free (inventsFree free) all (volume n) new) in
+    let done = ap amountOf (reported-given (volumeTests (volume n)) free [] (passes (volume n) (new .sound))) in
+    let given : amount.Given free ≡ amount.Given (sectorCount (volume n) - 2) = sym done ∙ counts-free (inventsFree free) all (volume n) new in
     let count : sectorCount (volume n) ≡ n = rw (formatted-length n diskX geometry refl (omega arith)) (omega arith) in
-    let value = amount-value (gives free []) _ given .1 in
+    let value : free ≡ sectorCount (volume n) - 2 = cc in
     omega (arith, value, count)
 
 pub invents-free : (free : ℕ) → Demand2 (inventsFree free) → ⊥

@@ -6,7 +6,7 @@ use lib.ListN.{length, replicate, getD}
 use Rattle.rules.specs.Bytes.{byteAt, part}
 use Rattle.rules.specs.Chain.{blockBytes}
 use Rattle.rules.specs.Sectors.{sectorOf, sectorCount}
-use Rattle.rules.specs.Packing.{labelArea, packed}
+use Rattle.rules.specs.Calls.Pack.{labelArea, packed}
 use Rattle.rules.specs.Map.{freeCount}
 use Rattle.rules.specs.Descriptor.{sectorsOf}
 use Rattle.rules.specs.Volume.{files, nameIn, placesIn, catalogue}

@@ -3,7 +3,6 @@
 use mathlib.Core.Path.{_≡_}
 use mathlib.Core.List.{List, [], _∷_}
 use Prim.Native.Nat.{ℕ}
-use Rattle.rules.specs.Outcome.{answerNumber, amountNumber}
 use Rattle.rules.specs.Calls.Format.{Geometry}
 use Rattle.rules.specs.declared.Answer.{Answer}
 use Rattle.rules.specs.declared.Amount.{Amount}
@@ -28,11 +27,19 @@ Given amount = Amount
 Given summary = Summary
 Given row = Entry
 
+-- the paper's number of an answer, case by case
+unfoldable pub answerNumber : Answer → ℕ
+answerNumber answers.Done = 0
+answerNumber (answers.Refused refused) = refused
+
+unfoldable pub amountNumber : Amount → ℕ
+amountNumber (amounts.Given value) = 0
+amountNumber (amounts.Refused refused) = refused
+
 unfoldable pub summaryNumber : Summary → ℕ
 summaryNumber (summaries.Given sectors listed free) = 0
 summaryNumber (summaries.Refused refused) = refused
 
--- the paper's number of an answer
 abbrev pub numberIn : (form : Form) → Given form → ℕ
 numberIn number given = given
 numberIn answer given = answerNumber given

@@ -7,11 +7,11 @@ use Rattle.rules.specs.Bytes.{part, splice}
 use Rattle.rules.specs.Sectors.{sectorOf, sectorCount}
 use Rattle.rules.specs.Volume.{holders, catalogue}
 use Rattle.rules.specs.Sound.{Sound}
-use Rattle.rules.specs.Calls.Catalogue.{rowOf}
+use Rattle.rules.specs.Calls.Entry.{rowOf}
 use Rattle.rules.specs.Calls.Format.{Geometry, newLabel}
 use Rattle.rules.specs.Calls.Load.{joined}
 use Rattle.rules.specs.Calls.Listing.{listingText}
-use Rattle.rules.specs.Packing.{labelArea}
+use Rattle.rules.specs.Calls.Pack.{labelArea}
 use Rattle.rules.specs.declared.Amount.{Amount}
 use Rattle.rules.specs.declared.Amount.the-variants as amount
 use Rattle.rules.specs.declared.Answer.the-variants as answer

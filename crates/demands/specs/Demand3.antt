@@ -7,7 +7,7 @@ use lib.ListN.{length}
 use Rattle.rules.specs.Volume.{catalogue}
 use Rattle.rules.specs.Verdict.{verdict}
 use Rattle.rules.specs.Sound.{Sound}
-use Rattle.rules.specs.Packing.{labelArea, packNumber, afterPack}
+use Rattle.rules.specs.Calls.Pack.{labelArea, packNumber, afterPack}
 
 -- what packing answers, and the whole target afterwards
 pub record Packed : Type 0 where

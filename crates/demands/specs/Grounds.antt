@@ -8,14 +8,13 @@ use Rattle.rules.specs.Bytes.{bitOf}
 use Rattle.rules.specs.Sectors.{sectorOf, sectorCount}
 use Rattle.rules.specs.Name.{IsName, Before}
 use Rattle.rules.specs.Label.{IsLabel}
-use Rattle.rules.specs.Map.{mapBit, count, freeCount, marked}
-use Rattle.rules.specs.Chain.{blocks, extended, extendedAll}
-use Rattle.rules.specs.Descriptor.{statusOf, sectorsOf, chainOf, IsDescriptor}
+use Rattle.rules.specs.Map.{mapBit, count, freeCount}
+use Rattle.rules.specs.Descriptor.{statusOf, sectorsOf, IsDescriptor}
 use Rattle.rules.specs.Index.{IsIndex}
 use Rattle.rules.specs.Volume.{files, nameIn, holders}
 use Rattle.rules.specs.Sound.{fileAt}
-use Rattle.rules.specs.Choice.{descriptorChoice, dataChoice, dataChoices}
-use Rattle.rules.specs.Calls.Store.{sectorsFor}
+use Rattle.rules.specs.Calls.Store.{sectorsFor, newBlocks}
+use Rattle.rules.specs.Calls.Append.{longerBlocks}
 use Rattle.rules.specs.Calls.Load.{lengthIn}
 use Rattle.rules.specs.Calls.Listing.{listingText}
 use Rattle.demands.specs.Call as call
@@ -70,18 +69,11 @@ abbrev pub Present : List ℕ → List ℕ → Type 0
 Present image name = Has image name (λ k. Unit {0})
 
 -- of the file whose descriptor is in sector k
-abbrev isProtected : List ℕ → ℕ → Type 0
+abbrev pub isProtected : List ℕ → ℕ → Type 0
 isProtected image k = bitOf (statusOf (sectorOf image k)) 3 ≡ 1
 
 abbrev isProgram : List ℕ → ℕ → Type 0
 isProgram image k = bitOf (statusOf (sectorOf image k)) 0 ≡ 1
-
--- the blocks with one sector more, and those of a program of so many sectors
-abbrev longerBlocks : List ℕ → ℕ → ℕ
-longerBlocks image k = length (extended 0 (blocks (chainOf (sectorOf image k))) (dataChoice (sectorOf image 0)))
-
-abbrev newBlocks : List ℕ → ℕ → ℕ
-newBlocks image many = length (extendedAll [] (dataChoices many (marked 1 (sectorOf image 0) (descriptorChoice (sectorOf image 0)))))
 
 pub record CreateStatus (status : ℕ) : Type 0 where
   pub among : (status ≡ 0) ⊎ ((status ≡ 0x02) ⊎ ((status ≡ 0x80) ⊎ (status ≡ 0x82)))
@@ -112,7 +104,7 @@ changeGrounds (call.append bytes) image name =
     ground 8 (Present image name → ⊥)
     ∷ (ground 10 (Has image name (isProtected image))
     ∷ (ground 14 (Has image name (isProgram image))
-    ∷ (ground 15 (length bytes ≡ 256 → ⊥) ∷ (ground 12 (freeCount (sectorOf image 0) < 1) ∷ (ground 13 (Has image name (λ k. 76 < longerBlocks image k)) ∷ [])))))
+    ∷ (ground 15 (length bytes ≡ 256 → ⊥) ∷ (ground 12 (freeCount (sectorOf image 0) < 1) ∷ (ground 13 (Has image name (λ k. 76 < length (longerBlocks image k))) ∷ [])))))
 changeGrounds (call.overwrite offset bytes) image name =
     ground 8 (Present image name → ⊥)
     ∷ (ground 10 (Has image name (isProtected image))
@@ -124,7 +116,7 @@ changeGrounds (call.store bytes) image name =
     ground 9 (Present image name)
     ∷ (ground 15 (32768 < length bytes)
     ∷ (ground 11 (127 ≤ length (files image))
-    ∷ (ground 12 (freeCount (sectorOf image 0) < 1 + sectorsFor (length bytes)) ∷ (ground 13 (76 < newBlocks image (sectorsFor (length bytes))) ∷ []))))
+    ∷ (ground 12 (freeCount (sectorOf image 0) < 1 + sectorsFor (length bytes)) ∷ (ground 13 (76 < length (newBlocks image (sectorsFor (length bytes)))) ∷ []))))
 changeGrounds call.delete image name = ground 8 (Present image name → ⊥) ∷ (ground 10 (Has image name (isProtected image)) ∷ [])
 changeGrounds (call.rename new) image name =
     ground 7 (IsName new → ⊥)

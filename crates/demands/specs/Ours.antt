@@ -7,8 +7,8 @@ use Rattle.rules.specs.Sectors.{written}
 use Rattle.rules.specs.Verdict.{verdict}
 use Rattle.rules.specs.Outcome.{Outcome, answerOf, amountOf}
 use Rattle.rules.specs.Calls.Format.{formatNumber, afterFormat}
-use Rattle.rules.specs.Calls.Free.{freeCountOf, summaryOf, summaryName}
-use Rattle.rules.specs.Calls.Catalogue.{entryOf, entryAnswer}
+use Rattle.rules.specs.Calls.Summary.{freeCountOf, summaryOf, summaryAnswer}
+use Rattle.rules.specs.Calls.Entry.{entryOf, entryRow}
 use Rattle.rules.specs.Calls.Read.{readOf}
 use Rattle.rules.specs.Calls.Load.{loadOf}
 use Rattle.rules.specs.Calls.Listing.{listingOf}
@@ -19,7 +19,7 @@ use Rattle.rules.specs.Calls.Protect.{protectOf, unprotectOf}
 use Rattle.rules.specs.Calls.Store.{storeOf}
 use Rattle.rules.specs.Calls.Delete.{deleteOf}
 use Rattle.rules.specs.Calls.Rename.{renameOf}
-use Rattle.rules.specs.Packing.{packNumber, afterPack}
+use Rattle.rules.specs.Calls.Pack.{packNumber, afterPack}
 use Rattle.demands.specs.Call as call
 use Rattle.demands.specs.Call.{Form, Given, Look, Change, Version}
 
@@ -34,8 +34,9 @@ putting answer bytes buffer = record { answer = answer; buffer = splice buffer 0
 unfoldable pub seen : {form : Form} → Look form → (buffer image : List ℕ) → Seen form
 seen call.judge buffer image = putting (verdict image) [] buffer
 seen call.freeCount buffer image = putting (amountOf (freeCountOf image)) [] buffer
-seen call.summarize buffer image = putting (summaryOf image) (summaryName image) buffer
-seen (call.entry place) buffer image = putting (entryAnswer image place (length buffer)) (entryOf image place (length buffer) .bytes) buffer
+seen call.summarize buffer image = putting (summaryAnswer image) (summaryOf image .bytes) buffer
+seen (call.entry place) buffer image =
+    putting (record { answer = answerOf (entryOf image place (length buffer) .number); row = entryRow image place (length buffer) }) (entryOf image place (length buffer) .bytes) buffer
 seen (call.read name offset) buffer image =
     putting (answerOf (readOf image name offset (length buffer) .number)) (readOf image name offset (length buffer) .bytes) buffer
 seen (call.load name) buffer image = putting (amountOf (loadOf image name (length buffer))) (loadOf image name (length buffer) .bytes) buffer

@@ -11,7 +11,7 @@ use Rattle.rules.specs.Map.{freeCount}
 use Rattle.rules.specs.Volume.{File, catalogue, holders}
 use Rattle.rules.specs.Sound.{Sound}
 use Rattle.rules.specs.Outcome.{gives}
-use Rattle.rules.specs.Calls.Catalogue.{entryOf}
+use Rattle.rules.specs.Calls.Entry.{entryOf}
 use Rattle.rules.specs.Calls.Read.{readOf}
 use Rattle.rules.specs.Calls.Load.{joined, loadOf}
 

@@ -6,8 +6,9 @@ use Prim.Native.Nat.{ℕ}
 use lib.Dec.{eqb}
 use lib.ListN.{length}
 use Rattle.rules.specs.Volume.{catalogue}
-use Rattle.rules.specs.Outcome.{gives, judged, amountOf}
-use Rattle.rules.specs.Calls.Catalogue.{noRow}
+use Rattle.rules.specs.Outcome.{reported, amountOf}
+use Rattle.rules.specs.Verdict.{volumeTests}
+use Rattle.rules.specs.Calls.Entry.{noRow}
 use Rattle.rules.specs.declared.Answer.{Answer}
 use Rattle.rules.specs.declared.Amount.{Amount}
 use Rattle.rules.specs.declared.Summary.{Summary}
@@ -44,7 +45,7 @@ doesNothing c image = record { answer = ours c image .answer; buffer = lent c; i
 -- an unsound image is refused as we refuse it, but the free count of a sound volume is the number `free`, whatever the volume
 unfoldable pub invented : ℕ → {form : Form} → Look form → (buffer image : List ℕ) → Seen form
 invented free call.judge buffer image = seen call.judge buffer image
-invented free call.freeCount buffer image = record { answer = amountOf (judged image (gives free [])); buffer = buffer }
+invented free call.freeCount buffer image = record { answer = amountOf (reported (volumeTests image) free []); buffer = buffer }
 invented free call.summarize buffer image = seen call.summarize buffer image
 invented free (call.entry place) buffer image = seen (call.entry place) buffer image
 invented free (call.read name offset) buffer image = seen (call.read name offset) buffer image

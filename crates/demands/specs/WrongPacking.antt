@@ -6,7 +6,7 @@ use lib.Dec.{eqb}
 use lib.ListN.{take, drop}
 use Rattle.rules.specs.Sectors.{sectorCount}
 use Rattle.rules.specs.Volume.{catalogue}
-use Rattle.rules.specs.Packing.{labelArea, packedSectors, packed, packNumber}
+use Rattle.rules.specs.Calls.Pack.{labelArea, packedSectors, packed, packNumber}
 use Rattle.demands.specs.Demand3.{Packing, Demand3}
 
 -- packing that makes `form source` of a source that it does not refuse
