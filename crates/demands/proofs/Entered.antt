@@ -15,7 +15,7 @@ use Rattle.rules.specs.Calls.Store.{dataWrites}
 use Rattle.rules.proofs.Splice.{splice-length}
 use Rattle.rules.proofs.Map.{count-here, count-more}
 use Rattle.rules.proofs.Indexed.{index-length}
-use Rattle.rules.proofs.Written.{sector-same, sector-other, Whole, Apart, written-length, written-both, written-apart}
+use Rattle.rules.proofs.Written.{sector-same, Whole, Apart, written-length, written-both, written-apart, written-at}
 use Rattle.demands.specs.Effects.{pieces}
 
 -- a sector of the data
@@ -49,8 +49,7 @@ data-read image after bytes (k ∷ ks) once inside still =
     let later : (j : ℕ) → 1 ≤ count j ks → 256 * j + 256 ≤ length laid = λ j h. rw size (inside j (omega (arith, h, count-more j k ks))) in
     let first =
     still k (omega (arith, count-here k ks))
-    ∙ written-apart laid (dataWrites (drop 256 bytes) ks) k (data-whole (length laid) (drop 256 bytes) ks later)
-    (data-apart (drop 256 bytes) ks k (omega (arith, once k, count-here k ks))) (rw size here)
+    ∙ written-apart laid (dataWrites (drop 256 bytes) ks) k (data-whole (length laid) (drop 256 bytes) ks later) (data-apart (drop 256 bytes) ks k (omega (arith, once k, count-here k ks)))
     ∙ sector-same image k piece (piece-length bytes) here
     in
     let more =
@@ -58,95 +57,64 @@ data-read image after bytes (k ∷ ks) once inside still =
     in
     rw (first, more)
 
--- a descriptor in sector k, and sectors 0 and 1
-module _ (image : List ℕ) (k : ℕ) (descriptor sector0 sector1 : List ℕ) (high : 2 ≤ k) (inside : 256 * k + 256 ≤ length image)
-    (long : length descriptor ≡ 256) (long0 : length sector0 ≡ 256) (long1 : length sector1 ≡ 256) where
-  abbrev three : List Write
-  three = write k descriptor ∷ (write 0 sector0 ∷ (write 1 sector1 ∷ []))
-
-  three-apart : (j : ℕ) → (j ≡ k → ⊥) → 2 ≤ j → 256 * j + 256 ≤ length image → sectorOf (written image three) j ≡ sectorOf image j
-  unfolding Whole Apart
-  three-apart j other two there =
-      written-apart image three j
-      (long, inside, (long0, omega (arith, inside), (long1, omega (arith, inside, high), tt)))
-      (other, ((λ e. omega (arith, e, two)), ((λ e. omega (arith, e, two)), tt))) there
-
-  -- each of the three is written once, and the later ones leave it
-  abbrev first : List ℕ
-  first = splice image (256 * k) descriptor
-
-  abbrev second : List ℕ
-  second = splice first (256 * 0) sector0
-
-  first-size : length first ≡ length image
-  first-size = splice-length image (256 * k) descriptor
-
-  second-size : length second ≡ length image
-  second-size = splice-length first (256 * 0) sector0 ∙ first-size
-
-  three-descriptor : sectorOf (written image three) k ≡ descriptor
-  unfolding written
-  three-descriptor =
-      sector-other second 1 sector1 long1 (omega (arith, second-size, inside, high)) k (λ e. omega (arith, e, high)) (rw second-size inside)
-      ∙ sector-other first 0 sector0 long0 (omega (arith, first-size, inside)) k (λ e. omega (arith, e, high)) (rw first-size inside)
-      ∙ sector-same image k descriptor long inside
-
-  three-map : sectorOf (written image three) 0 ≡ sector0
-  unfolding written
-  three-map =
-      sector-other second 1 sector1 long1 (omega (arith, second-size, inside, high)) 0 (λ e. omega (arith, e)) (omega (arith, second-size, inside))
-      ∙ sector-same first 0 sector0 long0 (omega (arith, first-size, inside))
-
-  three-index : sectorOf (written image three) 1 ≡ sector1
-  unfolding written
-  three-index = sector-same second 1 sector1 long1 (omega (arith, second-size, inside, high))
-
 pub record Entered (image after name bytes : List ℕ) (k : ℕ) (ks descriptor sector0 : List ℕ) : Type 0 where
   pub size : length after ≡ length image
   pub descriptor-is : sectorOf after k ≡ descriptor
   pub map-is : sectorOf after 0 ≡ sector0
   pub index-is : sectorOf after 1 ≡ indexOf (placed image name k (files image))
   pub data-are : map (sectorOf after) ks ≡ pieces (length ks) bytes
-  pub others : (j : ℕ) → 2 ≤ j → 256 * j + 256 ≤ length image → count j (k ∷ ks) ≡ 0 → sectorOf after j ≡ sectorOf image j
+  pub others : (j : ℕ) → 2 ≤ j → count j (k ∷ ks) ≡ 0 → sectorOf after j ≡ sectorOf image j
 
 module _ (image name bytes : List ℕ) (k : ℕ) (ks descriptor sector0 : List ℕ) (once : (j : ℕ) → count j (k ∷ ks) ≤ 1)
     (inside : (j : ℕ) → 1 ≤ count j (k ∷ ks) → (2 ≤ j) × (256 * j + 256 ≤ length image)) (long : length descriptor ≡ 256) (long0 : length sector0 ≡ 256) where
   abbrev laid : List ℕ
   laid = written image (dataWrites bytes ks)
 
-  abbrev sector1 : List ℕ
-  sector1 = indexOf (placed image name k (files image))
+  abbrev first : Write
+  first = write k descriptor
 
-  laid-size : length laid ≡ length image
-  laid-size = written-length image (dataWrites bytes ks)
+  abbrev second : Write
+  second = write 0 sector0
 
-  here : (2 ≤ k) × (256 * k + 256 ≤ length laid)
-  here = let i = inside k (omega (arith, count-here k ks)) in (i .0, rw laid-size (i .1))
+  abbrev third : Write
+  third = write 1 (indexOf (placed image name k (files image)))
+
+  abbrev after : List ℕ
+  after = written laid (first ∷ (second ∷ (third ∷ [])))
+
+  high : 2 ≤ k
+  high = inside k (omega (arith, count-here k ks)) .0
 
   data-inside : (j : ℕ) → 1 ≤ count j ks → (2 ≤ j) × (256 * j + 256 ≤ length image)
   data-inside j h = inside j (omega (arith, h, count-more j k ks))
 
-  data-other : (j : ℕ) → 1 ≤ count j ks → j ≡ k → ⊥
-  data-other j h e = omega (arith, once k, count-here k ks, rw e at h)
+  whole : Whole (length laid) (first ∷ (second ∷ (third ∷ [])))
+  unfolding Whole
+  whole =
+      let fits = inside k (omega (arith, count-here k ks)) .1 in
+      let size = written-length image (dataWrites bytes ks) in
+      (long, omega (arith, fits, size), (long0, omega (arith, fits, size), (index-length (placed image name k (files image)), omega (arith, fits, size, high), tt)))
 
-  entered-both : Entered image (written laid (entered image name k descriptor sector0)) name bytes k ks descriptor sector0
-  unfolding entered
+  others-stand : (j : ℕ) → (j ≡ k → ⊥) → 2 ≤ j → sectorOf after j ≡ sectorOf laid j
+  unfolding Apart
+  others-stand j other two = written-apart laid (first ∷ (second ∷ (third ∷ []))) j whole (other, ((λ e. omega (arith, e, two)), ((λ e. omega (arith, e, two)), tt)))
+
+  entered-both : Entered image after name bytes k ks descriptor sector0
+  unfolding Apart
   entered-both =
-      let long1 = index-length (placed image name k (files image)) in
-      let stays = three-apart laid k descriptor sector0 sector1 (here .0) (here .1) long long0 long1 in
       record {
-        size = written-length laid (three laid k descriptor sector0 sector1 (here .0) (here .1) long long0 long1) ∙ laid-size;
-        descriptor-is = three-descriptor laid k descriptor sector0 sector1 (here .0) (here .1) long long0 long1;
-        map-is = three-map laid k descriptor sector0 sector1 (here .0) (here .1) long long0 long1;
-        index-is = three-index laid k descriptor sector0 sector1 (here .0) (here .1) long long0 long1;
+        size = written-length laid (first ∷ (second ∷ (third ∷ []))) ∙ written-length image (dataWrites bytes ks);
+        descriptor-is = written-at laid [] first (second ∷ (third ∷ [])) whole ((λ e. omega (arith, e, high)), ((λ e. omega (arith, e, high)), tt));
+        map-is = written-at laid (first ∷ []) second (third ∷ []) whole ((λ e. omega (arith, e)), tt);
+        index-is = written-at laid (first ∷ (second ∷ [])) third [] whole tt;
         data-are =
-            data-read image _ bytes ks (λ j. omega (arith, once j, count-more j k ks)) (λ j h. data-inside j h .1)
-            (λ j h. stays j (data-other j h) (data-inside j h .0) (rw laid-size (data-inside j h .1)));
-        others = λ j two there none.
-            stays j (λ e. omega (arith, count-here k ks, rw e at none)) two (rw laid-size there)
-            ∙ written-apart image (dataWrites bytes ks) j (data-whole (length image) bytes ks (λ i h. data-inside i h .1))
-            (data-apart bytes ks j (omega (arith, none, count-more j k ks))) there;
+            data-read image after bytes ks (λ j. omega (arith, once j, count-more j k ks)) (λ j h. data-inside j h .1)
+            (λ j h. others-stand j (λ e. omega (arith, once k, count-here k ks, rw e at h)) (data-inside j h .0));
+        others = λ j two none.
+            others-stand j (λ e. omega (arith, count-here k ks, rw e at none)) two
+            ∙ written-apart image (dataWrites bytes ks) j (data-whole (length image) bytes ks (λ i h. data-inside i h .1)) (data-apart bytes ks j (omega (arith, none, count-more j k ks)));
       }
 
   pub entered-is : Entered image (written image (dataWrites bytes ks ++ entered image name k descriptor sector0)) name bytes k ks descriptor sector0
-  entered-is = rw (← written-both image (dataWrites bytes ks) (entered image name k descriptor sector0)) entered-both
+  unfolding entered
+  entered-is = rw (← written-both image (dataWrites bytes ks) (first ∷ (second ∷ (third ∷ [])))) entered-both

@@ -23,14 +23,13 @@ use Rattle.rules.specs.declared.Answer.the-variants.{Done}
 use Rattle.rules.specs.declared.Opened.{Opened}
 use Rattle.rules.specs.declared.Opened.the-variants.{At, Absent, Refused}
 use Rattle.rules.proofs.Tests.{all-passed, passed-both, unless-passed}
-use Rattle.rules.proofs.Map.{count-at}
 use Rattle.rules.proofs.Outcome.{reported-given}
 use Rattle.rules.proofs.Opening.{IsOpened, opened-is, open-refused}
 use Rattle.demands.specs.Catalogue.{named}
 use Rattle.demands.specs.Reading.{fileOf, lengthIs}
 use Rattle.demands.proofs.Reading.{header-at, header-name, length-in, content-at, file-of}
-use Rattle.demands.proofs.TakingOut.{named-is}
-use Rattle.demands.proofs.Listed.{listed-name}
+use Rattle.demands.proofs.TakingOut.{named-file}
+use Rattle.rules.proofs.Listed.{opened-listed}
 
 -- the header holds what a row shows
 header-row : (image : List ℕ) (k : ℕ) → rowOf (headerIn image k) ≡ rowOf (sectorOf image k)
@@ -83,10 +82,7 @@ read-done image name reading = go (openOf image name) refl
 
 -- it is the file that the catalogue has under that name
 opened-named : (image name : List ℕ) (p k : ℕ) → IsOpened image name p k → named name (catalogue image) ≡ fileIn image k
-unfolding catalogue
-opened-named image name p k o =
-    let there = rw (o .is) at (count-at (files image) p (o .inside)) in
-    named-is image name k (o .named) (files image) there (λ j listed. listed-name image (o .whole) j k listed there)
+opened-named image name p k o = named-file image name k (o .whole) (opened-listed image name p k o) (o .named)
 
 pub read-is : (image name : List ℕ) (offset room : ℕ) → readOf image name offset room .number ≡ 0
     → readOf image name offset room .bytes ≡ getD (named name (catalogue image) .contents) offset []

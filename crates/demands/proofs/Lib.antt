@@ -3,11 +3,9 @@ mod Computed
 pub mod Bench
 pub mod Formatting
 pub mod Reading
-mod Listed
 mod TakingOut
 mod Putting
-mod TwoWrites
-mod Changing
+mod Replacing
 pub mod Protects
 pub mod Overwrites
 pub mod Appends

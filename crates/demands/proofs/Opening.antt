@@ -15,17 +15,16 @@ use Rattle.rules.specs.Opening.{findIn, opening, nameTests}
 use Rattle.rules.specs.declared.Opened.{Opened}
 use Rattle.rules.specs.declared.Opened.the-variants.{At, Absent, Refused}
 use Rattle.rules.proofs.Name.{name-is, is-name}
-use Rattle.rules.proofs.Map.{count-at}
 use Rattle.rules.proofs.Opening.{IsOpened, opening-passed, opening-met, opened-by, refused-by, unfound}
 use Rattle.demands.specs.Grounds.{Ground, First, faults, Has, Present}
-use Rattle.demands.proofs.Listed.{listed-name}
+use Rattle.rules.proofs.Listed.{listed-name, opened-listed}
 use Rattle.demands.proofs.Deciding.{Decides, Decide, first-after, decide-both, broken}
 use Rattle.demands.proofs.Faults.{faults-decided}
 
 -- what holds of the file that was found
 module _ (image name : List ℕ) (p k : ℕ) (o : IsOpened image name p k) (holds : ℕ → Type 0) where
-  listed : 1 ≤ count k (files image)
-  listed = rw (o .is) at (count-at (files image) p (o .inside))
+  abbrev listed : 1 ≤ count k (files image)
+  listed = opened-listed image name p k o
 
   found-has : holds k → Has image name holds
   found-has so = record { sector = k; listed = listed; named = sym (o .named); so = so }

@@ -9,22 +9,25 @@ use Rattle.rules.specs.Bytes.{splice}
 use Rattle.rules.specs.Sectors.{sectorOf, sectorCount, written}
 use Rattle.rules.specs.Map.{count}
 use Rattle.rules.specs.Descriptor.{nameOf, sectorsOf}
-use Rattle.rules.specs.Volume.{nameIn, placesIn, headerIn, contentsIn, fileIn, catalogue}
+use Rattle.rules.specs.Volume.{files, nameIn, placesIn, headerIn, contentsIn, fileIn, catalogue}
 use Rattle.rules.specs.Outcome.{write, done}
 use Rattle.rules.specs.Tests.{Passed}
 use Rattle.rules.specs.Opening.{openOf}
 use Rattle.rules.specs.Calls.Overwrite.{overwriteTests, overwriting, overwriteOf}
-use Rattle.rules.proofs.Map.{count-here, count-more, count-at}
+use Rattle.rules.proofs.Map.{count-more, count-at}
 use Rattle.rules.proofs.Volume.{places-count}
 use Rattle.rules.proofs.Tests.{all-passed}
 use Rattle.rules.proofs.Outcome.{tested-done}
 use Rattle.rules.proofs.Opening.{IsOpened, opened-is, open-refused, changed-done}
-use Rattle.rules.proofs.Kept.{places-kept}
+use Rattle.rules.proofs.Kept.{places-kept, map-changed}
+use Rattle.rules.proofs.Written.{sector-other}
+use Rattle.rules.proofs.Listed.{opened-listed}
+use Rattle.rules.proofs.Replaced.{own-once, place-other, own-here, own-altered}
 use Rattle.demands.specs.Catalogue.{changed}
 use Rattle.demands.specs.Call.{overwrite}
 use Rattle.demands.specs.Ours.{outcome}
 use Rattle.demands.specs.Effects.{effect, Done, overwritten, Does}
-use Rattle.demands.proofs.Changing.{map-changed, altered-done, own-once, own-inside, own-here, own-other, own-altered}
+use Rattle.demands.proofs.Replacing.{altered-done}
 
 -- number 0: which tests were passed
 over-facts : (image bytes : List ℕ) (offset k : ℕ) → overwriting image offset bytes k .number ≡ 0
@@ -45,6 +48,9 @@ module _ (image name : List ℕ) (p k : ℕ) (o : IsOpened image name p k) (offs
   abbrev after : List ℕ
   after = splice image (256 * getD (placesIn image k) offset 0) bytes
 
+  abbrev there : 1 ≤ count k (files image)
+  there = opened-listed image name p k o
+
   offset-low : offset < length (placesIn image k)
   offset-low = omega (arith, inside, places-count (sectorCount image) image k (o .descriptor))
 
@@ -55,32 +61,26 @@ module _ (image name : List ℕ) (p k : ℕ) (o : IsOpened image name p k) (offs
   own = omega (arith, placed-there, count-more at k (placesIn image k))
 
   descriptor-kept : sectorOf after k ≡ sectorOf image k
-  descriptor-kept =
-      own-other image name p k o at bytes long own k (o .low)
-      (λ e. omega (arith, own-once image name p k o at, placed-there, ap (λ (j : ℕ). count at (j ∷ placesIn image k)) e, count-here at (placesIn image k)))
+  descriptor-kept = sector-other image at bytes long k (λ e. place-other image k (o .whole) there at placed-there (sym e))
 
   contents-now : contentsIn after k ≡ set (contentsIn image k) offset bytes
   unfolding contentsIn
   contents-now =
       ap (map (sectorOf after)) (places-kept image after k descriptor-kept)
       ∙ map-changed (sectorOf image) (sectorOf after) (placesIn image k) offset offset-low
-      (omega (arith, own-once image name p k o at, count-more at k (placesIn image k)))
-      (λ j some other. own-other image name p k o at bytes long own j (own-inside image name p k o j (omega (arith, some, count-more j k (placesIn image k))) .1) other)
-      ∙ ap (set (map (sectorOf image) (placesIn image k)) offset) (own-here image name p k o at bytes long own)
+      (omega (arith, own-once image k (o .whole) there at, count-more at k (placesIn image k))) (λ j some other. sector-other image at bytes long j other)
+      ∙ ap (set (map (sectorOf image) (placesIn image k)) offset) (own-here image k (o .whole) there at bytes long own)
 
   file-now : overwritten offset bytes (fileIn image k) ≡ fileIn after k
   unfolding overwritten fileIn headerIn
   file-now = rw (contents-now, descriptor-kept)
 
-  name-now : nameIn after k ≡ name
-  unfolding nameIn
-  name-now = ap nameOf descriptor-kept ∙ sym (o .named)
-
   overwritten-done : Done image after name (effect (changed name (overwritten offset bytes) (catalogue image)) 0 0)
+  unfolding nameIn
   overwritten-done =
-      altered-done image after name p k []
-      (own-altered image name p k o at bytes long own (rw descriptor-kept (o .descriptor)) name-now (places-kept image after k descriptor-kept))
-      (overwritten offset bytes) file-now
+      altered-done image after name k []
+      (own-altered image k (o .whole) there at bytes long own (rw descriptor-kept (o .descriptor)) (ap nameOf descriptor-kept) (places-kept image after k descriptor-kept))
+      (o .named) (overwritten offset bytes) file-now
 
 pub overwrites : (offset : ℕ) (bytes : List ℕ) → Does (overwrite offset bytes)
 unfolding outcome overwriteOf written

@@ -1,6 +1,6 @@
 -- Protect and unprotect, one law over the bit: the descriptor with its 08 bit changed keeps its rules, since the other bits of the status, the name and the chain stay.
-use mathlib.Core.Path.{_≡_, refl, sym, ap, _∙_}
-use mathlib.Core.List.{List, [], _∷_, map}
+use mathlib.Core.Path.{_≡_, refl, ap, _∙_}
+use mathlib.Core.List.{List, [], _∷_}
 use Prim.Native.Nat.{ℕ, _+_, _-_, _*_, _≤_}
 use native.Mathlib.Omega.{arith}
 use lib.ListN.{length, set, take, length-set}
@@ -11,10 +11,10 @@ use Rattle.rules.specs.Map.{count}
 use Rattle.rules.specs.Chain.{places}
 use Rattle.rules.specs.Kind.{kindOf, IsStatus}
 use Rattle.rules.specs.Descriptor.{nameOf, statusOf, sectorsOf, chainOf, fileKind, IsDescriptor}
-use Rattle.rules.specs.Volume.{nameIn, placesIn, headerIn, contentsIn, fileIn, catalogue}
+use Rattle.rules.specs.Volume.{files, nameIn, placesIn, headerIn, contentsIn, fileIn, catalogue}
 use Rattle.rules.specs.Opening.{openOf}
 use Rattle.rules.specs.Calls.Protect.{settingBit, setBitOf}
-use Rattle.rules.proofs.Map.{count-here, count-more}
+use Rattle.rules.proofs.Map.{count-here}
 use Rattle.rules.proofs.Marking.{with-bit-same, with-bit-other}
 use Rattle.rules.proofs.Opening.{IsOpened, opened-is, open-refused, changed-done}
 use Rattle.rules.proofs.Kept.{map-agree}
@@ -22,7 +22,10 @@ use Rattle.demands.specs.Catalogue.{changed}
 use Rattle.demands.specs.Call.{protect, unprotect}
 use Rattle.demands.specs.Ours.{outcome}
 use Rattle.demands.specs.Effects.{effect, Done, withProtection, Does}
-use Rattle.demands.proofs.Changing.{altered-done, own-once, own-inside, own-here, own-other, own-altered}
+use Rattle.rules.proofs.Written.{sector-other}
+use Rattle.rules.proofs.Listed.{opened-listed}
+use Rattle.rules.proofs.Replaced.{place-other, own-here, own-altered}
+use Rattle.demands.proofs.Replacing.{altered-done}
 
 -- a status with that bit changed
 module _ (bit : ℕ) (small : bit ≤ 1) where
@@ -85,13 +88,16 @@ module _ (bit : ℕ) (small : bit ≤ 1) where
           chain = rw (chain-kept, sectors-kept) (is .chain);
         }
 
-  -- the call on the file at sector k
+  -- the call on the file at sector k: its descriptor is none of its places, so the contents stay
   module _ (image name : List ℕ) (p k : ℕ) (o : IsOpened image name p k) where
     abbrev new : List ℕ
     new = changed-descriptor (sectorOf image k) (o .long)
 
     abbrev after : List ℕ
     after = splice image (256 * k) new
+
+    abbrev there : 1 ≤ count k (files image)
+    there = opened-listed image name p k o
 
     new-long : length new ≡ 256
     new-long = length-set (sectorOf image k) 12 (withBit (statusOf (sectorOf image k)) 3 bit) ∙ o .long
@@ -100,42 +106,27 @@ module _ (bit : ℕ) (small : bit ≤ 1) where
     own = omega (arith, count-here k (placesIn image k))
 
     descriptor-now : sectorOf after k ≡ new
-    descriptor-now = own-here image name p k o k new new-long own
-
-    name-now : nameIn after k ≡ name
-    unfolding nameIn
-    name-now = ap nameOf descriptor-now ∙ name-kept (sectorOf image k) (o .long) ∙ sym (o .named)
+    descriptor-now = own-here image k (o .whole) there k new new-long own
 
     places-now : placesIn after k ≡ placesIn image k
     unfolding placesIn
     places-now = ap (λ (d : List ℕ). places (chainOf d)) descriptor-now ∙ ap places (chain-kept (sectorOf image k) (o .long))
 
-    header-now : headerIn after k ≡ set (headerIn image k) 12 (withBit (byteAt (headerIn image k) 12) 3 bit)
-    unfolding headerIn
-    header-now =
-        ap (take 28) descriptor-now
-        ∙ rw (getD-take 28 (sectorOf image k) 12 0 (omega arith)) (take-set-lt 28 (sectorOf image k) 12 (withBit (statusOf (sectorOf image k)) 3 bit) (omega arith))
-
-    -- the descriptor is none of its places
-    contents-now : contentsIn after k ≡ contentsIn image k
-    unfolding contentsIn
-    contents-now =
-        ap (map (sectorOf after)) places-now
-        ∙ map-agree (sectorOf after) (sectorOf image) (placesIn image k)
-        (λ j h.
-        let inside = own-inside image name p k o j (omega (arith, h, count-more j k (placesIn image k))) in
-        own-other image name p k o k new new-long own j (inside .1)
-        (λ e. omega (arith, rw e at h, own-once image name p k o k, count-here k (placesIn image k))))
-
     file-now : withProtection bit (fileIn image k) ≡ fileIn after k
-    unfolding withProtection fileIn
-    file-now = rw (header-now, contents-now)
+    unfolding withProtection fileIn headerIn contentsIn
+    file-now =
+        let header = getD-take 28 (sectorOf image k) 12 0 (omega arith) in
+        let front = take-set-lt 28 (sectorOf image k) 12 (withBit (statusOf (sectorOf image k)) 3 bit) (omega arith) in
+        let contents = map-agree (sectorOf after) (sectorOf image) (placesIn image k) (λ j h. sector-other image k new new-long j (place-other image k (o .whole) there j h)) in
+        rw (header, places-now, contents, descriptor-now, front)
 
     protected-done : Done image after name (effect (changed name (withProtection bit) (catalogue image)) 0 0)
+    unfolding nameIn
     protected-done =
-        altered-done image after name p k []
-        (own-altered image name p k o k new new-long own (rw descriptor-now (rules-kept (sectorOf image k) (o .long) (sectorCount image) (o .descriptor))) name-now places-now)
-        (withProtection bit) file-now
+        altered-done image after name k []
+        (own-altered image k (o .whole) there k new new-long own (rw descriptor-now (rules-kept (sectorOf image k) (o .long) (sectorCount image) (o .descriptor)))
+        (ap nameOf descriptor-now ∙ name-kept (sectorOf image k) (o .long)) places-now)
+        (o .named) (withProtection bit) file-now
 
   protection-done : (image name : List ℕ) → setBitOf 3 bit image name .number ≡ 0
       → Done image (written image (setBitOf 3 bit image name .writes)) name (effect (changed name (withProtection bit) (catalogue image)) 0 0)

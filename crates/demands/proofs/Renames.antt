@@ -1,72 +1,58 @@
--- Rename changes one name: the ten bytes in that file's descriptor, and the place of its number in sector 1. The new name is no file's, so the names ascend again;
--- the chain stands as it stood, so the holders are the same and the map needs no change.
-use mathlib.Core.Path.{_≡_, refl, sym, ap, _∙_}
+-- Rename: the file goes and comes under another name. That changes ten bytes in its descriptor and the place of its number in sector 1; the new name is no file's, so the names ascend
+-- again, and the chain stands as it stood, so the holders are the same and the map needs no change.
+use mathlib.Core.Path.{_≡_, refl, ap, _∙_}
 use mathlib.Core.Bool.{true, not}
-use mathlib.Core.List.{List, [], _∷_, map}
-use Prim.Native.Nat.{ℕ, zero, suc, _+_, _*_, _≤_, _<_}
+use mathlib.Core.List.{List, [], _∷_}
+use Prim.Native.Nat.{ℕ, _+_, _≤_, _<_}
 use native.Mathlib.Omega.{arith}
-use native.Mathlib.Decide.{decLt, ℕ-discrete}
-use lib.ListN.{length, take, getD}
-use lib.Seq.{ext-getD}
+use native.Mathlib.Decide.{ℕ-discrete}
+use lib.ListN.{length}
 use borrow.Author.Tests.{not-false}
-use Rattle.rules.specs.Bytes.{byteAt, part, over, splice}
+use Rattle.rules.specs.Bytes.{byteAt, splice}
 use Rattle.rules.specs.Sectors.{Write, sectorOf, sectorCount, written}
 use Rattle.rules.specs.Name.{nameRule, IsName}
-use Rattle.rules.specs.Map.{count, taken}
+use Rattle.rules.specs.Map.{count, markedAll}
 use Rattle.rules.specs.Chain.{places}
 use Rattle.rules.specs.Descriptor.{nameOf, sectorsOf, chainOf, fileKind, IsDescriptor}
-use Rattle.rules.specs.Index.{indexOf, without, IsIndex}
-use Rattle.rules.specs.Volume.{files, nameIn, placesIn, fileHolders, holders, placed, headerIn, contentsIn, fileIn, catalogue}
+use Rattle.rules.specs.Index.{indexOf, without}
+use Rattle.rules.specs.Volume.{files, nameIn, placesIn, placed, headerIn, contentsIn, fileIn, catalogue}
 use Rattle.rules.specs.Sound.{Sound}
 use Rattle.rules.specs.Tests.{refuse, firstOf, unlessMet, Passed}
 use Rattle.rules.specs.Outcome.{write, tested}
 use Rattle.rules.specs.Opening.{findIn, opening, nameTests, changing}
 use Rattle.rules.specs.Calls.Rename.{renameTests, renaming, namesTests, renameOf}
 use Rattle.rules.proofs.Tests.{all-passed, none-met, passed-both, unless-passed}
-use Rattle.rules.proofs.Bytes.{part-length, part-at}
-use Rattle.rules.proofs.Splice.{splice-length, splice-front, splice-above}
+use Rattle.rules.proofs.Bytes.{part-same}
+use Rattle.rules.proofs.Splice.{splice-length, splice-front, splice-take, splice-above}
 use Rattle.rules.proofs.Sectors.{sector-length}
 use Rattle.rules.proofs.Name.{name-is}
-use Rattle.rules.proofs.Map.{count-more, count-at, taken-below, taken-past}
-use Rattle.rules.proofs.Indexed.{placed-count, without-length, placed-length, without-all, placed-all, without-ascending, placed-ascending, Ascending, index-length, numbers-index, index-is-index}
-use Rattle.rules.proofs.Kept.{holders-kept, holders-placed, file-kept, files-kept, map-agree}
-use Rattle.rules.proofs.Opening.{name-passed, opening-met, opened-by, refused-by, unfound, changed-done, added-done}
-use Rattle.rules.proofs.Written.{written-length, Rebuilt, sound-again}
+use Rattle.rules.proofs.Map.{count-none, count-here, count-more}
+use Rattle.rules.proofs.Choice.{Chosen}
+use Rattle.rules.proofs.Indexed.{without-length, placed-length, index-length}
+use Rattle.rules.proofs.Kept.{map-agree}
+use Rattle.rules.proofs.Opening.{name-passed, opening-met, opened-by, refused-by, unfound, changed-done, added-done, place-many}
+use Rattle.rules.proofs.Written.{Whole, written-length, Apart, written-apart, written-at}
+use Rattle.rules.proofs.Listed.{sector-inside, listed-range, listed-descriptor, rest-apart, opened-listed}
+use Rattle.rules.proofs.Replaced.{at, Replaced, stayed, index-anew, grown-label, grown-once, grown-map, own-inside, place-other}
 use Rattle.demands.specs.Catalogue.{putIn, takenOut, named}
 use Rattle.demands.specs.Call.{rename}
 use Rattle.demands.specs.Ours.{outcome}
-use Rattle.demands.specs.Effects.{Kept, effect, Done, renamed, Does}
-use Rattle.demands.proofs.Putting.{file-name, placed-files}
-use Rattle.demands.proofs.TakingOut.{taken-out, named-is}
-use Rattle.demands.proofs.TwoWrites.{first-stands, second-stands, others-stand}
-use Rattle.demands.proofs.Listed.{system-and, sector-inside, map-is, listed-range, listed-descriptor, listed-place, listed-name, still-listed, was-listed, not-listed, place-apart, holders-split}
+use Rattle.demands.specs.Effects.{effect, Done, renamed, Does}
+use Rattle.demands.proofs.TakingOut.{named-file}
+use Rattle.demands.proofs.Replacing.{catalogue-after, replaced-done}
 
--- a descriptor with another name
-take-over : (many : ℕ) (buffer bytes : List ℕ) → take many (over buffer bytes) ≡ over (take many buffer) bytes
-unfolding over
-take-over zero buffer bytes = refl
-take-over (suc many) [] bytes = refl
-take-over (suc many) (b ∷ buffer) [] = refl
-take-over (suc many) (b ∷ buffer) (c ∷ bytes) = ap (λ (l : List ℕ). c ∷ l) (take-over many buffer bytes)
-
+-- a descriptor with another name: all bytes from 10 on stand as they stood
 module _ (d new : List ℕ) (long : length d ≡ 256) (ten : length new ≡ 10) where
   new-name : nameOf (splice d 0 new) ≡ new
   unfolding nameOf
   new-name = rw ten at (splice-front d new (omega arith))
-
-  new-header : part (splice d 0 new) 0 28 ≡ splice (part d 0 28) 0 new
-  unfolding splice
-  new-header = take-over 28 d new
 
   same-byte : (i : ℕ) → 10 ≤ i → byteAt (splice d 0 new) i ≡ byteAt d i
   same-byte i behind = splice-above d 0 new i (omega arith)
 
   same-chain : chainOf (splice d 0 new) ≡ chainOf d
   unfolding chainOf
-  same-chain =
-      let size : length (part (splice d 0 new) 28 228) ≡ 228 = part-length (splice d 0 new) 28 228 (omega (arith, splice-length d 0 new)) in
-      ext-getD 0 (part (splice d 0 new) 28 228) (part d 28 228) (size ∙ sym (part-length d 28 228 (omega arith)))
-      (λ i h. part-at (splice d 0 new) 28 228 i (omega (arith, size)) ∙ same-byte (28 + i) (omega arith) ∙ sym (part-at d 28 228 i (omega (arith, size))))
+  same-chain = part-same (splice d 0 new) d 28 228 (splice-length d 0 new) (λ i low high. same-byte i (omega arith))
 
   same-sectors : sectorsOf (splice d 0 new) ≡ sectorsOf d
   same-sectors = rw (same-byte 14 (omega arith), same-byte 15 (omega arith))
@@ -84,179 +70,96 @@ module _ (d new : List ℕ) (long : length d ≡ 256) (ten : length new ≡ 10) 
         chain = rw (same-chain, same-sectors) (rules .chain);
       }
 
--- holders that count the same need the same map
-pub taken-same : (n : ℕ) (old new : List ℕ) → ((k : ℕ) → count k new ≡ count k old) → (k : ℕ) → taken n new k ≡ taken n old k
-taken-same n old new counts k =
-    elim (decLt k n) [
-      | yes below ↦ rw (taken-below n new k below, taken-below n old k below) (counts k)
-      | no past ↦ rw (taken-past n new k (omega arith), taken-past n old k (omega arith))
-    ]
-
--- an image afterwards, by its sectors
-module _ (image after new : List ℕ) (k : ℕ) (is : Sound image) (there : 1 ≤ count k (files image)) (is-name : IsName new)
-    (absent : (j : ℕ) → 1 ≤ count j (files image) → nameIn image j ≡ new → ⊥) (size : length after ≡ length image)
-    (sector-k : sectorOf after k ≡ splice (sectorOf image k) 0 new) (sector1 : sectorOf after 1 ≡ indexOf (placed image new k (without k (files image))))
-    (others : (j : ℕ) → (j ≡ k → ⊥) → (j ≡ 1 → ⊥) → j < sectorCount image → sectorOf after j ≡ sectorOf image j) where
-  abbrev rest : List ℕ
-  rest = without k (files image)
-
-  abbrev all : List ℕ
-  all = placed image new k rest
-
-  -- sector 0, the other files and the contents of all
-  sector0 : sectorOf after 0 ≡ sectorOf image 0
-  sector0 = let range = listed-range image is k there in others 0 (λ e. omega (arith, e, range)) (λ e. omega (arith, e)) (omega (arith, is .size))
-
-  descriptor-stands : (j : ℕ) → 1 ≤ count j rest → sectorOf after j ≡ sectorOf image j
-  descriptor-stands j left =
-      let range = listed-range image is j (was-listed image is k there j left) in
-      others j (not-listed image is k there j left) (λ e. omega (arith, e, range)) (range .1)
-
-  contents-stand : (j p : ℕ) → 1 ≤ count j (files image) → 1 ≤ count p (placesIn image j) → sectorOf after p ≡ sectorOf image p
-  contents-stand j p listed held =
-      let range = listed-place image is j p listed held in
-      others p (place-apart image is k there j p listed held) (λ e. omega (arith, e, range)) (range .1)
-
-  name-stands : (j : ℕ) → 1 ≤ count j rest → nameIn after j ≡ nameIn image j
-  unfolding nameIn
-  name-stands j left = rw (descriptor-stands j left)
-
-  -- the file itself
-  k-long : length (sectorOf image k) ≡ 256
-  k-long = sector-length image k (sector-inside image is k (listed-range image is k there .1))
-
-  k-name : nameIn after k ≡ new
-  unfolding nameIn
-  k-name = rw sector-k (new-name (sectorOf image k) new k-long (is-name .ten))
-
-  k-places : placesIn after k ≡ placesIn image k
-  unfolding placesIn
-  k-places = rw sector-k (ap places (same-chain (sectorOf image k) new k-long (is-name .ten)))
-
-  k-rules : IsDescriptor (sectorCount image) (sectorOf after k)
-  k-rules = rw sector-k (new-descriptor (sectorOf image k) new k-long (is-name .ten) (sectorCount image) is-name (listed-descriptor image is k there))
-
-  k-file : fileIn after k ≡ renamed new (fileIn image k)
-  unfolding renamed fileIn headerIn contentsIn
-  k-file = rw (k-places, sector-k, new-header (sectorOf image k) new k-long (is-name .ten), map-agree (sectorOf after) (sectorOf image) (placesIn image k) (λ p. contents-stand k p there))
-
-  -- sector 1
-  all-range : (p : ℕ) → p < length all → (2 ≤ getD all p 0) × (getD all p 0 < sectorCount image)
-  unfolding files
-  all-range =
-      let Inside : ℕ → Type 0 = λ (j : ℕ). (2 ≤ j) × (j < sectorCount image) in
-      placed-all Inside k image new rest (listed-range image is k there) (without-all Inside k (files image) (is .index .range))
-
-  all-few : length all ≤ 127
-  unfolding files
-  all-few = omega (arith, placed-length k image new rest, without-length k (files image) there, is .index .few)
-
-  all-files : files after ≡ all
-  unfolding files
-  all-files = rw sector1 (numbers-index all (λ p h. omega (arith, all-range p h)) (omega (arith, all-few)))
-
-  all-index : IsIndex (sectorCount image) (sectorOf after 1)
-  all-index = rw sector1 (index-is-index (sectorCount image) all all-range all-few)
-
-  all-descriptors : (p : ℕ) → p < length all → IsDescriptor (sectorCount image) (sectorOf after (getD all p 0))
-  all-descriptors =
-      placed-all (λ (j : ℕ). IsDescriptor (sectorCount image) (sectorOf after j)) k image new rest k-rules
-      (λ p h.
-      let left = count-at rest p h in
-      rw (descriptor-stands (getD rest p 0) left) (listed-descriptor image is (getD rest p 0) (was-listed image is k there (getD rest p 0) left)))
-
-  rest-long : (p : ℕ) → p < length rest → length (nameIn image (getD rest p 0)) ≡ length new
-  unfolding nameIn
-  rest-long p h = listed-descriptor image is (getD rest p 0) (was-listed image is k there (getD rest p 0) (count-at rest p h)) .name .ten ∙ sym (is-name .ten)
-
-  all-ascending : Ascending after all
-  all-ascending =
-      placed-ascending image after new k k-name rest (without-ascending image k (files image) (is .ascending)) rest-long
-      (λ p h. absent (getD rest p 0) (was-listed image is k there (getD rest p 0) (count-at rest p h))) name-stands
-
-  -- the holders
-  same-holders : (j : ℕ) → count j (0 ∷ (1 ∷ fileHolders after all)) ≡ count j (holders image)
-  unfolding holders
-  same-holders j =
-      let parts = rw (k-places, holders-kept image after rest descriptor-stands) at (holders-placed after image new k j rest) in
-      omega (arith, parts, system-and j (fileHolders after all), system-and j (fileHolders image (files image)), holders-split image is k there j)
-
-  rebuilt : Rebuilt image after all
-  rebuilt =
-      record {
-        size = size;
-        label = λ i low. rw sector0;
-        index = all-index;
-        files-are = all-files;
-        descriptors = all-descriptors;
-        ascending = all-ascending;
-        single = λ j. rw (same-holders j) (is .single j);
-        map = λ j low. rw sector0 (map-is image is j low ∙ sym (taken-same (sectorCount image) (holders image) (0 ∷ (1 ∷ fileHolders after all)) same-holders j));
-      }
-
-  -- the file of the old name
-  module _ (old : List ℕ) (is-named : old ≡ nameIn image k) where
-    only : (j : ℕ) → 1 ≤ count j (files image) → nameIn image j ≡ nameIn image k → j ≡ k
-    only j listed = listed-name image is j k listed there
-
-    left-of : (j : ℕ) → 1 ≤ count j (files image) → (nameIn image j ≡ old → ⊥) → 1 ≤ count j rest
-    left-of j listed unnamed = still-listed image is k there j listed (λ e. unnamed (ap (nameIn image) e ∙ sym is-named))
-
-    others-kept : Kept image after old
-    others-kept =
-        record {
-          label = λ i low. rw sector0;
-          listed = λ j listed unnamed. rw (all-files, placed-count k j image new rest) (omega (arith, left-of j listed unnamed, count-more j k rest));
-          descriptor = λ j listed unnamed. descriptor-stands j (left-of j listed unnamed);
-          contents = λ j p listed unnamed held. contents-stand j p listed held;
-        }
-
-    rest-files : map (fileIn after) rest ≡ takenOut old (catalogue image)
-    unfolding catalogue
-    rest-files =
-        files-kept image after rest (λ j left. file-kept image after j (descriptor-stands j left) (λ p. contents-stand j p (was-listed image is k there j left)))
-        ∙ taken-out image old k is-named (files image) only
-
-    was-file : named old (catalogue image) ≡ fileIn image k
-    unfolding catalogue
-    was-file = named-is image old k is-named (files image) there only
-
-    all-catalogue : catalogue after ≡ putIn (renamed new (named old (catalogue image))) (takenOut old (catalogue image))
-    unfolding catalogue
-    all-catalogue =
-        rw (all-files, was-file, ← k-file, ← rest-files)
-        (placed-files image after new k (file-name after k ∙ k-name) rest (λ j left. file-name after j ∙ name-stands j left))
-
-    renamed-done : Done image after old (effect (putIn (renamed new (named old (catalogue image))) (takenOut old (catalogue image))) 0 0)
-    renamed-done =
-        record {
-          sound = sound-again image after all is rebuilt;
-          size = size;
-          kept = others-kept;
-          catalogue-is = all-catalogue;
-          free = rw sector0;
-        }
-
 -- the writes, and their sectors
 abbrev pub renamings : List ℕ → List ℕ → ℕ → List Write
 renamings image new k = write k (splice (sectorOf image k) 0 new) ∷ (write 1 (indexOf (placed image new k (without k (files image)))) ∷ [])
 
 module _ (image old new : List ℕ) (k : ℕ) (is : Sound image) (there : 1 ≤ count k (files image)) (is-named : old ≡ nameIn image k) (is-name : IsName new)
     (absent : (j : ℕ) → 1 ≤ count j (files image) → nameIn image j ≡ new → ⊥) where
-  after-renaming : Done image (written image (renamings image new k)) old (effect (putIn (renamed new (named old (catalogue image))) (takenOut old (catalogue image))) 0 0)
-  after-renaming =
-      let range = listed-range image is k there in
-      let descriptor = splice (sectorOf image k) 0 new in
-      let index = indexOf (placed image new k (without k (files image))) in
-      let fits = sector-inside image is k (range .1) in
-      let fits1 : 256 * 1 + 256 ≤ length image = omega (arith, is .whole, is .size) in
-      let long = splice-length (sectorOf image k) 0 new ∙ sector-length image k fits in
-      let long1 = index-length (placed image new k (without k (files image))) in
-      renamed-done image (written image (renamings image new k)) new k is there is-name absent (written-length image (renamings image new k))
-      (first-stands image k 1 descriptor index long long1 fits fits1 (λ e. omega (arith, e, range)))
-      (second-stands image k 1 descriptor index long long1 fits fits1)
-      (λ j other apart inside. others-stand image k 1 descriptor index long long1 fits fits1 j other apart (sector-inside image is j inside))
-      old is-named
+  abbrev descriptor : List ℕ
+  descriptor = splice (sectorOf image k) 0 new
+
+  abbrev after : List ℕ
+  after = written image (renamings image new k)
+
+  range : (2 ≤ k) × (k < sectorCount image)
+  range = listed-range image is k there
+
+  long : length (sectorOf image k) ≡ 256
+  long = sector-length image k (sector-inside image is k (range .1))
+
+  whole : Whole (length image) (renamings image new k)
+  unfolding Whole
+  whole =
+      let fits = sector-inside image is in (
+        splice-length (sectorOf image k) 0 new ∙ long,
+        fits k (range .1),
+        (index-length (placed image new k (without k (files image))), fits 1 (omega (arith, is .size)), tt),
+      )
+
+  sector-k : sectorOf after k ≡ descriptor
+  unfolding Apart
+  sector-k = written-at image [] (write k descriptor) (write 1 _ ∷ []) whole ((λ e. omega (arith, e, range)), tt)
+
+  sector1 : sectorOf after 1 ≡ indexOf (placed image new k (without k (files image)))
+  unfolding Apart
+  sector1 = written-at image (write k descriptor ∷ []) (write 1 _) [] whole tt
+
+  others : (j : ℕ) → (j ≡ k → ⊥) → (j ≡ 1 → ⊥) → sectorOf after j ≡ sectorOf image j
+  unfolding Apart
+  others j other apart = written-apart image (renamings image new k) j whole (other, (apart, tt))
+
+  sector0 : sectorOf after 0 ≡ markedAll 1 (sectorOf image 0) []
+  unfolding markedAll
+  sector0 = others 0 (λ e. omega (arith, e, range)) (λ e. omega (arith, e))
+
+  places-now : placesIn after k ≡ placesIn image k
+  unfolding placesIn
+  places-now = rw sector-k (ap places (same-chain (sectorOf image k) new long (is-name .ten)))
+
+  same-held : (j : ℕ) → count j (k ∷ placesIn after k) ≡ count j [] + count j (k ∷ placesIn image k)
+  same-held j = rw places-now (omega (arith, count-none j))
+
+  replaced : Replaced image after new (at k) (at k)
+  unfolding nameIn
+  replaced =
+      let goes = at k in
+      let few : length (placed image new k (without k (files image))) ≤ 127 = omega (arith, placed-length k image new (without k (files image)), without-length k (files image) there, place-many image is) in
+      let index = index-anew image after new goes goes is (λ j e. let z : k ≡ j = cc in rw (← z) range) few sector1 in
+      let once : (j : ℕ) → count j [] ≤ 1 = λ j. omega (arith, count-none j) in
+      let free : (j : ℕ) → 1 ≤ count j [] → Chosen (sectorCount image) (sectorOf image 0) j = λ j some. absurd (omega (arith, some, count-none j)) in
+      record {
+        sound = is;
+        listed = there;
+        size = written-length image (renamings image new k);
+        label = grown-label image after goes goes [] is there once free sector0 same-held;
+        index = index .0;
+        files-are = index .1;
+        stands = λ j held.
+            let apart = rest-apart image is k there j held in
+            others j (λ e. omega (arith, rw e at (apart .1), count-here k (placesIn image k))) (λ e. omega (arith, e, apart .0));
+        new = record {
+          rules = rw sector-k (new-descriptor (sectorOf image k) new long (is-name .ten) (sectorCount image) is-name (listed-descriptor image is k there));
+          named = rw sector-k (new-name (sectorOf image k) new long (is-name .ten));
+          alone = λ j left. absent j (stayed image goes there j left);
+        };
+        once = grown-once image after goes goes [] is there once free sector0 same-held;
+        map = grown-map image after goes goes [] is there once free sector0 same-held;
+      }
+
+  file-now : fileIn after k ≡ renamed new (fileIn image k)
+  unfolding renamed fileIn headerIn contentsIn
+  file-now =
+      let contents = map-agree (sectorOf after) (sectorOf image) (placesIn image k)
+      (λ j h. others j (place-other image k is there j h) (λ e. omega (arith, e, own-inside image k is there j (omega (arith, h, count-more j k (placesIn image k))) .0)))
+      in
+      rw (places-now, contents, sector-k, splice-take 28 (sectorOf image k) 0 new)
+
+  renamed-done : Done image after old (effect (putIn (renamed new (named old (catalogue image))) (takenOut old (catalogue image))) 0 0)
+  renamed-done =
+      replaced-done image after new old (at k) (at k) replaced is-named _ 0 0
+      (catalogue-after image after new old (at k) (at k) replaced is-named ∙ rw (file-now, named-file image old k is there is-named))
+      (rw places-now refl)
 
 -- numbers 1 to 7 passed: a sound volume, and both names keep the rule
 pub names-passed : (image old new : List ℕ) → firstOf (namesTests image old new) ≡ 0 → (Sound image × (nameRule old ≡ true)) × (nameRule new ≡ true)
@@ -275,10 +178,10 @@ ruled-done image old new ruled-by e =
     let was = changed-done (opening tests image old) (renaming image new) (λ number found. refused-by tests image old number found .1) e in
     let k = was .sector in
     let opened = opened-by tests image old (λ z. ruled .0) (was .place) k (was .found-at) in
-    let there = rw (opened .is) at (count-at (files image) (was .place) (opened .inside)) in
+    let there = opened-listed image old (was .place) k opened in
     let added = added-done (findIn image new 0 (files image)) (tested (renameTests image k) (renamings image new k)) (λ number found. refused-by [] image new number found .1) (was .number) in
     rw (was .is, added .is, unless-passed (renameTests image k) (renamings image new k) [] (added .number))
-    (after-renaming image old new k (opened .whole) there (opened .named) (name-is new (ruled .1)) (unfound image new 0 (files image) (added .absent)))
+    (renamed-done image old new k (opened .whole) there (opened .named) (name-is new (ruled .1)) (unfound image new 0 (files image) (added .absent)))
 
 pub renames : (new : List ℕ) → Does (rename new)
 unfolding outcome renameOf changing

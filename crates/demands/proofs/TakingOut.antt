@@ -3,47 +3,22 @@
 use mathlib.Core.Path.{_≡_, sym, ap, _∙_}
 use mathlib.Core.Bool.{true, false}
 use mathlib.Core.List.{List, [], _∷_, map}
-use Prim.Native.Nat.{ℕ, suc, _≤_, _<_}
+use Prim.Native.Nat.{ℕ, _≤_}
 use native.Mathlib.Omega.{arith}
-use native.Mathlib.Decide.{decLt, ℕ-discrete}
-use lib.ListN.{length, getD}
+use native.Mathlib.Decide.{ℕ-discrete}
 use Rattle.rules.specs.Bytes.{same}
 use Rattle.rules.specs.Map.{count}
 use Rattle.rules.specs.Index.{without}
-use Rattle.rules.specs.Volume.{nameIn, fileIn}
+use Rattle.rules.specs.Volume.{File, files, nameIn, fileIn, catalogue}
+use Rattle.rules.specs.Sound.{Sound}
 use Rattle.rules.proofs.Bytes.{is-same}
-use Rattle.rules.proofs.Name.{before-irrefl}
 use Rattle.rules.proofs.Map.{count-none, count-here, count-other, count-more}
-use Rattle.rules.proofs.Indexed.{without-none, without-here, without-later, Ascending}
-use Rattle.demands.specs.Catalogue.{fileName, takenOut, named}
+use Rattle.rules.proofs.Indexed.{without-none, without-here, without-later}
+use Rattle.rules.proofs.Kept.{files-kept}
+use Rattle.rules.proofs.Listed.{listed-name}
+use Rattle.demands.specs.Catalogue.{fileName, takenOut, changed, named}
 use Rattle.demands.proofs.Reading.{not-same}
 use Rattle.demands.proofs.Putting.{file-name}
-
--- what holds at every place of a list holds of every number that it counts
-pub counted-all : (P : ℕ → Type 0) (ks : List ℕ) → ((p : ℕ) → p < length ks → P (getD ks p 0)) → (k : ℕ) → 1 ≤ count k ks → P k
-counted-all P [] all k some = absurd (omega (arith, count-none k))
-counted-all P (j ∷ js) all k some =
-    elim (ℕ-discrete j k) [
-      | yes here ↦ rw (← here) (all 0 (omega arith))
-      | no there ↦ counted-all P js (λ p h. all (suc p) (omega arith)) k (omega (arith, count-other k j js there))
-    ]
-
--- names ascend, so two files of one name are one
-pub one-of-name : (image ks : List ℕ) → Ascending image ks → (j k : ℕ) → 1 ≤ count j ks → 1 ≤ count k ks → nameIn image j ≡ nameIn image k → j ≡ k
-one-of-name image ks up j k some more =
-    counted-all (λ (i : ℕ). nameIn image i ≡ nameIn image k → i ≡ k) ks
-    (λ p h. counted-all (λ (i : ℕ). nameIn image (getD ks p 0) ≡ nameIn image i → getD ks p 0 ≡ i) ks (λ q l e. at p q h l e) k more) j some
-  where
-    at : (p q : ℕ) → p < length ks → q < length ks → nameIn image (getD ks p 0) ≡ nameIn image (getD ks q 0) → getD ks p 0 ≡ getD ks q 0
-    at p q h l e =
-        elim (decLt p q) [
-          | yes low ↦ absurd (before-irrefl (nameIn image (getD ks q 0)) (rw e at (up p q low l)))
-          | no low ↦
-              elim (decLt q p) [
-                | yes high ↦ absurd (before-irrefl (nameIn image (getD ks q 0)) (rw e at (up q p high h)))
-                | no high ↦ let z : p ≡ q = omega arith in ap (λ (i : ℕ). getD ks i 0) z
-              ]
-        ]
 
 -- the file at k has the name, and no other
 module _ (image name : List ℕ) (k : ℕ) (is : name ≡ nameIn image k) where
@@ -65,7 +40,7 @@ module _ (image name : List ℕ) (k : ℕ) (is : name ≡ nameIn image k) where
       ]
 
   -- k found by its name
-  pub named-is : (ks : List ℕ) → 1 ≤ count k ks → ((j : ℕ) → 1 ≤ count j ks → nameIn image j ≡ nameIn image k → j ≡ k) → named name (map (fileIn image) ks) ≡ fileIn image k
+  named-is : (ks : List ℕ) → 1 ≤ count k ks → ((j : ℕ) → 1 ≤ count j ks → nameIn image j ≡ nameIn image k → j ≡ k) → named name (map (fileIn image) ks) ≡ fileIn image k
   unfolding named
   named-is [] some only = absurd (omega (arith, count-none k))
   named-is (j ∷ js) some only =
@@ -75,3 +50,24 @@ module _ (image name : List ℕ) (k : ℕ) (is : name ≡ nameIn image k) where
             rw (same-other j (only j (omega (arith, count-here j js))) there)
             (named-is js (omega (arith, count-other k j js there)) (λ i h. only i (omega (arith, count-more i j js))))
       ]
+
+  -- k changed, and the others as they stood
+  pub changed-files : (after : List ℕ) (change : File → File) → change (fileIn image k) ≡ fileIn after k → (ks : List ℕ) → 1 ≤ count k ks
+      → ((j : ℕ) → 1 ≤ count j ks → nameIn image j ≡ nameIn image k → j ≡ k) → ((j : ℕ) → 1 ≤ count j (without k ks) → fileIn after j ≡ fileIn image j)
+      → map (fileIn after) ks ≡ changed name change (map (fileIn image) ks)
+  unfolding changed
+  changed-files after change e [] some only others = absurd (omega (arith, count-none k))
+  changed-files after change e (j ∷ js) some only others =
+      elim (ℕ-discrete j k) [
+        | yes here ↦ rw (here, same-here, e) (ap (λ (l : List File). fileIn after k ∷ l) (files-kept image after js (λ i h. others i (rw (without-here k j js here) h))))
+        | no there ↦
+            let left = without-later k j js there in
+            rw (same-other j (only j (omega (arith, count-here j js))) there, others j (rw left (omega (arith, count-here j (without k js)))))
+            (ap (λ (l : List File). fileIn image j ∷ l)
+            (changed-files after change e js (omega (arith, count-other k j js there)) (λ i h. only i (omega (arith, count-more i j js))) (λ i h. others i (rw left (omega (arith, h, count-more i j (without k js)))))))
+      ]
+
+-- the file of that name in the catalogue of a sound volume
+pub named-file : (image name : List ℕ) (k : ℕ) → Sound image → 1 ≤ count k (files image) → name ≡ nameIn image k → named name (catalogue image) ≡ fileIn image k
+unfolding catalogue
+named-file image name k sound there is = named-is image name k is (files image) there (λ j listed. listed-name image sound j k listed there)

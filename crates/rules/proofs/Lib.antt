@@ -14,11 +14,13 @@ pub mod Volume
 pub mod Indexed
 pub mod Written
 pub mod Kept
+pub mod Listed
 pub mod Verdict
 pub mod Free
 pub mod Extended
 pub mod Marking
 pub mod Choice
+pub mod Replaced
 pub mod Outcome
 pub mod Opening
 pub mod Formatted

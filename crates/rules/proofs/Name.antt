@@ -162,6 +162,19 @@ precedes-at (a ∷ first) (b ∷ second) (suc place) h k equal lower =
 pub is-precedes : (first second : List ℕ) → Before first second → precedes first second ≡ true
 is-precedes first second is = precedes-at first second (is .place) (is .inside .0) (is .inside .1) (is .equal) (is .lower)
 
+not-precedes-at : (first second : List ℕ) (place : ℕ) → place < length first → place < length second → ((i : ℕ) → i < place → byteAt first i ≡ byteAt second i)
+    → byteAt first place < byteAt second place → precedes second first ≡ false
+unfolding precedes
+not-precedes-at [] second place h k equal lower = absurd (omega arith)
+not-precedes-at (a ∷ first) [] place h k equal lower = absurd (omega arith)
+not-precedes-at (a ∷ first) (b ∷ second) zero h k equal lower = rw (ne-eqb b a (λ e. omega (arith, e)), le-ltb b a (omega arith))
+not-precedes-at (a ∷ first) (b ∷ second) (suc place) h k equal lower =
+    rw (eq-eqb b a (sym (equal 0 (omega arith))))
+    (not-precedes-at first second place (omega arith) (omega arith) (λ i j. equal (suc i) (omega arith)) lower)
+
+pub not-precedes : (first second : List ℕ) → Before first second → precedes second first ≡ false
+not-precedes first second is = not-precedes-at first second (is .place) (is .inside .0) (is .inside .1) (is .equal) (is .lower)
+
 pub before-trans : (a b c : List ℕ) → Before a b → Before b c → Before a c
 before-trans a b c p q =
     elim (decLt (p .place) (q .place)) [
