@@ -18,7 +18,7 @@ use Rattle.rules.proofs.Indexed.{without-length, index-length}
 use Rattle.rules.proofs.Opening.{opened-is, open-refused, changed-done, place-many}
 use Rattle.rules.proofs.Written.{Whole, written-length, Apart, written-apart, written-at}
 use Rattle.rules.proofs.Listed.{label-long, sector-inside, rest-apart, opened-listed}
-use Rattle.rules.proofs.Replaced.{none, at, Replaced, index-anew, cleared-label, cleared-once, cleared-map}
+use Rattle.rules.proofs.Replaced.{none, at, Replaced, index-anew, given-mapped}
 use Rattle.demands.specs.Catalogue.{takenOut, named, held}
 use Rattle.demands.specs.Call.{delete}
 use Rattle.demands.specs.Ours.{outcome}
@@ -59,18 +59,16 @@ module _ (image name : List ℕ) (k : ℕ) (is : Sound image) (there : 1 ≤ cou
 
   replaced : Replaced image after name (at k) none
   replaced =
-      let index = index-anew image after name (at k) none is (λ j e. absurd (let z : _≡_ {A = ℕ} 0 1 = cc in omega arith)) (omega (arith, without-length k (files image) there, place-many image is)) sector1 in
       record {
         sound = is;
         listed = there;
         size = written-length image (first ∷ (second ∷ []));
-        label = cleared-label image after (at k) is there sector0;
-        index = index .0;
-        files-are = index .1;
+        mapped = given-mapped image after (at k) is there sector0;
+        numbered =
+            index-anew image after name (at k) none is (λ j e. absurd (let z : _≡_ {A = ℕ} 0 1 = cc in omega arith))
+            (omega (arith, without-length k (files image) there, place-many image is)) sector1;
         stands = λ j held. others j (rest-apart image is k there j held .0);
         new = tt;
-        once = cleared-once image after (at k) is there sector0;
-        map = cleared-map image after (at k) is there sector0;
       }
 
   was-held : held (named name (catalogue image)) ≡ length (k ∷ placesIn image k)

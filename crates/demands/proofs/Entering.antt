@@ -1,7 +1,7 @@
 -- A new file entered into a sound volume, create's and store's alike: the volume is sound again, all that stood there stands, and the catalogue has that file more.
 -- The sectors that it takes were free, so nothing else was in them.
 use mathlib.Core.Path.{_≡_, refl, ap, _∙_}
-use mathlib.Core.List.{List, [], _∷_, _++_, map}
+use mathlib.Core.List.{List, [], _∷_, _++_}
 use Prim.Native.Nat.{ℕ, _+_, _≤_, _<_}
 use native.Mathlib.Omega.{arith}
 use lib.ListN.{length}
@@ -11,7 +11,7 @@ use Rattle.rules.specs.Map.{count, markedAll}
 use Rattle.rules.specs.Chain.{placesFrom, places, extendedAll, Linked}
 use Rattle.rules.specs.Kind.{kindOf, IsStatus, IsKind}
 use Rattle.rules.specs.Descriptor.{nameOf, chainOf, IsDescriptor}
-use Rattle.rules.specs.Volume.{File, files, nameIn, placesIn, fileHolders, holders, headerIn, contentsIn, fileIn, placed, catalogue}
+use Rattle.rules.specs.Volume.{File, files, nameIn, placesIn, fileHolders, holders, headerIn, contentsIn, fileIn, catalogue}
 use Rattle.rules.specs.Sound.{Sound}
 use Rattle.rules.specs.Calls.Create.{entered}
 use Rattle.rules.specs.Calls.Store.{dataWrites}
@@ -25,7 +25,7 @@ use Rattle.rules.proofs.Indexed.{placed-length}
 use Rattle.demands.specs.Catalogue.{putIn}
 use Rattle.demands.specs.Effects.{effect, Done, newHeader, pieces}
 use Rattle.rules.proofs.Listed.{label-long, held-inside}
-use Rattle.rules.proofs.Replaced.{none, at, Replaced, taken-once, index-anew, grown-label, grown-once, grown-map}
+use Rattle.rules.proofs.Replaced.{none, at, Replaced, taken-once, index-anew, taken-mapped}
 use Rattle.demands.proofs.Replacing.{catalogue-after, replaced-done}
 use Rattle.demands.proofs.NewFile.{descriptorWith, made-length, made-header, made-name, made-places, made-rules}
 use Rattle.demands.proofs.Entered.{Entered, entered-is}
@@ -49,9 +49,6 @@ module _ (image after name bytes : List ℕ) (k : ℕ) (ks descriptor : List ℕ
   unfolding placesIn
   places-now = ap (λ (d : List ℕ). places (chainOf d)) (there .descriptor-is) ∙ is .places-are
 
-  held-now : (j : ℕ) → count j (k ∷ placesIn after k) ≡ count j (k ∷ ks) + count j []
-  held-now j = rw places-now (omega (arith, count-none j))
-
   -- a sector that is taken was nobody's, so what a file held stands as it stood
   held-stays : (j : ℕ) → 1 ≤ count j (fileHolders image (files image)) → sectorOf after j ≡ sectorOf image j
   unfolding holders
@@ -64,23 +61,20 @@ module _ (image after name bytes : List ℕ) (k : ℕ) (ks descriptor : List ℕ
   unfolding nameIn
   replaced =
       let chosen = is .free k (omega (arith, count-here k ks)) in
-      let few : length (placed image name k (files image)) ≤ 127 = omega (arith, is .few, placed-length k image name (files image)) in
-      let index = index-anew image after name none (at k) sound-before (λ j e. let z : k ≡ j = cc in rw (← z) (chosen .from, chosen .inside)) few (there .index-is) in
       record {
         sound = sound-before;
         listed = tt;
         size = there .size;
-        label = grown-label image after none (at k) (k ∷ ks) sound-before tt (is .once) (is .free) (there .map-is) held-now;
-        index = index .0;
-        files-are = index .1;
+        mapped = taken-mapped image after none (at k) (k ∷ ks) sound-before tt (is .once) (is .free) (there .map-is) (λ j. rw places-now (omega (arith, count-none j)));
+        numbered =
+            index-anew image after name none (at k) sound-before (λ j e. let z : k ≡ j = cc in rw (← z) (chosen .from, chosen .inside))
+            (omega (arith, is .few, placed-length k image name (files image))) (there .index-is);
         stands = held-stays;
         new = record {
           rules = rw (there .descriptor-is) (is .rules);
           named = ap nameOf (there .descriptor-is) ∙ is .named;
           alone = unfound image name 0 (files image) (is .absent .absent);
         };
-        once = grown-once image after none (at k) (k ∷ ks) sound-before tt (is .once) (is .free) (there .map-is) held-now;
-        map = grown-map image after none (at k) (k ∷ ks) sound-before tt (is .once) (is .free) (there .map-is) held-now;
       }
 
   new-file : fileIn after k ≡ record { header = part descriptor 0 28; contents = pieces (length ks) bytes }

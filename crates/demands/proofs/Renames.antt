@@ -3,7 +3,7 @@
 use mathlib.Core.Path.{_≡_, refl, ap, _∙_}
 use mathlib.Core.Bool.{true, not}
 use mathlib.Core.List.{List, [], _∷_}
-use Prim.Native.Nat.{ℕ, _+_, _≤_, _<_}
+use Prim.Native.Nat.{ℕ, _≤_, _<_}
 use native.Mathlib.Omega.{arith}
 use native.Mathlib.Decide.{ℕ-discrete}
 use lib.ListN.{length}
@@ -11,7 +11,7 @@ use borrow.Author.Tests.{not-false}
 use Rattle.rules.specs.Bytes.{byteAt, splice}
 use Rattle.rules.specs.Sectors.{Write, sectorOf, sectorCount, written}
 use Rattle.rules.specs.Name.{nameRule, IsName}
-use Rattle.rules.specs.Map.{count, markedAll}
+use Rattle.rules.specs.Map.{count}
 use Rattle.rules.specs.Chain.{places}
 use Rattle.rules.specs.Descriptor.{nameOf, sectorsOf, chainOf, fileKind, IsDescriptor}
 use Rattle.rules.specs.Index.{indexOf, without}
@@ -26,14 +26,13 @@ use Rattle.rules.proofs.Bytes.{part-same}
 use Rattle.rules.proofs.Splice.{splice-length, splice-front, splice-take, splice-above}
 use Rattle.rules.proofs.Sectors.{sector-length}
 use Rattle.rules.proofs.Name.{name-is}
-use Rattle.rules.proofs.Map.{count-none, count-here, count-more}
-use Rattle.rules.proofs.Choice.{Chosen}
+use Rattle.rules.proofs.Map.{count-here, count-more}
 use Rattle.rules.proofs.Indexed.{without-length, placed-length, index-length}
 use Rattle.rules.proofs.Kept.{map-agree}
 use Rattle.rules.proofs.Opening.{name-passed, opening-met, opened-by, refused-by, unfound, changed-done, added-done, place-many}
 use Rattle.rules.proofs.Written.{Whole, written-length, Apart, written-apart, written-at}
 use Rattle.rules.proofs.Listed.{sector-inside, listed-range, listed-descriptor, rest-apart, opened-listed}
-use Rattle.rules.proofs.Replaced.{at, Replaced, stayed, index-anew, grown-label, grown-once, grown-map, own-inside, place-other}
+use Rattle.rules.proofs.Replaced.{at, Replaced, stayed, index-anew, same-mapped, own-inside, place-other}
 use Rattle.demands.specs.Catalogue.{putIn, takenOut, named}
 use Rattle.demands.specs.Call.{rename}
 use Rattle.demands.specs.Ours.{outcome}
@@ -109,42 +108,29 @@ module _ (image old new : List ℕ) (k : ℕ) (is : Sound image) (there : 1 ≤ 
   unfolding Apart
   others j other apart = written-apart image (renamings image new k) j whole (other, (apart, tt))
 
-  sector0 : sectorOf after 0 ≡ markedAll 1 (sectorOf image 0) []
-  unfolding markedAll
-  sector0 = others 0 (λ e. omega (arith, e, range)) (λ e. omega (arith, e))
-
   places-now : placesIn after k ≡ placesIn image k
   unfolding placesIn
   places-now = rw sector-k (ap places (same-chain (sectorOf image k) new long (is-name .ten)))
 
-  same-held : (j : ℕ) → count j (k ∷ placesIn after k) ≡ count j [] + count j (k ∷ placesIn image k)
-  same-held j = rw places-now (omega (arith, count-none j))
-
   replaced : Replaced image after new (at k) (at k)
   unfolding nameIn
   replaced =
-      let goes = at k in
-      let few : length (placed image new k (without k (files image))) ≤ 127 = omega (arith, placed-length k image new (without k (files image)), without-length k (files image) there, place-many image is) in
-      let index = index-anew image after new goes goes is (λ j e. let z : k ≡ j = cc in rw (← z) range) few sector1 in
-      let once : (j : ℕ) → count j [] ≤ 1 = λ j. omega (arith, count-none j) in
-      let free : (j : ℕ) → 1 ≤ count j [] → Chosen (sectorCount image) (sectorOf image 0) j = λ j some. absurd (omega (arith, some, count-none j)) in
       record {
         sound = is;
         listed = there;
         size = written-length image (renamings image new k);
-        label = grown-label image after goes goes [] is there once free sector0 same-held;
-        index = index .0;
-        files-are = index .1;
+        mapped = same-mapped image after (at k) (at k) is there (others 0 (λ e. omega (arith, e, range)) (λ e. omega (arith, e))) (λ j. rw places-now);
+        numbered =
+            index-anew image after new (at k) (at k) is (λ j e. let z : k ≡ j = cc in rw (← z) range)
+            (omega (arith, placed-length k image new (without k (files image)), without-length k (files image) there, place-many image is)) sector1;
         stands = λ j held.
             let apart = rest-apart image is k there j held in
             others j (λ e. omega (arith, rw e at (apart .1), count-here k (placesIn image k))) (λ e. omega (arith, e, apart .0));
         new = record {
           rules = rw sector-k (new-descriptor (sectorOf image k) new long (is-name .ten) (sectorCount image) is-name (listed-descriptor image is k there));
           named = rw sector-k (new-name (sectorOf image k) new long (is-name .ten));
-          alone = λ j left. absent j (stayed image goes there j left);
+          alone = λ j left. absent j (stayed image (at k) there j left);
         };
-        once = grown-once image after goes goes [] is there once free sector0 same-held;
-        map = grown-map image after goes goes [] is there once free sector0 same-held;
       }
 
   file-now : fileIn after k ≡ renamed new (fileIn image k)

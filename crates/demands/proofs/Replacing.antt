@@ -61,8 +61,8 @@ module _ (image after name old : List ℕ) (goes comes : Slot) (r : Replaced ima
   kept : Kept image after old
   kept =
       record {
-        label = r .label;
-        listed = λ j there other. rw (r .files-are) (still-there image name comes j (staying goes (files image)) (stays j there other));
+        label = r .mapped .label;
+        listed = λ j there other. rw (r .numbered .files-are) (still-there image name comes j (staying goes (files image)) (stays j there other));
         descriptor = λ j there other. descriptor-stands image after name goes comes r j (stays j there other);
         contents = λ j p there other here. sector-stands image after name goes comes r j p (stays j there other) (omega (arith, here, count-more p j (placesIn image j)));
       }
@@ -70,7 +70,7 @@ module _ (image after name old : List ℕ) (goes comes : Slot) (r : Replaced ima
   pub catalogue-after : catalogue after ≡ won after comes (lost goes old (catalogue image))
   unfolding catalogue
   catalogue-after =
-      ap (map (fileIn after)) (r .files-are)
+      ap (map (fileIn after)) (r .numbered .files-are)
       ∙ won-files image after name comes (staying goes (files image)) (r .new) (name-stands image after name goes comes r)
       ∙ ap (won after comes)
       (files-kept image after (staying goes (files image)) (file-stands image after name goes comes r)

@@ -4,7 +4,7 @@ use mathlib.Core.Path.{_≡_, sym, ap, _∙_}
 use mathlib.Core.List.{List, [], _∷_}
 use Prim.Native.Nat.{ℕ, _+_, _*_, _≤_, _<_}
 use native.Mathlib.Omega.{arith}
-use native.Mathlib.Decide.{decLt, ℕ-discrete}
+use native.Mathlib.Decide.{decLt}
 use lib.ListN.{length, getD}
 use Rattle.rules.specs.Sectors.{sectorOf, sectorCount}
 use Rattle.rules.specs.Map.{mapBit, count, taken}
@@ -14,11 +14,11 @@ use Rattle.rules.specs.Volume.{files, nameIn, placesIn, fileHolders, hol
 use Rattle.rules.specs.Sound.{Sound}
 use Rattle.rules.proofs.Sectors.{sector-length}
 use Rattle.rules.proofs.Name.{before-irrefl}
-use Rattle.rules.proofs.Map.{counted-all, count-here, count-other, count-more, count-at, count-append, taken-below, taken-past}
-use Rattle.rules.proofs.Volume.{places-inside, file-holders-inside}
+use Rattle.rules.proofs.Map.{counted-all, count-here, count-at, count-append, taken-below, taken-past}
+use Rattle.rules.proofs.Volume.{file-holders-inside}
 use Rattle.rules.proofs.Kept.{holders-without, file-holds}
 use Rattle.rules.proofs.Opening.{IsOpened}
-use Rattle.rules.proofs.Indexed.{without-count, Ascending}
+use Rattle.rules.proofs.Indexed.{Ascending}
 
 -- names ascend, so two files of one name are one
 pub one-of-name : (image ks : List ℕ) → Ascending image ks → (j k : ℕ) → 1 ≤ count j ks → 1 ≤ count k ks → nameIn image j ≡ nameIn image k → j ≡ k
@@ -71,9 +71,6 @@ module _ (image : List ℕ) (is : Sound image) where
   pub listed-descriptor : (k : ℕ) → 1 ≤ count k (files image) → IsDescriptor (sectorCount image) (sectorOf image k)
   listed-descriptor = counted-all (λ (k : ℕ). IsDescriptor (sectorCount image) (sectorOf image k)) (files image) (is .descriptors)
 
-  pub listed-place : (k p : ℕ) → 1 ≤ count k (files image) → 1 ≤ count p (placesIn image k) → (2 ≤ p) × (p < sectorCount image)
-  listed-place k p there = places-inside (sectorCount image) image k p (listed-descriptor k there)
-
   pub listed-name : (j k : ℕ) → 1 ≤ count j (files image) → 1 ≤ count k (files image) → nameIn image j ≡ nameIn image k → j ≡ k
   listed-name = one-of-name image (files image) (is .ascending)
 
@@ -84,13 +81,6 @@ module _ (image : List ℕ) (is : Sound image) where
 
   -- one file taken out
   module _ (k : ℕ) (there : 1 ≤ count k (files image)) where
-    pub still-listed : (j : ℕ) → 1 ≤ count j (files image) → (j ≡ k → ⊥) → 1 ≤ count j (without k (files image))
-    still-listed j listed other =
-        omega (arith, without-count k j (files image) there, count-other j k (without k (files image)) (λ e. other (sym e)))
-
-    pub was-listed : (j : ℕ) → 1 ≤ count j (without k (files image)) → 1 ≤ count j (files image)
-    was-listed j left = omega (arith, without-count k j (files image) there, count-more j k (without k (files image)))
-
     pub holders-split : (j : ℕ) → count j (fileHolders image (files image)) ≡ count j (k ∷ placesIn image k) + count j (fileHolders image (without k (files image)))
     holders-split j = holders-without image k j (files image) there
 
@@ -98,23 +88,11 @@ module _ (image : List ℕ) (is : Sound image) where
     pub rest-apart : (j : ℕ) → 1 ≤ count j (fileHolders image (without k (files image))) → (2 ≤ j) × (count j (k ∷ placesIn image k) ≡ 0)
     rest-apart j some = (held-inside j (omega (arith, some, holders-split j)) .0, omega (arith, some, holders-split j, file-once j))
 
-    -- it stands in sector 1 once, and no place of a file is its descriptor
+    -- it stands in sector 1 once
     pub not-listed : (j : ℕ) → 1 ≤ count j (without k (files image)) → j ≡ k → ⊥
     not-listed j left e =
         let twice = file-holds image k k (without k (files image)) (rw e at left) in
         omega (arith, twice, holders-split k, holders-single k, count-here k (placesIn image k))
-
-    pub place-apart : (j p : ℕ) → 1 ≤ count j (files image) → 1 ≤ count p (placesIn image j) → p ≡ k → ⊥
-    place-apart j p listed placed e =
-        elim (ℕ-discrete j k) [
-          | yes same ↦
-              let once = rw (same, e) at placed in
-              omega (arith, once, holders-split k, holders-single k, count-here k (placesIn image k))
-          | no other ↦
-              let held = file-holds image j k (without k (files image)) (still-listed j listed other) in
-              let placed′ = rw e at placed in
-              omega (arith, placed′, held, count-more k j (placesIn image j), holders-split k, holders-single k, count-here k (placesIn image k))
-        ]
 
 -- a file that was found is listed
 pub opened-listed : (image name : List ℕ) (p k : ℕ) → IsOpened image name p k → 1 ≤ count k (files image)

@@ -22,7 +22,7 @@ use Rattle.rules.proofs.Marking.{all-label, marked-holders, cleared-hol
 use Rattle.rules.proofs.Choice.{Chosen}
 use Rattle.rules.proofs.Indexed.{Ascending, counts-length, without-count, without-all, placed-all, without-ascending, placed-ascending, placed-back, numbers-index, index-is-index}
 use Rattle.rules.proofs.Kept.{holders-kept, file-kept, holders-placed, holders-without, file-holds, free-unheld}
-use Rattle.rules.proofs.Listed.{system-and, label-long, sector-inside, held-inside, file-once, map-is, listed-descriptor, listed-name, not-listed}
+use Rattle.rules.proofs.Listed.{system-and, label-long, sector-inside, held-inside, file-once, map-is, holders-split, rest-apart, listed-descriptor, listed-name, not-listed}
 use Rattle.rules.proofs.Written.{sector-same, sector-other, Rebuilt, sound-again}
 
 -- at most one file, by the sector of its descriptor
@@ -63,17 +63,25 @@ IsNew image after name others (at k) = New image after name others k
 abbrev pub remaining : List ℕ → Slot → List ℕ
 remaining image goes = 0 ∷ (1 ∷ fileHolders image (staying goes (files image)))
 
+-- sector 0 afterwards: the label as it stood, and the map of the holders, of which no sector has two
+pub record Mapped (image after : List ℕ) (goes comes : Slot) : Type 0 where
+  pub label : (i : ℕ) → i < 56 → byteAt (sectorOf after 0) i ≡ byteAt (sectorOf image 0) i
+  pub once : (j : ℕ) → count j (held after comes ++ remaining image goes) ≤ 1
+  pub map : (j : ℕ) → j < 1600 → mapBit (sectorOf after 0) j ≡ taken (sectorCount image) (held after comes ++ remaining image goes) j
+
+-- and sector 1
+pub record Numbered (image after ks : List ℕ) : Type 0 where
+  pub index : IsIndex (sectorCount image) (sectorOf after 1)
+  pub files-are : files after ≡ ks
+
 pub record Replaced (image after name : List ℕ) (goes comes : Slot) : Type 0 where
   pub sound : Sound image
   pub listed : IsListed image goes
   pub size : length after ≡ length image
-  pub label : (i : ℕ) → i < 56 → byteAt (sectorOf after 0) i ≡ byteAt (sectorOf image 0) i
-  pub index : IsIndex (sectorCount image) (sectorOf after 1)
-  pub files-are : files after ≡ coming image name comes (staying goes (files image))
+  pub mapped : Mapped image after goes comes
+  pub numbered : Numbered image after (coming image name comes (staying goes (files image)))
   pub stands : (j : ℕ) → 1 ≤ count j (fileHolders image (staying goes (files image))) → sectorOf after j ≡ sectorOf image j
   pub new : IsNew image after name (staying goes (files image)) comes
-  pub once : (j : ℕ) → count j (held after comes ++ remaining image goes) ≤ 1
-  pub map : (j : ℕ) → j < 1600 → mapBit (sectorOf after 0) j ≡ taken (sectorCount image) (held after comes ++ remaining image goes) j
 
 -- the files that stay, and what the one that goes held
 module _ (image : List ℕ) where
@@ -148,9 +156,9 @@ module _ (image after name : List ℕ) (goes comes : Slot) (r : Replaced image a
       let rules = listed-descriptor image (r .sound) in
       record {
         size = r .size;
-        label = r .label;
-        index = r .index;
-        files-are = r .files-are;
+        label = r .mapped .label;
+        index = r .numbered .index;
+        files-are = r .numbered .files-are;
         descriptors =
             coming-all (λ (j : ℕ). IsDescriptor (sectorCount image) (sectorOf after j)) image name comes others (λ k e. (rw e at (r .new)) .rules)
             (λ p h.
@@ -159,8 +167,8 @@ module _ (image after name : List ℕ) (goes comes : Slot) (r : Replaced image a
         ascending =
             coming-ascending image after name comes others (r .new) (staying-ascending image goes (r .sound .ascending))
             (λ p h. rules (getD others p 0) (stayed image goes (r .listed) (getD others p 0) (count-at others p h)) .name .ten) name-stands;
-        single = λ j. rw (holders-after j) (r .once j);
-        map = λ j low. r .map j low ∙ sym (taken-same (sectorCount image) (held after comes ++ remaining image goes) _ holders-after j);
+        single = λ j. rw (holders-after j) (r .mapped .once j);
+        map = λ j low. r .mapped .map j low ∙ sym (taken-same (sectorCount image) (held after comes ++ remaining image goes) _ holders-after j);
       }
 
   pub sound-after : Sound after
@@ -172,18 +180,21 @@ module _ (image after name : List ℕ) (goes comes : Slot) (r : Replaced image a
       let n : sectorCount after ≡ sectorCount image = ap (λ (m : ℕ). m / 256) (r .size) in
       let now = counts-length (0 ∷ (1 ∷ fileHolders after (coming image name comes others))) (held after comes ++ remaining image goes) holders-after in
       let was = counts-length (holders image) (held image goes ++ remaining image goes) (λ j. all-parted image goes (r .listed) j ∙ sym (count-append j (held image goes) (remaining image goes))) in
-      let free = rw (r .files-are, n) at (free-holders after sound-after) in
+      let free = rw (r .numbered .files-are, n) at (free-holders after sound-after) in
       omega (arith, free, free-holders image (r .sound), now, was, length-append (held after comes) (remaining image goes), length-append (held image goes) (remaining image goes))
 
 -- sector 1 with the numbers that it is to have
 pub index-anew : (image after name : List ℕ) (goes comes : Slot) → Sound image → ((k : ℕ) → comes ≡ at k → (2 ≤ k) × (k < sectorCount image)) → length (coming image name comes (staying goes (files image))) ≤ 127
     → sectorOf after 1 ≡ indexOf (coming image name comes (staying goes (files image)))
-    → IsIndex (sectorCount image) (sectorOf after 1) × (files after ≡ coming image name comes (staying goes (files image)))
+    → Numbered image after (coming image name comes (staying goes (files image)))
 unfolding files
 index-anew image after name goes comes is inside few sector1 =
     let ks = coming image name comes (staying goes (files image)) in
     let range = coming-all (λ (j : ℕ). (2 ≤ j) × (j < sectorCount image)) image name comes (staying goes (files image)) inside (stay goes) in
-    (rw sector1 (index-is-index (sectorCount image) ks range few), rw sector1 (numbers-index ks (λ p h. omega (arith, range p h .0)) (omega (arith, few))))
+    record {
+      index = rw sector1 (index-is-index (sectorCount image) ks range few);
+      files-are = rw sector1 (numbers-index ks (λ p h. omega (arith, range p h .0)) (omega (arith, few)));
+    }
   where
     stay : (goes : Slot) (p : ℕ) → p < length (staying goes (files image)) → (2 ≤ getD (staying goes (files image)) p 0) × (getD (staying goes (files image)) p 0 < sectorCount image)
     stay none = is .index .range
@@ -199,41 +210,40 @@ taken-once image fresh is once free j =
     ]
 
 -- the map where sectors are taken: they were free, and the file that comes holds them and what the one that goes held
-module _ (image after : List ℕ) (goes comes : Slot) (fresh : List ℕ) (is : Sound image) (listed : IsListed image goes) (once : (j : ℕ) → count j fresh ≤ 1)
-    (free : (j : ℕ) → 1 ≤ count j fresh → Chosen (sectorCount image) (sectorOf image 0) j) (sector0 : sectorOf after 0 ≡ markedAll 1 (sectorOf image 0) fresh)
-    (holds : (j : ℕ) → count j (held after comes) ≡ count j fresh + count j (held image goes)) where
-  abbrev now : List ℕ
-  now = held after comes ++ remaining image goes
+pub taken-mapped : (image after : List ℕ) (goes comes : Slot) (fresh : List ℕ) → Sound image → IsListed image goes → ((j : ℕ) → count j fresh ≤ 1)
+    → ((j : ℕ) → 1 ≤ count j fresh → Chosen (sectorCount image) (sectorOf image 0) j) → sectorOf after 0 ≡ markedAll 1 (sectorOf image 0) fresh
+    → ((j : ℕ) → count j (held after comes) ≡ count j fresh + count j (held image goes)) → Mapped image after goes comes
+taken-mapped image after goes comes fresh is listed once free sector0 holds =
+    let now = held after comes ++ remaining image goes in
+    let counts : (j : ℕ) → count j now ≡ count j fresh + count j (holders image) =
+    λ j. omega (arith, holds j, all-parted image goes listed j, count-append j (held after comes) (remaining image goes))
+    in
+    let unheld = taken-once image fresh is once free in
+    record {
+      label = λ i h. rw sector0 (all-label 1 (sectorOf image 0) fresh i h);
+      once = λ j. omega (arith, counts j, unheld j);
+      map = rw sector0 (marked-holders (sectorCount image) (sectorOf image 0) (holders image) fresh now (label-long image is) (map-is image is) unheld counts);
+    }
 
-  counts : (j : ℕ) → count j now ≡ count j fresh + count j (holders image)
-  counts j = omega (arith, holds j, all-parted image goes listed j, count-append j (held after comes) (remaining image goes))
+-- where nothing is taken and nothing given back
+pub same-mapped : (image after : List ℕ) (goes comes : Slot) → Sound image → IsListed image goes → sectorOf after 0 ≡ sectorOf image 0
+    → ((j : ℕ) → count j (held after comes) ≡ count j (held image goes)) → Mapped image after goes comes
+unfolding markedAll
+same-mapped image after goes comes is listed sector0 holds =
+    taken-mapped image after goes comes [] is listed (λ j. omega (arith, count-none j)) (λ j some. absurd (omega (arith, some, count-none j))) sector0 (λ j. omega (arith, holds j, count-none j))
 
-  unheld : (j : ℕ) → count j fresh + count j (holders image) ≤ 1
-  unheld = taken-once image fresh is once free
-
-  pub grown-label : (i : ℕ) → i < 56 → byteAt (sectorOf after 0) i ≡ byteAt (sectorOf image 0) i
-  grown-label i h = ap (λ (s : List ℕ). byteAt s i) sector0 ∙ all-label 1 (sectorOf image 0) fresh i h
-
-  pub grown-once : (j : ℕ) → count j now ≤ 1
-  grown-once j = omega (arith, counts j, unheld j)
-
-  pub grown-map : (j : ℕ) → j < 1600 → mapBit (sectorOf after 0) j ≡ taken (sectorCount image) now j
-  grown-map j low =
-      ap (λ (s : List ℕ). mapBit s j) sector0 ∙ marked-holders (sectorCount image) (sectorOf image 0) (holders image) fresh now (label-long image is) (map-is image is) unheld counts j low
-
--- and where those of the file that goes are given back, and none comes
-module _ (image after : List ℕ) (goes : Slot) (is : Sound image) (listed : IsListed image goes) (sector0 : sectorOf after 0 ≡ markedAll 0 (sectorOf image 0) (held image goes)) where
-  pub cleared-label : (i : ℕ) → i < 56 → byteAt (sectorOf after 0) i ≡ byteAt (sectorOf image 0) i
-  cleared-label i h = ap (λ (s : List ℕ). byteAt s i) sector0 ∙ all-label 0 (sectorOf image 0) (held image goes) i h
-
-  pub cleared-once : (j : ℕ) → count j (remaining image goes) ≤ 1
-  cleared-once j = omega (arith, all-parted image goes listed j, is .single j)
-
-  pub cleared-map : (j : ℕ) → j < 1600 → mapBit (sectorOf after 0) j ≡ taken (sectorCount image) (remaining image goes) j
-  cleared-map j low =
-      ap (λ (s : List ℕ). mapBit s j) sector0
-      ∙ cleared-holders (sectorCount image) (sectorOf image 0) (holders image) (held image goes) (remaining image goes) (label-long image is) (map-is image is) (is .single)
-      (λ i some. holders-inside (sectorCount image) image i (omega (arith, is .size)) (is .index) (is .descriptors) (omega (arith, some, all-parted image goes listed i))) (all-parted image goes listed) j low
+-- and where what the file that goes held is given back, and none comes
+pub given-mapped : (image after : List ℕ) (goes : Slot) → Sound image → IsListed image goes → sectorOf after 0 ≡ markedAll 0 (sectorOf image 0) (held image goes) → Mapped image after goes none
+given-mapped image after goes is listed sector0 =
+    let parts = all-parted image goes listed in
+    record {
+      label = λ i h. rw sector0 (all-label 0 (sectorOf image 0) (held image goes) i h);
+      once = λ j. omega (arith, parts j, is .single j);
+      map =
+          rw sector0
+          (cleared-holders (sectorCount image) (sectorOf image 0) (holders image) (held image goes) (remaining image goes) (label-long image is) (map-is image is) (is .single)
+          (λ i some. holders-inside (sectorCount image) image i (omega (arith, is .size)) (is .index) (is .descriptors) (omega (arith, some, parts i))) parts);
+    }
 
 -- A file changed where it stands: it keeps its name and its number in sector 1, and may take free sectors.
 pub record Altered (image after : List ℕ) (k : ℕ) (fresh : List ℕ) : Type 0 where
@@ -254,30 +264,24 @@ module _ (image after : List ℕ) (k : ℕ) (fresh : List ℕ) (a : Altered imag
   unfolding files
   files-same = ap numbers (a .sector1)
 
-  altered-holds : (j : ℕ) → count j (k ∷ placesIn after k) ≡ count j fresh + count j (k ∷ placesIn image k)
-  altered-holds j = omega (arith, ap (λ (l : List ℕ). count j (k ∷ l)) (a .places), count-append j (k ∷ placesIn image k) fresh)
-
   pub altered : Replaced image after (nameIn image k) (at k) (at k)
   altered =
       let is = a .sound in
-      let goes = at k in
+      let there = a .listed in
       record {
         sound = is;
-        listed = a .listed;
+        listed = there;
         size = a .size;
-        label = grown-label image after goes goes fresh is (a .listed) (a .once) (a .free) (a .sector0) altered-holds;
-        index = rw (a .sector1) (is .index);
-        files-are = files-same ∙ sym (placed-back image k (files image) (is .ascending) (a .listed));
-        stands = λ j there.
-            let parts = holders-without image k j (files image) (a .listed) in
-            a .stands j (omega (arith, there, parts)) (omega (arith, there, parts, file-once image is j));
+        mapped =
+            taken-mapped image after (at k) (at k) fresh is there (a .once) (a .free) (a .sector0)
+            (λ j. omega (arith, ap (λ (l : List ℕ). count j (k ∷ l)) (a .places), count-append j (k ∷ placesIn image k) fresh));
+        numbered = record { index = rw (a .sector1) (is .index); files-are = files-same ∙ sym (placed-back image k (files image) (is .ascending) there) };
+        stands = λ j rest. a .stands j (omega (arith, rest, holders-split image is k there j)) (rest-apart image is k there j rest .1);
         new = record {
           rules = a .rules;
           named = a .named;
-          alone = λ j left same. not-listed image is k (a .listed) j left (listed-name image is j k (stayed image goes (a .listed) j left) (a .listed) same);
+          alone = λ j left same. not-listed image is k there j left (listed-name image is j k (stayed image (at k) there j left) there same);
         };
-        once = grown-once image after goes goes fresh is (a .listed) (a .once) (a .free) (a .sector0) altered-holds;
-        map = grown-map image after goes goes fresh is (a .listed) (a .once) (a .free) (a .sector0) altered-holds;
       }
 
 -- One of the file's own sectors written: its descriptor's or one of its places.
