@@ -1,33 +1,29 @@
 -- Append: the sector taken was free, so it is nobody's, and the three writes are to different sectors. The descriptor with the longer chain keeps its rules, its places
 -- are the old ones and the new one behind them, and its header changes in the number of sectors alone.
 use mathlib.Core.Path.{_≡_, sym, ap, _∙_}
-use mathlib.Core.Bool.{Bool, true, false, cond}
+use mathlib.Core.Bool.{false}
 use mathlib.Core.List.{List, [], _∷_, _++_, map, map-append}
-use Prim.Native.Nat.{ℕ, _+_, _-_, _*_, _≤_, _<_}
+use Prim.Native.Nat.{ℕ, _+_, _-_, _≤_, _<_}
 use native.Mathlib.Omega.{arith}
-use native.Mathlib.Decide.{decLt}
-use lib.ListN.{length, take, length-map, List·getD-eq-default}
+use lib.ListN.{length, take, length-map}
 use borrow.Author.Tests.{not-false, eqb-true, ltb-false}
-use Rattle.rules.specs.Bytes.{byteAt, wordBytes, splice}
+use Rattle.rules.specs.Bytes.{wordBytes, splice}
 use Rattle.rules.specs.Sectors.{Write, sectorOf, sectorCount, written}
 use Rattle.rules.specs.Map.{count, freeCount, marked, markedAll}
-use Rattle.rules.specs.declared.Block.{Block}
-use Rattle.rules.specs.Chain.{blocks, placesFrom, places, extended, blocksBytes, Linked}
-use Rattle.rules.specs.Kind.{isProgram, isVariable, isInternal, kindOf, IsKind}
-use Rattle.rules.specs.declared.Kind.the-variants.{Fixed, Variable}
-use Rattle.rules.specs.Descriptor.{nameOf, statusOf, sectorsOf, chainOf, fileKind, withChain, IsDescriptor}
+use Rattle.rules.specs.Chain.{places}
+use Rattle.rules.specs.Kind.{isProgram}
+use Rattle.rules.specs.Descriptor.{nameOf, statusOf, sectorsOf, chainOf, IsDescriptor}
 use Rattle.rules.specs.Volume.{files, nameIn, placesIn, fileHolders, holders, headerIn, contentsIn, fileIn, catalogue}
 use Rattle.rules.specs.Choice.{dataChoice}
 use Rattle.rules.specs.Outcome.{write, done}
 use Rattle.rules.specs.Tests.{Passed}
 use Rattle.rules.specs.Opening.{openOf}
 use Rattle.rules.specs.Calls.Append.{longerBlocks, appendTests, appending, appendOf}
-use Rattle.rules.proofs.Bytes.{part-at, part-short, part-same}
-use Rattle.rules.proofs.Splice.{splice-past, splice-take}
-use Rattle.rules.proofs.Extended.{Writable, extended-places, extended-linked, extended-length, linked-writable, with-chain-length, with-chain-sectors, with-chain-before, with-chain-blocks, with-chain-is, sectors-few}
+use Rattle.rules.proofs.Extended.{with-chain-length, sectors-few}
 use Rattle.rules.proofs.Map.{count-here, count-more, only-one, one-once}
 use Rattle.rules.proofs.Volume.{places-count}
 use Rattle.rules.proofs.Marking.{marked-length}
+use Rattle.rules.proofs.Longer.{longer-blocks, longer-descriptor, longer-name, longer-header, longer-places, longer-rules}
 use Rattle.rules.proofs.Choice.{Chosen, sound-fenced, data-choice-free}
 use Rattle.rules.proofs.Tests.{all-passed}
 use Rattle.rules.proofs.Outcome.{tested-done}
@@ -42,15 +38,9 @@ use Rattle.demands.specs.Ours.{outcome}
 use Rattle.demands.specs.Effects.{effect, Done, longer, Does}
 use Rattle.demands.proofs.Replacing.{altered-done}
 
--- the sector that is taken, the blocks with it, and the descriptor with those
+-- the sector that is taken, and the writes
 abbrev taken-sector : List ℕ → ℕ
 taken-sector image = dataChoice (sectorOf image 0)
-
-abbrev longer-blocks : List ℕ → ℕ → List Block
-longer-blocks d new = extended 0 (blocks (chainOf d)) new
-
-abbrev longer-descriptor : List ℕ → ℕ → List ℕ
-longer-descriptor d new = withChain d (sectorsOf d + 1) (extended 0 (blocks (chainOf d)) new)
 
 abbrev writes-of : List ℕ → List ℕ → ℕ → List Write
 writes-of image bytes k =
@@ -76,70 +66,6 @@ append-facts image bytes k e =
       few = ltb-false 76 (length (longer-blocks (sectorOf image k) (taken-sector image))) (passed .1 .1 .1 .1 .0);
       is = tested-done (appendTests image bytes k) (writes-of image bytes k) e;
     }
-
--- a file that is no program may have any number of sectors
-any-kind : (status c endOffset recordLength : ℕ) → isProgram status ≡ false → IsKind (kindOf status c endOffset recordLength) c
-unfolding kindOf IsKind
-any-kind status c endOffset recordLength e = rw e (go (isVariable status))
-  where
-    go : (t : Bool) → IsKind (cond t (Variable recordLength (isInternal status)) (Fixed recordLength (isInternal status))) c
-    go true = tt
-    go false = tt
-
--- The descriptor with one sector more: its name and status stay, and its header but for the number of sectors.
-module _ (d : List ℕ) (new : ℕ) where
-  longer-name : nameOf (longer-descriptor d new) ≡ nameOf d
-  unfolding nameOf
-  longer-name =
-      part-same (longer-descriptor d new) d 0 10 (with-chain-length d (sectorsOf d + 1) (longer-blocks d new))
-      (λ i low high. with-chain-before d (sectorsOf d + 1) (longer-blocks d new) i (omega arith))
-
-  longer-header : take 28 (longer-descriptor d new) ≡ splice (take 28 d) 14 (wordBytes (sectorsOf d + 1))
-  unfolding withChain
-  longer-header =
-      splice-take 28 (splice d 14 (wordBytes (sectorsOf d + 1))) 28 (blocksBytes (longer-blocks d new))
-      ∙ splice-past (take 28 (splice d 14 (wordBytes (sectorsOf d + 1)))) 28 _ (part-short (splice d 14 (wordBytes (sectorsOf d + 1))) 0 28)
-      ∙ splice-take 28 d 14 (wordBytes (sectorsOf d + 1))
-
-  longer-status : statusOf (longer-descriptor d new) ≡ statusOf d
-  longer-status = with-chain-before d (sectorsOf d + 1) (longer-blocks d new) 12 (omega arith)
-
--- it keeps its rules, and its places are the old ones and the new one
-module _ (n : ℕ) (d : List ℕ) (new : ℕ) (size : length d ≡ 256) (is : IsDescriptor n d) (small : n ≤ 1600) (short : sectorsOf d ≤ 1600) (from : 2 ≤ new) (inside : new < n)
-    (records : isProgram (statusOf d) ≡ false) (few : length (longer-blocks d new) ≤ 76) where
-  linked : Linked n (sectorsOf d + 1) 0 (longer-blocks d new)
-  linked = extended-linked n new from inside (sectorsOf d) 0 (blocks (chainOf d)) (is .chain .linked)
-
-  writable : Writable (longer-blocks d new)
-  writable = linked-writable n (sectorsOf d + 1) 0 (longer-blocks d new) (omega arith) (omega arith) linked
-
-  zero-behind : (i : ℕ) → 28 + 3 * length (longer-blocks d new) ≤ i → byteAt d i ≡ 0
-  unfolding chainOf
-  zero-behind i h =
-      elim (decLt i 256) [
-        | yes low ↦
-            let e : 28 + (i - 28) ≡ i = omega arith in
-            let read = rw e at (part-at d 28 228 (i - 28) (omega arith)) in
-            sym read ∙ is .chain .rest (i - 28) (omega (arith, h, extended-length 0 (blocks (chainOf d)) new .0))
-        | no past ↦ List·getD-eq-default d 0 {n = i} (omega arith)
-      ]
-
-  longer-places : places (chainOf (longer-descriptor d new)) ≡ places (chainOf d) ++ (new ∷ [])
-  unfolding places
-  longer-places =
-      ap (placesFrom 0) (with-chain-blocks d (sectorsOf d + 1) (longer-blocks d new) size writable few zero-behind)
-      ∙ extended-places n new (sectorsOf d) 0 (blocks (chainOf d)) (is .chain .linked)
-
-  longer-rules : IsDescriptor n (longer-descriptor d new)
-  unfolding fileKind
-  longer-rules =
-      let c = with-chain-sectors d (sectorsOf d + 1) (longer-blocks d new) (omega arith) in
-      record {
-        name = rw (longer-name d new) (is .name);
-        status = rw (longer-status d new) (is .status);
-        kind = any-kind _ _ _ _ (rw (longer-status d new) records);
-        chain = rw c (with-chain-is d (sectorsOf d + 1) (longer-blocks d new) size writable few zero-behind n linked);
-      }
 
 -- The three writes, with a free sector `new` and a descriptor `d` for the file at sector k.
 module _ (image name : List ℕ) (p k : ℕ) (o : IsOpened image name p k) (bytes : List ℕ) (long : length bytes ≡ 256)

@@ -1,16 +1,15 @@
 -- Create, where its number is 0: a new file without sectors was entered.
 use mathlib.Core.Path.{_≡_, refl}
-use mathlib.Core.Bool.{Bool, true, false, cond, _||_}
-use mathlib.Core.List.{List, [], _∷_}
+use mathlib.Core.Bool.{Bool, true, false, _||_}
+use mathlib.Core.List.{List, []}
 use mathlib.Core.Logic.{_⊎_, inl, inr}
-use Prim.Native.Nat.{ℕ, _+_, _≤_, _<_}
+use Prim.Native.Nat.{ℕ, _≤_, _<_}
 use native.Mathlib.Omega.{arith}
-use native.Mathlib.Decide.{ℕ-discrete}
 use lib.Dec.{eqb}
 use lib.ListN.{length}
 use borrow.Author.Tests.{not-false, eqb-true, ltb-false, leb-false}
 use Rattle.rules.specs.Sectors.{Write, sectorOf, sectorCount, written}
-use Rattle.rules.specs.Map.{count, freeCount, marked, markedAll}
+use Rattle.rules.specs.Map.{freeCount, marked, markedAll}
 use Rattle.rules.specs.Chain.{extendedAll}
 use Rattle.rules.specs.Kind.{kindOf, IsStatus, IsKind}
 use Rattle.rules.specs.Descriptor.{newDescriptor}
@@ -22,7 +21,7 @@ use Rattle.rules.specs.Calls.Create.{createStatus, entered, createTests, creati
 use Rattle.rules.specs.Calls.Store.{dataWrites}
 use Rattle.rules.proofs.Tests.{all-passed, unless-passed}
 use Rattle.rules.proofs.Name.{name-is}
-use Rattle.rules.proofs.Map.{count-none, count-other}
+use Rattle.rules.proofs.Map.{only-one, one-once}
 use Rattle.rules.proofs.Choice.{Chosen, sound-fenced, descriptor-choice-free}
 use Rattle.rules.proofs.Opening.{IsAbsent, absent-is, open-refused, added-done}
 use Rattle.demands.specs.Catalogue.{putIn}
@@ -81,25 +80,10 @@ module _ (image name : List ℕ) (status recordLength recordsPerSector : ℕ) wh
     chosen : Chosen (sectorCount image) (sectorOf image 0) k
     chosen = descriptor-choice-free (sectorCount image) (sectorOf image 0) (sound-fenced image (absent .whole)) room
 
-    alone : (j : ℕ) → 1 ≤ count j (k ∷ []) → Chosen (sectorCount image) (sectorOf image 0) j
-    alone j some =
-        elim (ℕ-discrete k j) [
-          | yes is ↦ rw (← is) chosen
-          | no other ↦ absurd (omega (arith, some, count-other j k [] other, count-none j))
-        ]
-
-    once : (j : ℕ) → count j (k ∷ []) ≤ 1
-    unfolding count
-    once j = go (eqb k j)
-      where
-        go : (t : Bool) → cond t 1 0 + 0 ≤ 1
-        go true = omega arith
-        go false = omega arith
-
     created-done : Done image (written image writes) name (effect (putIn (record { header = newHeader name status recordsPerSector 0 0 recordLength; contents = [] }) (catalogue image)) 1 0)
     unfolding markedAll dataWrites pieces extendedAll
     created-done =
-        new-file-done image name [] k [] status recordsPerSector 0 recordLength absent place once alone (omega arith) (omega arith)
+        new-file-done image name [] k [] status recordsPerSector 0 recordLength absent place (one-once k) (λ j some. rw (← only-one k j some) chosen) (omega arith) (omega arith)
         (status-rules status allowed) (kind-rules 0 0 recordLength status allowed)
         (newDescriptor name status recordsPerSector 0 recordLength) (new-is name status recordsPerSector 0 recordLength (name-is name (absent .rule) .ten))
 

@@ -23,7 +23,7 @@ use Rattle.rules.specs.Calls.Entry.{entryTests, entryOf}
 use Rattle.rules.specs.Calls.Read.{readTests, reading, readOf}
 use Rattle.rules.specs.Calls.Load.{lengthIn, programIn, loadTests, loading, loadOf}
 use Rattle.rules.specs.declared.Opened.the-variants.{At}
-use Rattle.rules.proofs.Bytes.{same-is, is-same, part-at}
+use Rattle.rules.proofs.Bytes.{is-same, not-same, part-at}
 use Rattle.rules.proofs.Name.{is-name, before-irrefl}
 use Rattle.rules.proofs.Volume.{places-count}
 use Rattle.rules.proofs.Verdict.{passes, sound-first}
@@ -37,13 +37,6 @@ pub get-mapped : {A B : Type 0} (f : A → B) (l : List A) (p : ℕ) (d : A) (e 
 get-mapped f [] p d e h = absurd (omega arith)
 get-mapped f (x ∷ l) zero d e h = refl
 get-mapped f (x ∷ l) (suc p) d e h = get-mapped f l p d e (omega arith)
-
-pub not-same : (first second : List ℕ) → (first ≡ second → ⊥) → same first second ≡ false
-not-same first second other = go (same first second) refl
-  where
-    go : (t : Bool) → same first second ≡ t → t ≡ false
-    go true e = absurd (other (same-is first second e))
-    go false e = refl
 
 -- the search ends at the first of that name
 find-at : (image name : List ℕ) (start : ℕ) (ks : List ℕ) (q : ℕ) → q < length ks → ((j : ℕ) → j < q → same name (nameIn image (getD ks j 0)) ≡ false)

@@ -1,14 +1,13 @@
 -- Store, where its number is 0: a new program was entered, with a free sector for each 256 of its bytes and for the rest; and a load of it gives those bytes.
-use mathlib.Core.Path.{_≡_, refl, sym, ap, _∙_}
+use mathlib.Core.Path.{_≡_, refl}
 use mathlib.Core.List.{List, [], _∷_, _++_}
 use Prim.Native.Nat.{ℕ, _+_, _%_, _≤_, _<_}
 use native.Mathlib.Omega.{arith}
-use native.Mathlib.Decide.{decLt, ℕ-discrete}
 use lib.ListN.{length}
 use borrow.Author.Tests.{ltb-false, leb-false}
 use Rattle.rules.specs.Sectors.{Write, sectorOf, sectorCount, written}
 use Rattle.rules.specs.Kind.{kindOf, programLength, IsStatus, IsKind}
-use Rattle.rules.specs.Map.{mapBit, count, freeCount, marked, markedAll}
+use Rattle.rules.specs.Map.{count, freeCount, marked, markedAll}
 use Rattle.rules.specs.Chain.{extendedAll}
 use Rattle.rules.specs.Descriptor.{newDescriptor, withChain}
 use Rattle.rules.specs.Volume.{File, files, catalogue}
@@ -20,11 +19,9 @@ use Rattle.rules.specs.Opening.{openOf}
 use Rattle.rules.specs.Calls.Create.{entered}
 use Rattle.rules.specs.Calls.Load.{loadOf}
 use Rattle.rules.specs.Calls.Store.{sectorsFor, dataWrites, newSectors, newBlocks, storeTests, storing, storeOf}
-use Rattle.rules.proofs.Sectors.{sector-length}
 use Rattle.rules.proofs.Name.{name-is}
-use Rattle.rules.proofs.Map.{count-here, count-other}
-use Rattle.rules.proofs.Marking.{marked-length, marked-here, marked-other, marked-free}
-use Rattle.rules.proofs.Choice.{Fenced, Chosen, sound-fenced, descriptor-choice-free, choices-length, choices-free, choices-once, fenced-marked}
+use Rattle.rules.proofs.Choice.{Chosen, sound-fenced, choices-length, new-free, new-once}
+use Rattle.rules.proofs.Listed.{label-long}
 use Rattle.rules.proofs.Tests.{all-passed, unless-passed}
 use Rattle.rules.proofs.Opening.{IsAbsent, absent-is, open-refused, added-done}
 use Rattle.demands.specs.Catalogue.{putIn}
@@ -35,54 +32,6 @@ use Rattle.demands.specs.Effects.{effect, Done, newHeader, pieces, newPr
 use Rattle.demands.proofs.NewFile.{header-name, header-status, header-end, with-chain-made}
 use Rattle.demands.proofs.Entering.{new-file-done}
 use Rattle.demands.proofs.Pieces.{pieces-length, joined-pieces, put-loads}
-
--- A descriptor's sector k chosen by the map, and `many` for data by the map with k marked: all were free, and each is chosen once.
-module _ (n : ℕ) (sector0 : List ℕ) (many : ℕ) (long : length sector0 ≡ 256) (fence : Fenced n sector0) (room : 1 + many ≤ freeCount sector0) where
-  abbrev first : ℕ
-  first = descriptorChoice sector0
-
-  abbrev later : List ℕ
-  later = dataChoices many (marked 1 sector0 first)
-
-  first-free : Chosen n sector0 first
-  first-free = descriptor-choice-free n sector0 fence (omega (arith, room))
-
-  still-fenced : Fenced n (marked 1 sector0 first)
-  still-fenced = fenced-marked n sector0 first long fence
-
-  long-marked : length (marked 1 sector0 first) ≡ 256
-  long-marked = marked-length 1 sector0 first ∙ long
-
-  room-left : many ≤ freeCount (marked 1 sector0 first)
-  room-left = omega (arith, room, marked-free 1 (omega arith) sector0 first (first-free .low) long, first-free .free)
-
-  later-free : (j : ℕ) → 1 ≤ count j later → Chosen n (marked 1 sector0 first) j
-  later-free = choices-free n many (marked 1 sector0 first) long-marked still-fenced room-left
-
-  later-other : (j : ℕ) → 1 ≤ count j later → first ≡ j → ⊥
-  later-other j some e =
-      omega (arith, later-free j some .free, ap (mapBit (marked 1 sector0 first)) e, marked-here 1 (omega arith) sector0 first (first-free .low) long)
-
-  both-free : (j : ℕ) → 1 ≤ count j (first ∷ later) → Chosen n sector0 j
-  both-free j some =
-      elim (ℕ-discrete first j) [
-        | yes same ↦ rw (← same) first-free
-        | no other ↦
-            let c = later-free j (omega (arith, some, count-other j first later other)) in
-            record { free = sym (marked-other 1 (omega arith) sector0 first j (λ e. other (sym e))) ∙ c .free; from = c .from; inside = c .inside; low = c .low }
-      ]
-
-  both-once : (j : ℕ) → count j (first ∷ later) ≤ 1
-  both-once j =
-      let at-most = choices-once n many (marked 1 sector0 first) long-marked still-fenced room-left j in
-      elim (ℕ-discrete first j) [
-        | yes same ↦
-            elim (decLt 0 (count j later)) [
-              | yes some ↦ absurd (later-other j some same)
-              | no none ↦ omega (arith, none, ap (λ (i : ℕ). count j (i ∷ later)) same, count-here j later)
-            ]
-        | no other ↦ omega (arith, at-most, count-other j first later other)
-      ]
 
 program-status : IsStatus 0x01
 program-status = record { others = refl; excludes = λ e. (refl, refl) }
@@ -141,9 +90,8 @@ module _ (image name bytes : List ℕ) where
   stored-done absent passed =
       let fence = sound-fenced image (absent .whole) in
       let free = ltb-false (freeCount sector0) (1 + c) (passed .1 .1 .0) in
-      let long0 = sector-length image 0 (omega (arith, absent .whole .whole, absent .whole .size)) in
       program-done image name bytes k ks c (choices-length c (marked 1 sector0 k)) (omega arith) (omega (arith, ltb-false 32768 (length bytes) (passed .0))) absent
-      (leb-false 127 (length (files image)) (passed .1 .0)) (both-once (sectorCount image) sector0 c long0 fence free) (both-free (sectorCount image) sector0 c long0 fence free)
+      (leb-false 127 (length (files image)) (passed .1 .0)) (new-once (sectorCount image) sector0 c (label-long image (absent .whole)) fence free) (new-free (sectorCount image) sector0 c (label-long image (absent .whole)) fence free)
       (ltb-false 76 (length (extendedAll [] ks)) (passed .1 .1 .1 .0))
 
 pub stores : (bytes : List ℕ) → Does (store bytes)

@@ -11,13 +11,12 @@ use Rattle.rules.specs.Map.{count}
 use Rattle.rules.specs.Index.{without}
 use Rattle.rules.specs.Volume.{File, files, nameIn, fileIn, catalogue}
 use Rattle.rules.specs.Sound.{Sound}
-use Rattle.rules.proofs.Bytes.{is-same}
+use Rattle.rules.proofs.Bytes.{is-same, not-same}
 use Rattle.rules.proofs.Map.{count-none, count-here, count-other, count-more}
 use Rattle.rules.proofs.Indexed.{without-none, without-here, without-later}
 use Rattle.rules.proofs.Kept.{files-kept}
 use Rattle.rules.proofs.Listed.{listed-name}
 use Rattle.demands.specs.Catalogue.{fileName, takenOut, changed, named}
-use Rattle.demands.proofs.Reading.{not-same}
 use Rattle.demands.proofs.Putting.{file-name}
 
 -- the file at k has the name, and no other

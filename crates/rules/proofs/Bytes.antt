@@ -134,3 +134,10 @@ pub is-same : (bytes : List ℕ) → same bytes bytes ≡ true
 unfolding same
 is-same [] = refl
 is-same (b ∷ bytes) = rw (eq-eqb b b refl) (is-same bytes)
+
+pub not-same : (first second : List ℕ) → (first ≡ second → ⊥) → same first second ≡ false
+not-same first second other = go (same first second) refl
+  where
+    go : (t : Bool) → same first second ≡ t → t ≡ false
+    go true e = absurd (other (same-is first second e))
+    go false e = refl

@@ -18,6 +18,7 @@ pub mod Listed
 pub mod Verdict
 pub mod Free
 pub mod Extended
+pub mod Longer
 pub mod Marking
 pub mod Choice
 pub mod Replaced
