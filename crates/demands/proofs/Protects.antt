@@ -3,17 +3,18 @@ use mathlib.Core.Path.{_≡_, refl, ap, _∙_}
 use mathlib.Core.List.{List, [], _∷_}
 use Prim.Native.Nat.{ℕ, _+_, _-_, _*_, _≤_}
 use native.Mathlib.Omega.{arith}
-use lib.ListN.{length, set, take, length-set}
-use lib.Seq.{getD-set-same, getD-set-other, take-set-le, take-set-lt, drop-set-lt, getD-take}
+use lib.ListN.{length, set, length-set}
+use lib.Seq.{getD-set-same, getD-set-other, take-set-lt, getD-take}
 use Rattle.rules.specs.Bytes.{byteAt, bitOf, withBit, splice}
 use Rattle.rules.specs.Sectors.{sectorOf, sectorCount, written}
 use Rattle.rules.specs.Map.{count}
 use Rattle.rules.specs.Chain.{places}
-use Rattle.rules.specs.Kind.{kindOf, IsStatus}
-use Rattle.rules.specs.Descriptor.{nameOf, statusOf, sectorsOf, chainOf, fileKind, IsDescriptor}
+use Rattle.rules.specs.Kind.{IsStatus}
+use Rattle.rules.specs.Descriptor.{nameOf, statusOf, chainOf, IsDescriptor}
 use Rattle.rules.specs.Volume.{files, nameIn, placesIn, headerIn, contentsIn, fileIn, catalogue}
 use Rattle.rules.specs.Opening.{openOf}
 use Rattle.rules.specs.Calls.Protect.{settingBit, setBitOf}
+use Rattle.rules.proofs.Descriptor.{name-same, chain-same, front-changed}
 use Rattle.rules.proofs.Map.{count-here}
 use Rattle.rules.proofs.Marking.{with-bit-same, with-bit-other}
 use Rattle.rules.proofs.Opening.{IsOpened, opened-is, open-refused, changed-done}
@@ -55,38 +56,19 @@ module _ (bit : ℕ) (small : bit ≤ 1) where
     status-now : statusOf changed-descriptor ≡ withBit (statusOf d) 3 bit
     status-now = getD-set-same d 12 (withBit (statusOf d) 3 bit) 0 (omega arith)
 
+    same-long : length changed-descriptor ≡ length d
+    same-long = length-set d 12 (withBit (statusOf d) 3 bit)
+
     name-kept : nameOf changed-descriptor ≡ nameOf d
-    unfolding nameOf
-    name-kept = take-set-le 10 d 12 (withBit (statusOf d) 3 bit) (omega arith)
+    name-kept = name-same d changed-descriptor same-long (λ i low. byte-kept i (λ e. omega arith))
 
     chain-kept : chainOf changed-descriptor ≡ chainOf d
-    unfolding chainOf
-    chain-kept = ap (take 228) (drop-set-lt 28 d 12 (withBit (statusOf d) 3 bit) (omega arith))
-
-    sectors-kept : sectorsOf changed-descriptor ≡ sectorsOf d
-    sectors-kept = rw (byte-kept 14 (λ e. omega arith), byte-kept 15 (λ e. omega arith))
-
-    kind-kept : fileKind changed-descriptor ≡ fileKind d
-    unfolding fileKind kindOf
-    kind-kept =
-        rw (
-          sectors-kept,
-          status-now,
-          byte-kept 16 (λ e. omega arith),
-          byte-kept 17 (λ e. omega arith),
-          with-bit-other (statusOf d) 3 bit small 0 (λ e. omega arith),
-          with-bit-other (statusOf d) 3 bit small 1 (λ e. omega arith),
-          with-bit-other (statusOf d) 3 bit small 7 (λ e. omega arith),
-        )
+    chain-kept = chain-same d changed-descriptor same-long (λ i low. byte-kept i (λ e. omega arith))
 
     rules-kept : (n : ℕ) → IsDescriptor n d → IsDescriptor n changed-descriptor
     rules-kept n is =
-        record {
-          name = rw name-kept (is .name);
-          status = rw status-now (status-kept (statusOf d) (is .status));
-          kind = rw (kind-kept, sectors-kept) (is .kind);
-          chain = rw (chain-kept, sectors-kept) (is .chain);
-        }
+        front-changed d changed-descriptor same-long n (λ i low. byte-kept i (λ e. omega arith))
+        (λ j other. rw status-now (with-bit-other (statusOf d) 3 bit small j other)) (rw name-kept (is .name)) (rw status-now (status-kept (statusOf d) (is .status))) is
 
   -- the call on the file at sector k: its descriptor is none of its places, so the contents stay
   module _ (image name : List ℕ) (p k : ℕ) (o : IsOpened image name p k) where
@@ -100,7 +82,7 @@ module _ (bit : ℕ) (small : bit ≤ 1) where
     there = opened-listed image name p k o
 
     new-long : length new ≡ 256
-    new-long = length-set (sectorOf image k) 12 (withBit (statusOf (sectorOf image k)) 3 bit) ∙ o .long
+    new-long = same-long (sectorOf image k) (o .long) ∙ o .long
 
     own : 1 ≤ count k (k ∷ placesIn image k)
     own = omega (arith, count-here k (placesIn image k))

@@ -13,7 +13,7 @@ use Rattle.rules.specs.Sectors.{Write, sectorOf, sectorCount, written}
 use Rattle.rules.specs.Name.{nameRule, IsName}
 use Rattle.rules.specs.Map.{count}
 use Rattle.rules.specs.Chain.{places}
-use Rattle.rules.specs.Descriptor.{nameOf, sectorsOf, chainOf, fileKind, IsDescriptor}
+use Rattle.rules.specs.Descriptor.{nameOf, chainOf, IsDescriptor}
 use Rattle.rules.specs.Index.{indexOf, without}
 use Rattle.rules.specs.Volume.{files, nameIn, placesIn, placed, headerIn, contentsIn, fileIn, catalogue}
 use Rattle.rules.specs.Sound.{Sound}
@@ -22,10 +22,10 @@ use Rattle.rules.specs.Outcome.{write, tested}
 use Rattle.rules.specs.Opening.{findIn, opening, nameTests, changing}
 use Rattle.rules.specs.Calls.Rename.{renameTests, renaming, namesTests, renameOf}
 use Rattle.rules.proofs.Tests.{all-passed, none-met, passed-both, unless-passed}
-use Rattle.rules.proofs.Bytes.{part-same}
 use Rattle.rules.proofs.Splice.{splice-length, splice-front, splice-take, splice-above}
 use Rattle.rules.proofs.Sectors.{sector-length}
 use Rattle.rules.proofs.Name.{name-is}
+use Rattle.rules.proofs.Descriptor.{chain-same, front-changed}
 use Rattle.rules.proofs.Map.{count-here, count-more}
 use Rattle.rules.proofs.Indexed.{without-length, placed-length, index-length}
 use Rattle.rules.proofs.Kept.{map-agree}
@@ -50,24 +50,12 @@ module _ (d new : List ℕ) (long : length d ≡ 256) (ten : length new ≡ 10) 
   same-byte i behind = splice-above d 0 new i (omega arith)
 
   same-chain : chainOf (splice d 0 new) ≡ chainOf d
-  unfolding chainOf
-  same-chain = part-same (splice d 0 new) d 28 228 (splice-length d 0 new) (λ i low high. same-byte i (omega arith))
-
-  same-sectors : sectorsOf (splice d 0 new) ≡ sectorsOf d
-  same-sectors = rw (same-byte 14 (omega arith), same-byte 15 (omega arith))
-
-  same-kind : fileKind (splice d 0 new) ≡ fileKind d
-  unfolding fileKind
-  same-kind = rw (same-byte 12 (omega arith), same-byte 14 (omega arith), same-byte 15 (omega arith), same-byte 16 (omega arith), same-byte 17 (omega arith))
+  same-chain = chain-same d (splice d 0 new) (splice-length d 0 new) (λ i low. same-byte i (omega arith))
 
   new-descriptor : (n : ℕ) → IsName new → IsDescriptor n d → IsDescriptor n (splice d 0 new)
   new-descriptor n is rules =
-      record {
-        name = rw new-name is;
-        status = rw (same-byte 12 (omega arith)) (rules .status);
-        kind = rw (same-kind, same-sectors) (rules .kind);
-        chain = rw (same-chain, same-sectors) (rules .chain);
-      }
+      let status = same-byte 12 (omega arith) in
+      front-changed d (splice d 0 new) (splice-length d 0 new) n (λ i low. same-byte i (omega arith)) (λ j other. rw status) (rw new-name is) (rw status (rules .status)) rules
 
 -- the writes, and their sectors
 abbrev pub renamings : List ℕ → List ℕ → ℕ → List Write

@@ -11,8 +11,9 @@ use Rattle.rules.specs.Chain.{blocks, placesFrom, places, extended, bloc
 use Rattle.rules.specs.Kind.{isProgram}
 use Rattle.rules.specs.Descriptor.{nameOf, statusOf, sectorsOf, chainOf, fileKind, withChain, IsDescriptor}
 use Rattle.rules.specs.declared.Block.{Block}
-use Rattle.rules.proofs.Bytes.{part-at, part-short, part-same}
+use Rattle.rules.proofs.Bytes.{part-at, part-short}
 use Rattle.rules.proofs.Splice.{splice-past, splice-take}
+use Rattle.rules.proofs.Descriptor.{name-same}
 use Rattle.rules.proofs.Status.{any-kind}
 use Rattle.rules.proofs.Extended.{Writable, extended-places, extended-linked, extended-length, linked-writable, with-chain-length, with-chain-sectors, with-chain-before, with-chain-blocks, with-chain-is}
 
@@ -25,10 +26,9 @@ longer-descriptor d new = withChain d (sectorsOf d + 1) (extended 0 (blocks (cha
 -- the header
 module _ (d : List ℕ) (new : ℕ) where
   pub longer-name : nameOf (longer-descriptor d new) ≡ nameOf d
-  unfolding nameOf
   longer-name =
-      part-same (longer-descriptor d new) d 0 10 (with-chain-length d (sectorsOf d + 1) (longer-blocks d new))
-      (λ i low high. with-chain-before d (sectorsOf d + 1) (longer-blocks d new) i (omega arith))
+      name-same d (longer-descriptor d new) (with-chain-length d (sectorsOf d + 1) (longer-blocks d new))
+      (λ i low. with-chain-before d (sectorsOf d + 1) (longer-blocks d new) i (omega arith))
 
   pub longer-header : take 28 (longer-descriptor d new) ≡ splice (take 28 d) 14 (wordBytes (sectorsOf d + 1))
   unfolding withChain

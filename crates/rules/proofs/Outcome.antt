@@ -1,5 +1,5 @@
 -- What an answer says is one thing only; what a call promises where it was refused, where it was done and where it hands on what another did; and what stands behind a pointer.
-use mathlib.Core.Path.{_≡_, refl, sym, _∙_}
+use mathlib.Core.Path.{_≡_, refl, sym, ap, _∙_}
 use mathlib.Core.Bool.{Bool, true, false, cond}
 use mathlib.Core.List.{List, []}
 use Prim.Native.Nat.{ℕ}
@@ -7,7 +7,7 @@ use lib.Dec.{eqb}
 use borrow.Author.Tests.{eq-eqb, ne-eqb, eqb-true, eqb-false}
 use Rattle.rules.specs.Bytes.{splice}
 use Rattle.rules.specs.Sectors.{Write, written}
-use Rattle.rules.specs.Tests.{Test, firstOf}
+use Rattle.rules.specs.Tests.{Test, firstOf, unlessMet}
 use Rattle.rules.specs.Outcome.{Report, gives, refuses, Outcome, done, refusal, reported, tested, AnswerSays, AmountSays, Meets, Gives, answerOf, amountOf, behind}
 use Rattle.rules.specs.Calls.Read.{ReadSays}
 use Rattle.rules.specs.declared.Answer.{Answer}
