@@ -3,14 +3,14 @@
 ghost use mathlib.Core.Path.{_≡_};
 ghost use Prim.Native.Nat.{_+_};
 ghost use lib.ListN.{length};
-ghost use Rattle.rules.specs.Sectors.{written};
 ghost use Rattle.rules.specs.Chain.{blocks, extended};
 ghost use Rattle.rules.specs.Descriptor.{sectorsOf, chainOf, withChain};
 ghost use Rattle.rules.specs.Map.{marked};
-ghost use Rattle.rules.specs.Sectors.{sectorOf};
+ghost use Rattle.rules.specs.Sectors.{sectorOf, written};
 ghost use Rattle.rules.specs.Sound.{IsFile};
-ghost use Rattle.rules.specs.Outcome.{answerOf};
-ghost use Rattle.rules.specs.Calls.Append.{appending, appendOf};
+ghost use Rattle.rules.specs.Choice.{dataChoice};
+ghost use Rattle.rules.specs.Outcome.{Meets};
+ghost use Rattle.rules.specs.Calls.Append.{appendWrites, appending, appendOf};
 ghost use Rattle.extension.specs.Built.{Extendable};
 use extension::Tip;
 use extension::extend;
@@ -30,17 +30,17 @@ use sector::bytes::part;
 use sector::bytes::sector_of;
 
 // The descriptor of the file with the sector `new` behind its chain.
-fn longer(longer: &mut [u8], descriptor: &[u8], tip: Tip, new: usize)
-    requires { ⌜ (length (now longer) ≡ 256) × (length (now descriptor) ≡ 256) × Extendable (chainOf (now descriptor)) tip new × (sectorsOf (now descriptor) ≡ tip .next) ⌝ }
-    ensures { λ _. ⌜ now (longer .exit) ≡ withChain (now (descriptor .entry)) (sectorsOf (now (descriptor .entry)) + 1) (extended 0 (blocks (chainOf (now (descriptor .entry)))) new) ⌝ }
+fn longer(to: &mut [u8], descriptor: &[u8], tip: Tip, new: usize)
+    requires { ⌜ (length (now to) ≡ 256) × (length (now descriptor) ≡ 256) × Extendable (chainOf (now descriptor)) tip new × (sectorsOf (now descriptor) ≡ tip .next) ⌝ }
+    ensures { λ _. ⌜ now (to .exit) ≡ withChain (now (descriptor .entry)) (sectorsOf (now (descriptor .entry)) + 1) (extended 0 (blocks (chainOf (now (descriptor .entry)))) new) ⌝ }
 {
     let c = tip.next + 1;
     let high = (c / 256) as u8;
     let low = (c % 256) as u8;
     let count = [high, low];
-    copy(longer, descriptor);
-    lay(longer, 14, &count);
-    extend(&mut longer[28..256], tip, new);
+    copy(to, descriptor);
+    lay(to, 14, &count);
+    extend(&mut to[28..256], tip, new);
 }
 
 // Sector 0 with the sector `new` taken.
@@ -52,11 +52,24 @@ fn map_with(sector0: &mut [u8], image: &[u8], new: usize)
     mark(sector0, new);
 }
 
+// The three sectors, in the order of the definition.
+fn write_longer(image: &mut [u8], k: usize, bytes: &[u8], tip: Tip, new: usize)
+    requires { ⌜ IsFile (now image) k × (new ≡ dataChoice (sectorOf (now image) 0)) × Extendable (chainOf (sectorOf (now image) k)) tip new × (sectorsOf (sectorOf (now image) k) ≡ tip .next) ⌝ }
+    ensures { λ _. ⌜ now (image .exit) ≡ written (now (image .entry)) (appendWrites (now (image .entry)) (now (bytes .entry)) k) ⌝ }
+{
+    let mut descriptor = [0u8; 256];
+    longer(&mut descriptor, sector_of(image, k), tip, new);
+    let mut sector0 = [0u8; 256];
+    map_with(&mut sector0, image, new);
+    write_sector(image, new, bytes);
+    write_sector(image, 0, &sector0);
+    write_sector(image, k, &descriptor);
+}
+
 // Of the file whose descriptor is in sector k.
 fn append_at(image: &mut [u8], k: usize, bytes: &[u8]) -> Answer
     requires { ⌜ IsFile (now image) k ⌝ }
-    ensures { λ r. ⌜ r ≡ answerOf (appending (now (image .entry)) (now (bytes .entry)) k .number) ⌝ }
-    ensures { λ _. ⌜ now (image .exit) ≡ written (now (image .entry)) (appending (now (image .entry)) (now (bytes .entry)) k .writes) ⌝ }
+    ensures { λ r. ⌜ Meets (appending (now (image .entry)) (now (bytes .entry)) k) r (now (image .entry)) (now (image .exit)) ⌝ }
 {
     let status = byte(sector_of(image, k), 12);
     if status / 8 % 2 == 1 {
@@ -79,23 +92,17 @@ fn append_at(image: &mut [u8], k: usize, bytes: &[u8]) -> Answer
     if with.used > 76 {
         return Answer::Refused(13);
     }
-    let mut descriptor = [0u8; 256];
-    longer(&mut descriptor, sector_of(image, k), tip, new);
-    let mut sector0 = [0u8; 256];
-    map_with(&mut sector0, image, new);
-    write_sector(image, new, bytes);
-    write_sector(image, 0, &sector0);
-    write_sector(image, k, &descriptor);
+    write_longer(image, k, bytes, tip, new);
     Answer::Done
 }
 
 pub fn append(image: &mut [u8], name: &[u8], bytes: &[u8]) -> Answer
-    ensures { λ r. ⌜ r ≡ answerOf (appendOf (now (image .entry)) (now (name .entry)) (now (bytes .entry)) .number) ⌝ }
-    ensures { λ _. ⌜ now (image .exit) ≡ written (now (image .entry)) (appendOf (now (image .entry)) (now (name .entry)) (now (bytes .entry)) .writes) ⌝ }
+    ensures { λ r. ⌜ Meets (appendOf (now (image .entry)) (now (name .entry)) (now (bytes .entry))) r (now (image .entry)) (now (image .exit)) ⌝ }
 {
     let opened = find(image, name);
     match opened {
         Opened::Refused(number) => Answer::Refused(number),
+        Opened::Absent => Answer::Refused(8),
         Opened::At(_, k) => append_at(image, k, bytes),
     }
 }

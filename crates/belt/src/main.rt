@@ -5,20 +5,15 @@
 // reads the images and writes the lines, and of that only safety is proved, since no contract can
 // say what is read or written. An image that cannot be read has `-` in the number's place and the
 // reason on standard error, and the images after it are judged all the same.
+use input::ARGUMENT_ROOM;
+use input::IMAGE_ROOM;
 use input::Reading;
-use input::read_image;
+use input::read_file;
+use input::read_or_tell;
 use libc::STDIN_FILENO;
 use libc::STDOUT_FILENO;
 use sector::buffer::lay;
 use sector::bytes::part;
-
-// One byte more than the longest image that can be sound. An image that is too long fills the
-// buffer, and the judge refuses it for its length, whatever comes after the bytes that were read.
-const IMAGE_ROOM: usize = 409601;
-
-// One byte more than the longest argument that Linux passes where a page has 4,096 bytes, so that
-// each line carries its argument whole.
-const ARGUMENT_ROOM: usize = 131072;
 
 // What a line begins with: the judge's number, or that there was no image to judge.
 enum Verdict {
@@ -26,26 +21,11 @@ enum Verdict {
     Unread,
 }
 
-// Judges what the descriptor gives. A reason, which begins with `name`, is written before the caller
-// closes the descriptor, since closing can set errno anew.
-fn judge_descriptor(descriptor: i32, name: &[u8], buffer: &mut [u8]) -> Verdict {
-    let reading = read_image(descriptor, buffer);
-    let Reading::Bytes(length) = reading else {
-        os::fail(name);
-        return Verdict::Unread;
-    };
-    Verdict::Number(judge::judge(&buffer[..length]))
-}
-
-fn judge_file(path: &[u8], buffer: &mut [u8]) -> Verdict {
-    let descriptor = os::open_read(path);
-    if descriptor < 0 {
-        os::fail(path);
-        return Verdict::Unread;
+fn judge_reading(reading: Reading, buffer: &[u8]) -> Verdict {
+    match reading {
+        Reading::Bytes(length) => Verdict::Number(judge::judge(part(buffer, 0, length))),
+        Reading::Failed => Verdict::Unread,
     }
-    let verdict = judge_descriptor(descriptor, path, buffer);
-    libc::close(descriptor);
-    verdict
 }
 
 // The numbers have one digit.
@@ -76,12 +56,16 @@ fn judge_argument(position: usize, argument: &mut [u8], buffer: &mut [u8]) -> bo
         return write_line(Verdict::Unread, b"", buffer);
     }
     let path = &argument[..length];
-    let verdict = judge_file(path, buffer);
-    write_line(verdict, path, buffer)
+    let reading = read_file(path, buffer);
+    write_line(judge_reading(reading, buffer), path, buffer)
 }
 
 // Argument 0 is the program's own name.
-fn judge_arguments(count: usize, argument: &mut [u8], buffer: &mut [u8]) -> bool {
+fn judge_arguments(
+    count: usize,
+    argument: &mut [u8; ARGUMENT_ROOM],
+    buffer: &mut [u8; IMAGE_ROOM],
+) -> bool {
     for position in 1..count {
         if !judge_argument(position, argument, buffer) {
             return false;
@@ -91,12 +75,12 @@ fn judge_arguments(count: usize, argument: &mut [u8], buffer: &mut [u8]) -> bool
 }
 
 fn judge_standard_input(buffer: &mut [u8]) -> bool {
-    let verdict = judge_descriptor(STDIN_FILENO, b"standard input", buffer);
-    let line = [mark_of(verdict), b'\n'];
+    let reading = read_or_tell(STDIN_FILENO, b"standard input", buffer);
+    let line = [mark_of(judge_reading(reading, buffer)), b'\n'];
     io::write_all(STDOUT_FILENO, &line)
 }
 
-fn judge_all(argument: &mut [u8], buffer: &mut [u8]) -> bool {
+fn judge_all(argument: &mut [u8; ARGUMENT_ROOM], buffer: &mut [u8; IMAGE_ROOM]) -> bool {
     let count = os::arg_count();
     if count < 2 {
         return judge_standard_input(buffer);

@@ -7,7 +7,7 @@
 use appending::append;
 use creating::create;
 use descriptor::chain::place_at;
-use filing::delete;
+use deleting::delete;
 use formatting::format::Geometry;
 use formatting::format::format;
 use judge::judge;
@@ -85,7 +85,7 @@ fn digit(i: usize) -> u8 {
 }
 
 // The first number other than 0 that creating 127 files gives.
-fn create_files(image: &mut [u8]) -> u32 {
+fn create_files(image: &mut [u8; 33280]) -> u32 {
     let mut i = 0;
     while i < 127 {
         let name = [

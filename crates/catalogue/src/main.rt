@@ -10,7 +10,7 @@ ghost use lib.ListN.{length};
 ghost use Rattle.rules.specs.Bytes.{part};
 ghost use Rattle.catalogue.specs.Output.{output};
 use input::Reading;
-use input::read_image;
+use input::read_or_tell;
 use libc::STDIN_FILENO;
 use libc::STDOUT_FILENO;
 use listing::listing;
@@ -46,12 +46,11 @@ fn put_text(image: &[u8], text: &mut [u8]) -> usize
 fn run(buffer: &mut [u8], text: &mut [u8])
     requires { ⌜ 4593 ≤ length (now text) ⌝ }
 {
-    let reading = read_image(STDIN_FILENO, buffer);
+    let reading = read_or_tell(STDIN_FILENO, b"standard input", buffer);
     let Reading::Bytes(length) = reading else {
-        os::fail(b"standard input");
         return;
     };
-    let size = put_text(&buffer[..length], text);
+    let size = put_text(part(buffer, 0, length), text);
     if !io::write_all(STDOUT_FILENO, part(text, 0, size)) {
         os::fail(b"standard output");
     }

@@ -2,10 +2,9 @@
 // writes of the rules' definition laid over it; a refusal has none.
 ghost use mathlib.Core.Path.{_≡_};
 ghost use mathlib.Core.Bool.{true};
-ghost use Rattle.rules.specs.Sectors.{written};
 ghost use Rattle.rules.specs.Name.{nameRule};
 ghost use Rattle.rules.specs.Sound.{Sound};
-ghost use Rattle.rules.specs.Outcome.{answerOf};
+ghost use Rattle.rules.specs.Outcome.{Meets};
 ghost use Rattle.rules.specs.Calls.Create.{createStatus, creating, createOf};
 use descriptor::header::new_descriptor;
 use index::enter;
@@ -45,8 +44,7 @@ fn create_new(
     records_per_sector: u8,
 ) -> Answer
     requires { ⌜ Sound (now image) × (nameRule (now name) ≡ true) ⌝ }
-    ensures { λ r. ⌜ r ≡ answerOf (creating (now (image .entry)) (now (name .entry)) status «record_length» «records_per_sector» .number) ⌝ }
-    ensures { λ _. ⌜ now (image .exit) ≡ written (now (image .entry)) (creating (now (image .entry)) (now (name .entry)) status «record_length» «records_per_sector» .writes) ⌝ }
+    ensures { λ r. ⌜ Meets (creating (now (image .entry)) (now (name .entry)) status «record_length» «records_per_sector») r (now (image .entry)) (now (image .exit)) ⌝ }
 {
     if !create_status(status) {
         return Answer::Refused(15);
@@ -83,17 +81,12 @@ pub fn create(
     record_length: u8,
     records_per_sector: u8,
 ) -> Answer
-    ensures { λ r. ⌜ r ≡ answerOf (createOf (now (image .entry)) (now (name .entry)) status «record_length» «records_per_sector» .number) ⌝ }
-    ensures { λ _. ⌜ now (image .exit) ≡ written (now (image .entry)) (createOf (now (image .entry)) (now (name .entry)) status «record_length» «records_per_sector» .writes) ⌝ }
+    ensures { λ r. ⌜ Meets (createOf (now (image .entry)) (now (name .entry)) status «record_length» «records_per_sector») r (now (image .entry)) (now (image .exit)) ⌝ }
 {
     let opened = find(image, name);
     match opened {
+        Opened::Refused(number) => Answer::Refused(number),
         Opened::At(_, _) => Answer::Refused(9),
-        Opened::Refused(number) => {
-            if number != 8 {
-                return Answer::Refused(number);
-            }
-            create_new(image, name, status, record_length, records_per_sector)
-        }
+        Opened::Absent => create_new(image, name, status, record_length, records_per_sector),
     }
 }

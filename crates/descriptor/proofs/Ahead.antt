@@ -1,14 +1,12 @@
 -- The places ahead of a cursor, a step at a time.
 use mathlib.Core.Path.{_≡_, ap, _∙_}
-use mathlib.Core.Bool.{true, false}
 use mathlib.Core.List.{List, [], _∷_, _++_}
 use Prim.Native.Nat.{ℕ, _+_, _-_, _≤_, _<_}
 use native.Mathlib.Omega.{arith}
-use lib.ListN.{length, drop}
-use Rattle.rules.specs.Bytes.{byteAt}
-use Rattle.rules.specs.Chain.{blocks, blockOf, endsChain, run, placesFrom, places}
+use lib.ListN.{drop}
+use Rattle.rules.specs.Chain.{blocks, run, placesFrom, places}
 use Rattle.rules.specs.declared.Block.{Block}
-use Rattle.rules.proofs.Chain.{blocks-step, blocks-end, blocks-short, run-none, run-step}
+use Rattle.rules.proofs.Chain.{run-none, run-step}
 use Rattle.descriptor.specs.Cursor.{ahead, first}
 use Rattle.descriptor.specs.declared.chain.Cursor.{Cursor}
 
@@ -32,18 +30,12 @@ module _ (chain : List ℕ) (cursor : Cursor) where
     unfolding ahead
     between = let e : cursor .left ≡ 0 = omega arith in rw (e, run-none (cursor .place))
 
-    pub short-chain : length chain < cursor .at + 3 → ahead chain cursor ≡ []
+    pub no-block : blocks (drop (cursor .at) chain) ≡ [] → ahead chain cursor ≡ []
     unfolding placesFrom
-    short-chain h = between ∙ rw (blocks-short chain (cursor .at) h)
+    no-block none = between ∙ rw none
 
-    module _ (here : cursor .at + 3 ≤ length chain) where
-      pub no-block : endsChain (byteAt chain (cursor .at)) (byteAt chain (cursor .at + 1)) (byteAt chain (cursor .at + 2)) ≡ true → ahead chain cursor ≡ []
-      unfolding placesFrom
-      no-block e = between ∙ rw (blocks-end chain (cursor .at) here e)
-
-      pub next-block : endsChain (byteAt chain (cursor .at)) (byteAt chain (cursor .at + 1)) (byteAt chain (cursor .at + 2)) ≡ false → (block : Block)
-          → block ≡ blockOf (byteAt chain (cursor .at)) (byteAt chain (cursor .at + 1)) (byteAt chain (cursor .at + 2))
-          → ahead chain cursor
-          ≡ block .start ∷ ahead chain (record { at = cursor .at + 3; next = block .last + 1; place = block .start + 1; left = block .last - cursor .next })
-      unfolding ahead placesFrom
-      next-block e block b = between ∙ rw (blocks-step chain (cursor .at) here e, ← b, run-step (block .start) (block .last - cursor .next))
+    pub next-block : (block : Block) → blocks (drop (cursor .at) chain) ≡ block ∷ blocks (drop (cursor .at + 3) chain)
+        → ahead chain cursor
+        ≡ block .start ∷ ahead chain (record { at = cursor .at + 3; next = block .last + 1; place = block .start + 1; left = block .last - cursor .next })
+    unfolding ahead placesFrom
+    next-block block here = between ∙ rw (here, run-step (block .start) (block .last - cursor .next))

@@ -1,13 +1,14 @@
-// Blocks, and the cursor that goes through the places of a chain.
+// Blocks, the walk over those of a chain, and the cursor that goes through the places of a chain.
 ghost use mathlib.Core.Path.{_≡_};
-ghost use Prim.Native.Nat.{_-_, _<_};
-ghost use lib.ListN.{getD};
+ghost use Prim.Native.Nat.{_-_, _≤_, _<_};
+ghost use lib.ListN.{length, getD};
 ghost use Rattle.rules.specs.Chain.{blockOf, endsChain, places};
+ghost use Rattle.descriptor.specs.Walk.{BlocksFrom};
 ghost use Rattle.descriptor.specs.Cursor.{Steady, first, Stepped};
 use rules::Block;
 
 // The block that three bytes hold.
-pub fn block_of(a: u8, b: u8, c: u8) -> Block
+fn block_of(a: u8, b: u8, c: u8) -> Block
     ensures { λ r. ⌜ (r ≡ blockOf a b c) × (r .start < 4096) × (r .last < 4096) ⌝ }
 {
     let low = a as usize;
@@ -20,7 +21,7 @@ pub fn block_of(a: u8, b: u8, c: u8) -> Block
 }
 
 // Whether three bytes end the chain.
-pub fn ends_chain(a: u8, b: u8, c: u8) -> bool
+fn ends_chain(a: u8, b: u8, c: u8) -> bool
     ensures { λ r. ⌜ r ≡ endsChain a b c ⌝ }
 {
     if a != 0 {
@@ -30,6 +31,29 @@ pub fn ends_chain(a: u8, b: u8, c: u8) -> bool
         return false;
     }
     c == 0
+}
+
+// What a walk over a chain meets at a byte: a block, or the end.
+pub enum Met {
+    Found(Block),
+    Ended,
+}
+
+// The block at byte `at` of a chain. Three zero bytes end it, and so do fewer than three.
+pub fn block_at(chain: &[u8], at: usize) -> Met
+    requires { ⌜ at ≤ length (now chain) ⌝ }
+    ensures { λ r. ⌜ BlocksFrom (now (chain .entry)) at r ⌝ }
+{
+    if at + 3 > chain.len() {
+        return Met::Ended;
+    }
+    let a = chain[at];
+    let b = chain[at + 1];
+    let c = chain[at + 2];
+    if ends_chain(a, b, c) {
+        return Met::Ended;
+    }
+    Met::Found(block_of(a, b, c))
 }
 
 // a - b, and 0 where b is greater.
@@ -89,16 +113,9 @@ impl Cursor {
                 },
             );
         }
-        if at + 3 > chain.len() {
+        let Met::Found(block) = block_at(chain, at) else {
             return Step::End;
-        }
-        let a = chain[at];
-        let b = chain[at + 1];
-        let c = chain[at + 2];
-        if ends_chain(a, b, c) {
-            return Step::End;
-        }
-        let block = block_of(a, b, c);
+        };
         let start = block.start;
         let last = block.last;
         Step::Place(
@@ -120,14 +137,7 @@ pub fn place_at(chain: &[u8], offset: usize) -> usize
     let mut at = 0;
     let mut next = 0;
     let mut left = offset;
-    while at + 3 <= chain.len() {
-        let a = chain[at];
-        let b = chain[at + 1];
-        let c = chain[at + 2];
-        if ends_chain(a, b, c) {
-            return 0;
-        }
-        let block = block_of(a, b, c);
+    while let Met::Found(block) = block_at(chain, at) {
         let start = block.start;
         let last = block.last;
         let many = less(last, next) + 1;

@@ -2,35 +2,27 @@
 use mathlib.Core.Path.{_≡_, refl, sym, ap, _∙_}
 use mathlib.Core.Bool.{Bool, true, false, cond}
 use mathlib.Core.List.{List, [], _∷_, _++_}
-use Prim.Native.Nat.{ℕ, suc, _+_, _-_, _≤_, _<_}
+use Prim.Native.Nat.{ℕ, suc, _+_, _-_}
 use native.Mathlib.Omega.{arith}
 use lib.Dec.{eqb}
-use lib.ListN.{length, take, drop}
+use lib.ListN.{length, take}
 use borrow.Author.Tests.{lt-ltb}
-use Rattle.rules.specs.Bytes.{byteAt}
-use Rattle.rules.specs.Chain.{blocks, blockOf, endsChain, extended, Linked}
+use Rattle.rules.specs.Chain.{extended, Linked}
 use Rattle.rules.specs.declared.Block.{Block}
-use Rattle.rules.proofs.Chain.{blocks-step, blocks-end, blocks-short}
 use Rattle.rules.proofs.Extended.{extended-length}
 use Rattle.extension.specs.declared.Tip.{Tip}
 use Rattle.extension.specs.Tip.{noTip, tipFrom, tipOf, isNext, tipWith}
 
--- the blocks of the chain from byte i on, behind a tip: one and the rest, the end, and too few bytes for one
-module _ (chain : List ℕ) (i : ℕ) (tip : Tip) where
-  pub tip-step : i + 3 ≤ length chain → endsChain (byteAt chain i) (byteAt chain (i + 1)) (byteAt chain (i + 2)) ≡ false
-      → (block : Block) → block ≡ blockOf (byteAt chain i) (byteAt chain (i + 1)) (byteAt chain (i + 2))
-      → tipFrom tip (blocks (drop i chain))
-      ≡ tipFrom (record { used = tip .used + 1; start = block .start; first = tip .next; next = block .last + 1 }) (blocks (drop (i + 3) chain))
+-- behind a tip, one block and the rest, and none
+module _ (tip : Tip) (bs : List Block) where
+  pub tip-step : (block : Block) (more : List Block) → bs ≡ block ∷ more
+      → tipFrom tip bs ≡ tipFrom (record { used = tip .used + 1; start = block .start; first = tip .next; next = block .last + 1 }) more
   unfolding tipFrom
-  tip-step h e block b = rw (blocks-step chain i h e, b)
+  tip-step block more here = rw here
 
-  pub tip-end : i + 3 ≤ length chain → endsChain (byteAt chain i) (byteAt chain (i + 1)) (byteAt chain (i + 2)) ≡ true → tipFrom tip (blocks (drop i chain)) ≡ tip
+  pub tip-end : bs ≡ [] → tipFrom tip bs ≡ tip
   unfolding tipFrom
-  tip-end h e = rw (blocks-end chain i h e)
-
-  pub tip-short : length chain < i + 3 → tipFrom tip (blocks (drop i chain)) ≡ tip
-  unfolding tipFrom
-  tip-short h = rw (blocks-short chain i h)
+  tip-end none = rw none
 
 -- how many blocks, and where they end
 tip-from-used : (tip : Tip) (bs : List Block) → tipFrom tip bs .used ≡ tip .used + length bs

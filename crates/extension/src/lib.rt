@@ -5,8 +5,8 @@ ghost use Prim.Native.Nat.{_<_};
 ghost use Rattle.rules.specs.Chain.{blockBytes};
 ghost use Rattle.extension.specs.Tip.{isNext, tipWith, IsTip};
 ghost use Rattle.extension.specs.Built.{Extendable, Extends};
-use descriptor::chain::block_of;
-use descriptor::chain::ends_chain;
+use descriptor::chain::Met;
+use descriptor::chain::block_at;
 use sector::buffer::lay;
 
 // How many blocks a chain has; where the last one starts, the first file sector that it covers, and the first file sector
@@ -27,19 +27,7 @@ pub fn tip_of(chain: &[u8]) -> Tip
     let mut start = 0;
     let mut first = 0;
     let mut next = 0;
-    while at + 3 <= chain.len() {
-        let a = chain[at];
-        let b = chain[at + 1];
-        let c = chain[at + 2];
-        if ends_chain(a, b, c) {
-            return Tip {
-                used,
-                start,
-                first,
-                next,
-            };
-        }
-        let block = block_of(a, b, c);
+    while let Met::Found(block) = block_at(chain, at) {
         used += 1;
         start = block.start;
         first = next;

@@ -1,13 +1,14 @@
 // Formatting: sector 0 is made in a local array and written whole, sector 1 is filled with zeros, and every other byte is E5 hex.
 ghost use mathlib.Core.Path.{_≡_};
 ghost use mathlib.Core.List.{[], _∷_, _++_};
-ghost use Prim.Native.Nat.{_*_, _≤_, _<_};
+ghost use Prim.Native.Nat.{_*_, _≤_};
 ghost use lib.ListN.{length};
-ghost use Rattle.rules.specs.Map.{taken, byteOf, mapOf};
+ghost use Rattle.rules.specs.Map.{mapOf};
 ghost use Rattle.rules.specs.Outcome.{answerOf};
 ghost use Rattle.rules.specs.Calls.Format.{newLabel, formatted, formatNumber, afterFormat};
 ghost use Rattle.formatting.specs.Geometry.{geometryOf};
 use descriptor::name::name_rule;
+use mapping::new_map;
 use rules::Answer;
 use sector::buffer::fill;
 use sector::buffer::lay;
@@ -45,51 +46,13 @@ fn new_label(n: usize, name: &[u8], geometry: Geometry) -> [u8; 56]
     label
 }
 
-// The byte of the map from sector k on where no sector is held: the bits of sectors past the end are one.
-fn past_end(n: usize, k: usize) -> u8
-    ensures { λ r. ⌜ r ≡ byteOf (taken n []) k ⌝ }
-{
-    if n <= k {
-        return 0xFF;
-    }
-    if n - k >= 8 {
-        return 0;
-    }
-    0xFFu8 << (n - k)
-}
-
-// Byte i of the map of an empty volume: sectors 0 and 1 are held, the lowest two bits of byte 0.
-fn map_byte(n: usize, i: usize) -> u8
-    requires { ⌜ (3 ≤ n) × (i < 200) ⌝ }
-    ensures { λ r. ⌜ r ≡ byteOf (taken n (0 ∷ (1 ∷ []))) (8 * i) ⌝ }
-{
-    let past = past_end(n, 8 * i);
-    if i == 0 {
-        return past + 3;
-    }
-    past
-}
-
-// Bytes 56 to 255 of sector 0.
-fn new_map(n: usize) -> [u8; 200]
-    requires { ⌜ 3 ≤ n ⌝ }
-    ensures { λ r. ⌜ r ≡ mapOf n (0 ∷ (1 ∷ [])) ⌝ }
-{
-    let mut map = [0u8; 200];
-    let mut i = 0;
-    while i < 200 {
-        map[i] = map_byte(n, i);
-        i += 1;
-    }
-    map
-}
-
+// The label and the map, in which sectors 0 and 1 are held.
 fn new_sector0(n: usize, name: &[u8], geometry: Geometry) -> [u8; 256]
     requires { ⌜ (3 ≤ n) × (n ≤ 1600) × (length (now name) ≡ 10) ⌝ }
     ensures { λ r. ⌜ r ≡ newLabel n (now (name .entry)) (geometryOf geometry) ++ mapOf n (0 ∷ (1 ∷ [])) ⌝ }
 {
     let label = new_label(n, name, geometry);
-    let map = new_map(n);
+    let map = new_map(n, 2);
     let mut sector0 = [0u8; 256];
     lay(&mut sector0, 0, &label);
     lay(&mut sector0, 56, &map);

@@ -14,7 +14,7 @@ use sector::buffer::lay;
 use sector::buffer::write_sector;
 use sector::bytes::part;
 use sector::bytes::sector_of;
-use sector::bytes::word;
+use sector::numbers::number_at;
 
 // The number k in the two bytes from `at` on.
 fn lay_number(index: &mut [u8], at: usize, k: usize)
@@ -34,8 +34,8 @@ fn copy_numbers(index: &mut [u8], at: usize, sector1: &[u8], from: usize)
 {
     let mut to = at;
     let mut i = from;
-    while i + 2 <= sector1.len() {
-        let k = word(sector1, i);
+    loop {
+        let k = number_at(sector1, i);
         if k == 0 {
             return;
         }
@@ -51,8 +51,8 @@ pub fn index_without(index: &mut [u8; 256], sector1: &[u8], k: usize)
     ensures { λ _. ⌜ now (index .exit) ≡ indexOf (without k (numbers (now (sector1 .entry)))) ⌝ }
 {
     let mut at = 0;
-    while at + 2 <= sector1.len() {
-        let j = word(sector1, at);
+    loop {
+        let j = number_at(sector1, at);
         if j == 0 {
             return;
         }
@@ -72,8 +72,8 @@ pub fn index_with(index: &mut [u8; 256], image: &[u8], sector1: &[u8], name: &[u
     ensures { λ _. ⌜ now (index .exit) ≡ indexOf (placed (now (image .entry)) (now (name .entry)) k (numbers (now (sector1 .entry)))) ⌝ }
 {
     let mut at = 0;
-    while at + 2 <= sector1.len() {
-        let j = word(sector1, at);
+    loop {
+        let j = number_at(sector1, at);
         if j == 0 {
             break;
         }

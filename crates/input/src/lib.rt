@@ -1,6 +1,13 @@
-// The image that a descriptor gives, read until it ends. Of what is read nothing can be said; that it was put at the start of the buffer, and
-// how much of it, is proved.
+// The image that a descriptor gives, read until it ends, or that a file has. Of what is read nothing can be said; that it was put at the start of
+// the buffer, and how much of it, is proved.
 ghost use Rattle.input.specs.Filled.{Filled};
+
+// One byte more than the longest image that can be sound. An image that is too long fills the buffer and is refused for its length, whatever
+// comes after the bytes that were read.
+pub const IMAGE_ROOM: usize = 409601;
+
+// One byte more than the longest argument that Linux passes where a page has 4,096 bytes.
+pub const ARGUMENT_ROOM: usize = 131072;
 
 // What a reading gives: how many bytes it put at the start of the buffer.
 pub enum Reading {
@@ -36,4 +43,29 @@ pub fn read_image(descriptor: i32, buffer: &mut [u8]) -> Reading
         filled += more;
     }
     Reading::Bytes(filled)
+}
+
+// The same, with the reason on standard error where it fails, which begins with `name`.
+pub fn read_or_tell(descriptor: i32, name: &[u8], buffer: &mut [u8]) -> Reading
+    ensures { λ r. ⌜ Filled r (now (buffer .exit)) ⌝ }
+{
+    let reading = read_image(descriptor, buffer);
+    if let Reading::Failed = reading {
+        os::fail(name);
+    }
+    reading
+}
+
+// The image in a file. A reason is written before the descriptor is closed, since closing can set errno anew.
+pub fn read_file(path: &[u8], buffer: &mut [u8]) -> Reading
+    ensures { λ r. ⌜ Filled r (now (buffer .exit)) ⌝ }
+{
+    let descriptor = os::open_read(path);
+    if descriptor < 0 {
+        os::fail(path);
+        return Reading::Failed;
+    }
+    let reading = read_or_tell(descriptor, path, buffer);
+    libc::close(descriptor);
+    reading
 }

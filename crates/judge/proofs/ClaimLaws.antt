@@ -10,18 +10,20 @@ use lib.Dec.{eqb, ltb}
 use lib.ListN.{length, set, replicate, length-set, length-replicate, getD-replicate, List·getD-eq-default}
 use lib.Seq.{getD-set-same, getD-set-other}
 use borrow.Author.Tests.{eq-eqb, eqb-true, lt-ltb, ltb-true}
+use Rattle.rules.specs.Bytes.{byteAt, part}
 use Rattle.rules.specs.Sectors.{sectorOf, sectorCount}
-use Rattle.rules.specs.Index.{indexRule}
-use Rattle.rules.specs.Map.{count, taken}
+use Rattle.rules.specs.Map.{count, taken, mapRule}
 use Rattle.rules.specs.Volume.{files, fileHolders, holders}
-use Rattle.rules.specs.Verdict.{sizeRule, descriptorsRule, heldTwice}
+use Rattle.rules.specs.Verdict.{heldTwice}
 use Rattle.rules.proofs.Tests.{both, absurd-test}
-use Rattle.rules.proofs.Map.{count-none, count-here, count-other, count-more, taken-below, taken-past, taken-once}
+use Rattle.rules.proofs.Map.{count-none, count-here, count-other, count-more, taken-below, taken-past, taken-once, bits-agree}
+use Rattle.rules.proofs.Sectors.{sector-below}
 use Rattle.rules.proofs.Index.{index-is}
 use Rattle.rules.proofs.Volume.{file-holders-inside}
 use Rattle.rules.proofs.Verdict.{size-is, descriptors-are, held-once, once-held}
-use Rattle.judge.specs.Claim.{markAt, unmarked, isFree, claimed, claim}
-use Rattle.judge.proofs.MarkLaws.{unmarked-length, unmarked-inside, unmarked-outside}
+use Rattle.judge.specs.Claim.{markAt, bytesRule, unmarked, isFree, Claimed, claimed, claim}
+use Rattle.judge.proofs.MarkLaws.{map-bits, unmarked-length, unmarked-inside, unmarked-outside}
+use Rattle.judge.proofs.VerdictSteps.{FourPassed}
 
 free-is : (marks : List ℕ) (k : ℕ) → isFree marks k ≡ true → (k < 1600) × (markAt marks k ≡ 0)
 unfolding isFree
@@ -181,8 +183,7 @@ claim-length marks (h ∷ hs) = go (isFree marks h) (claim-length (set marks h 1
     go false e = refl
 
 -- The judge's marks: all one, then zero for sectors 2 to n - 1; on an image that has passed the tests before.
-module _ (image marks : List ℕ) (first : marks ≡ unmarked (replicate 1600 1) 2 (sectorCount image - 2)) (sized : sizeRule image ≡ true)
-    (indexed : indexRule (sectorCount image) (sectorOf image 1) ≡ true) (described : descriptorsRule (sectorCount image) image [] (files image) ≡ true) where
+module _ (image marks : List ℕ) (first : marks ≡ unmarked (replicate 1600 1) 2 (sectorCount image - 2)) (passed : FourPassed image) where
   long : length marks ≡ 1600
   long = ap length first ∙ unmarked-length (replicate 1600 1) 2 (sectorCount image - 2) ∙ length-replicate {A = ℕ} 1600 1
 
@@ -194,24 +195,42 @@ module _ (image marks : List ℕ) (first : marks ≡ unmarked (replicate 1600 1)
     where
       either : (k < 2) ⊎ (sectorCount image ≤ k) → (k < 2) ⊎ (2 + (sectorCount image - 2) ≤ k)
       either (inl low) = inl low
-      either (inr high) = let size = size-is image sized in inr (omega (arith, size .1))
+      either (inr high) = let size = size-is image (passed .sized) in inr (omega (arith, size .1))
 
   inside : (k : ℕ) → 1 ≤ count k (fileHolders image (files image)) → (2 ≤ k) × (k < sectorCount image)
   unfolding files
-  inside k = file-holders-inside (sectorCount image) image (files image) k (index-is (sectorCount image) (sectorOf image 1) indexed .range) (descriptors-are (sectorCount image) image [] (files image) described)
+  inside k =
+      file-holders-inside (sectorCount image) image (files image) k (index-is (sectorCount image) (sectorOf image 1) (passed .indexed) .range)
+      (descriptors-are (sectorCount image) image [] (files image) (passed .described))
 
-  pub judged-twice : claim marks (fileHolders image (files image)) .twice ≡ heldTwice (holders image)
-  judged-twice = let size = size-is image sized in twice-is (sectorCount image) image marks (size .1) (size .2) long free held inside
+  -- what the claims come to, and the marks that they leave
+  module _ (twice : Bool) (after : List ℕ) (is : claimed twice after ≡ claim marks (fileHolders image (files image))) where
+    pub judged-twice : heldTwice (holders image) ≡ twice
+    judged-twice =
+        let size = size-is image (passed .sized) in
+        sym (ap (λ (r : Claimed). r .twice) is ∙ twice-is (sectorCount image) image marks (size .1) (size .2) long free held inside)
 
-  pub judged-marks : heldTwice (holders image) ≡ false → (k : ℕ) → k < 1600 → markAt (claim marks (fileHolders image (files image)) .marks) k ≡ taken (sectorCount image) (holders image) k
-  judged-marks e = let size = size-is image sized in marks-are (sectorCount image) image marks (size .1) (size .2) long free held inside (judged-twice ∙ e)
+    module _ (once : twice ≡ false) where
+      marks-taken : (k : ℕ) → k < 1600 → markAt after k ≡ taken (sectorCount image) (holders image) k
+      marks-taken k l =
+          let size = size-is image (passed .sized) in
+          rw (ap (λ (r : Claimed). r .marks) is)
+          (marks-are (sectorCount image) image marks (size .1) (size .2) long free held inside (sym (ap (λ (r : Claimed). r .twice) is) ∙ once) k l)
 
-  pub judged-small : heldTwice (holders image) ≡ false → (k : ℕ) → markAt (claim marks (fileHolders image (files image)) .marks) k ≤ 1
-  judged-small e k =
-      elim (decLt k 1600) [
-        | yes l ↦ rw (judged-marks e k l) (taken-once (sectorCount image) (holders image) (held-once (holders image) e) k)
-        | no l ↦
-            let past : length (claim marks (fileHolders image (files image)) .marks) ≤ k = omega (arith, claim-length marks (fileHolders image (files image)), long) in
-            let none = List·getD-eq-default (claim marks (fileHolders image (files image)) .marks) 0 past in
-            omega arith
-      ]
+      pub judged-small : (k : ℕ) → markAt after k ≤ 1
+      judged-small k =
+          elim (decLt k 1600) [
+            | yes l ↦ rw (marks-taken k l) (taken-once (sectorCount image) (holders image) (held-once (holders image) (judged-twice ∙ once)) k)
+            | no l ↦
+                let kept = ap (λ (r : Claimed). length (r .marks)) is ∙ claim-length marks (fileHolders image (files image)) in
+                let none = List·getD-eq-default after 0 {n = k} (omega (arith, kept, long)) in
+                omega arith
+          ]
+
+      -- a map that is compared with them is compared with the holders
+      pub judged-map : (map sector0 : List ℕ) → map ≡ part sector0 56 200 → sector0 ≡ sectorOf image 0 → ((i : ℕ) → byteAt image i < 256)
+          → bytesRule (markAt after) map 200 0 ≡ mapRule (sectorCount image) (holders image) (sectorOf image 0)
+      unfolding mapRule
+      judged-map map sector0 cut read below =
+          rw (cut, read) (map-bits (markAt after) (sectorOf image 0) judged-small (sector-below image 0 256 (omega arith) below))
+          ∙ bits-agree (markAt after) (taken (sectorCount image) (holders image)) (sectorOf image 0) 1600 0 (λ k low high. marks-taken k (omega arith))

@@ -2,15 +2,12 @@
 use mathlib.Core.Path.{_≡_, refl, sym, ap, _∙_}
 use mathlib.Core.Bool.{Bool, true, false, cond, not}
 use mathlib.Core.List.{List, [], _∷_, _++_}
-use Prim.Native.Nat.{ℕ, _+_, _≤_, _<_}
-use lib.ListN.{length, drop, set}
+use Prim.Native.Nat.{ℕ}
+use lib.ListN.{set}
 use borrow.Author.Tests.{not-true, not-false}
-use Rattle.rules.specs.Bytes.{wordAt}
 use Rattle.rules.specs.Sectors.{sectorOf}
 use Rattle.rules.specs.Descriptor.{chainOf}
-use Rattle.rules.specs.Index.{numbers}
 use Rattle.rules.specs.Volume.{placesIn, fileHolders}
-use Rattle.rules.proofs.Index.{numbers-step, numbers-end, numbers-short}
 use Rattle.judge.specs.Claim.{isFree, claimed, claim}
 use Rattle.descriptor.specs.Cursor.{ahead, first}
 use Rattle.descriptor.proofs.Ahead.{at-first}
@@ -28,20 +25,15 @@ pub claim-done : (marks : List ℕ) → claim marks [] ≡ claimed false marks
 unfolding claim
 claim-done marks = refl
 
--- the files from byte `at` of sector 1 on
-module _ (image sector1 : List ℕ) (at : ℕ) where
-  pub files-step : (k : ℕ) → at + 2 ≤ length sector1 → k ≡ wordAt sector1 at → (k ≡ 0 → ⊥)
-      → fileHolders image (numbers (drop at sector1)) ≡ k ∷ (placesIn image k ++ fileHolders image (numbers (drop (at + 2) sector1)))
+-- the files that are left
+module _ (image ks : List ℕ) where
+  pub files-step : (k : ℕ) (more : List ℕ) → ks ≡ k ∷ more → fileHolders image ks ≡ k ∷ (placesIn image k ++ fileHolders image more)
   unfolding fileHolders
-  files-step k here is some = rw (numbers-step sector1 at here (λ z. some (is ∙ z)), ← is)
+  files-step k more here = rw here
 
-  pub files-zero : (k : ℕ) → at + 2 ≤ length sector1 → k ≡ wordAt sector1 at → k ≡ 0 → fileHolders image (numbers (drop at sector1)) ≡ []
+  pub files-past : ks ≡ [] → fileHolders image ks ≡ []
   unfolding fileHolders
-  files-zero k here is z = rw (numbers-end sector1 at here (sym is ∙ z))
-
-  pub files-past : length sector1 < at + 2 → fileHolders image (numbers (drop at sector1)) ≡ []
-  unfolding fileHolders
-  files-past h = rw (numbers-short sector1 at h)
+  files-past none = rw none
 
 -- a file's places are what a cursor at the first of them has ahead
 pub places-ahead : (image chain descriptor : List ℕ) (k : ℕ) → descriptor ≡ sectorOf image k → chain ≡ chainOf descriptor → placesIn image k ≡ ahead chain first

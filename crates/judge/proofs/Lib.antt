@@ -3,4 +3,5 @@ mod IndexSteps
 mod ChainSteps
 mod ClaimSteps
 mod MarkLaws
+mod VerdictSteps
 mod ClaimLaws

@@ -5,6 +5,7 @@ use mathlib.Core.Bool.{true, _&&_}
 use mathlib.Core.List.{List}
 use Prim.Native.Nat.{ℕ, zero, suc, _+_, _-_, _*_, _≤_, _<_}
 use native.Mathlib.Omega.{arith}
+use native.Mathlib.Nat.{add-assoc}
 use native.Mathlib.Decide.{decLt, ℕ-discrete}
 use lib.Dec.{eqb}
 use lib.ListN.{length, set, length-set, List·getD-eq-default}
@@ -13,7 +14,12 @@ use Rattle.rules.specs.Bytes.{byteAt, part}
 use Rattle.rules.specs.Map.{byteOf, bitsRule}
 use Rattle.rules.proofs.Bytes.{part-at}
 use Rattle.rules.proofs.Map.{bits-none, bits-byte}
-use Rattle.judge.specs.Claim.{markAt, bytesRule, unmarked}
+use Rattle.judge.specs.Claim.{markAt, fourMarks, bytesRule, unmarked}
+
+-- twice four marks are the byte that the eight make
+pub eight-marks : (marks : List ℕ) (k : ℕ) → fourMarks marks k + 16 * fourMarks marks (k + 4) ≡ byteOf (markAt marks) k
+unfolding byteOf
+eight-marks marks k = simp (add-assoc k) (omega arith)
 
 -- the bytes that are left of the map, one at a time
 module _ (bit : ℕ → ℕ) (map : List ℕ) (i : ℕ) where

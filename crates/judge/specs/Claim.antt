@@ -10,6 +10,13 @@ use Rattle.rules.specs.Map.{byteOf}
 abbrev pub markAt : List ℕ → ℕ → ℕ
 markAt marks k = getD marks k 0
 
+-- two and four marks from sector k on as a number, the first of them lowest
+abbrev pub twoMarks : List ℕ → ℕ → ℕ
+twoMarks marks k = markAt marks k + 2 * markAt marks (k + 1)
+
+abbrev pub fourMarks : List ℕ → ℕ → ℕ
+fourMarks marks k = twoMarks marks k + 4 * twoMarks marks (k + 2)
+
 -- `many` bytes of a map from byte i on are those that the bits make, eight for each
 unfoldable pub bytesRule : (ℕ → ℕ) → List ℕ → ℕ → ℕ → Bool
 bytesRule bit map zero i = true

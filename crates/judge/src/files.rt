@@ -7,8 +7,8 @@ ghost use Rattle.rules.specs.Kind.{kindRule};
 ghost use Rattle.rules.specs.Verdict.{descriptorsRule};
 ghost use Rattle.rules.specs.Volume.{files};
 ghost use Rattle.judge.specs.Rest.{chainEnd};
-use descriptor::chain::block_of;
-use descriptor::chain::ends_chain;
+use descriptor::chain::Met;
+use descriptor::chain::block_at;
 use descriptor::kind::kind_of;
 use descriptor::kind::status_rule;
 use descriptor::name::name_rule;
@@ -19,6 +19,7 @@ use sector::bytes::byte;
 use sector::bytes::part;
 use sector::bytes::sector_of;
 use sector::bytes::word;
+use sector::numbers::number_at;
 
 // Past the last block: c sectors are covered, and the rest is zero.
 fn chain_end(c: usize, chain: &[u8], at: usize, next: usize) -> bool
@@ -36,14 +37,7 @@ fn chain_rule(n: usize, c: usize, chain: &[u8]) -> bool
 {
     let mut at = 0;
     let mut next = 0;
-    while at + 3 <= chain.len() {
-        let low = chain[at];
-        let middle = chain[at + 1];
-        let high = chain[at + 2];
-        if ends_chain(low, middle, high) {
-            return chain_end(c, chain, at, next);
-        }
-        let block = block_of(low, middle, high);
+    while let Met::Found(block) = block_at(chain, at) {
         let start = block.start;
         let last = block.last;
         if start < 2 {
@@ -101,8 +95,8 @@ pub(crate) fn descriptors_rule(n: usize, image: &[u8]) -> bool
     let sector1 = sector_of(image, 1);
     let mut previous = part(image, 0, 0);
     let mut at = 0;
-    while at + 2 <= sector1.len() {
-        let k = word(sector1, at);
+    loop {
+        let k = number_at(sector1, at);
         if k == 0 {
             return true;
         }
@@ -117,5 +111,4 @@ pub(crate) fn descriptors_rule(n: usize, image: &[u8]) -> bool
         previous = name;
         at += 2;
     }
-    true
 }

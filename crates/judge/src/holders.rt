@@ -9,7 +9,7 @@ use descriptor::chain::Cursor;
 use descriptor::chain::Step;
 use sector::bytes::part;
 use sector::bytes::sector_of;
-use sector::bytes::word;
+use sector::numbers::number_at;
 
 // The marks of sectors 2 to n - 1 become zero.
 pub(crate) fn unmark(marks: &mut [u8; 1600], n: usize)
@@ -45,8 +45,8 @@ pub(crate) fn claim_files(image: &[u8], marks: &mut [u8; 1600]) -> bool
     let sector1 = sector_of(image, 1);
     let mut twice = false;
     let mut at = 0;
-    'files: while at + 2 <= sector1.len() {
-        let k = word(sector1, at);
+    'files: loop {
+        let k = number_at(sector1, at);
         if k == 0 {
             break 'files;
         }

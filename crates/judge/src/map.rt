@@ -3,26 +3,30 @@ ghost use mathlib.Core.Path.{_≡_};
 ghost use Prim.Native.Nat.{ℕ, _+_, _*_, _≤_, _<_};
 ghost use lib.ListN.{length};
 ghost use Rattle.rules.specs.Map.{byteOf};
-ghost use Rattle.judge.specs.Claim.{markAt, bytesRule};
+ghost use Rattle.judge.specs.Claim.{markAt, twoMarks, fourMarks, bytesRule};
 
-// The byte of the map that the eight marks from sector 8 i on make. In bytes throughout, so that the compiler takes the eight at once.
+// Two marks from sector k on as a number, the first of them lowest; then four, and the eight of a byte of the map.
+// In bytes throughout, so that the compiler takes the eight at once.
+fn two_marks(marks: &[u8; 1600], k: usize) -> u8
+    requires { ⌜ (k + 1 < 1600) × ((j : ℕ) → markAt (now marks) j ≤ 1) ⌝ }
+    ensures { λ r. ⌜ (r ≡ twoMarks (now (marks .entry)) k) × (r ≤ 3) ⌝ }
+{
+    marks[k] + 2 * marks[k + 1]
+}
+
+fn four_marks(marks: &[u8; 1600], k: usize) -> u8
+    requires { ⌜ (k + 3 < 1600) × ((j : ℕ) → markAt (now marks) j ≤ 1) ⌝ }
+    ensures { λ r. ⌜ (r ≡ fourMarks (now (marks .entry)) k) × (r ≤ 15) ⌝ }
+{
+    two_marks(marks, k) + 4 * two_marks(marks, k + 2)
+}
+
 fn marks_byte(marks: &[u8; 1600], i: usize) -> u8
     requires { ⌜ (i < 200) × ((k : ℕ) → markAt (now marks) k ≤ 1) ⌝ }
     ensures { λ r. ⌜ r ≡ byteOf (markAt (now (marks .entry))) (8 * i) ⌝ }
 {
     let k = 8 * i;
-    marks[k]
-        + 2
-            * (marks[k + 1]
-                + 2
-                    * (marks[k + 2]
-                        + 2
-                            * (marks[k + 3]
-                                + 2
-                                    * (marks[k + 4]
-                                        + 2
-                                            * (marks[k + 5]
-                                                + 2 * (marks[k + 6] + 2 * marks[k + 7]))))))
+    four_marks(marks, k) + 16 * four_marks(marks, k + 4)
 }
 
 // Whether the 200 bytes of the map are those that the marks make.

@@ -8,6 +8,7 @@ use sector::bytes::all_are;
 use sector::bytes::byte;
 use sector::bytes::part;
 use sector::bytes::word;
+use sector::numbers::number_at;
 
 pub(crate) fn label_rule(n: usize, sector0: &[u8]) -> bool
     ensures { λ r. ⌜ r ≡ labelRule n (now (sector0 .entry)) ⌝ }
@@ -41,8 +42,8 @@ pub(crate) fn index_rule(n: usize, sector1: &[u8]) -> bool
     ensures { λ r. ⌜ r ≡ indexRule n (now (sector1 .entry)) ⌝ }
 {
     let mut at = 0;
-    while at + 2 <= sector1.len() {
-        let k = word(sector1, at);
+    loop {
+        let k = number_at(sector1, at);
         if k == 0 {
             return index_end(sector1, at);
         }
@@ -54,5 +55,4 @@ pub(crate) fn index_rule(n: usize, sector1: &[u8]) -> bool
         }
         at += 2;
     }
-    index_end(sector1, at)
 }

@@ -5,21 +5,16 @@
 // text, and of that only safety is proved, since no contract can say what is read or written. For an
 // image that cannot be read there is a line `-`, with the reason on standard error, and the images
 // after it are listed all the same.
+use input::ARGUMENT_ROOM;
+use input::IMAGE_ROOM;
 use input::Reading;
-use input::read_image;
+use input::read_file;
 use libc::STDOUT_FILENO;
 use listing::listing;
 use listing::refused_line;
 use rules::Amount;
 use sector::buffer::lay;
 use sector::bytes::part;
-
-// One byte more than the longest image that can be sound. An image that is too long fills the
-// buffer and is refused for its length, whatever comes after the bytes that were read.
-const IMAGE_ROOM: usize = 409601;
-
-// One byte more than the longest argument that Linux passes where a page has 4,096 bytes.
-const ARGUMENT_ROOM: usize = 131072;
 
 // No listing is longer: a line of at most 21 bytes and at most 127 of at most 36.
 const TEXT_ROOM: usize = 4593;
@@ -38,26 +33,12 @@ fn put_unread(text: &mut [u8]) -> usize {
     2
 }
 
-// Lists what the descriptor gives. A reason, which begins with `name`, is written before the caller
-// closes the descriptor, since closing can set errno anew.
-fn put_descriptor(descriptor: i32, name: &[u8], buffer: &mut [u8], text: &mut [u8]) -> usize {
-    let reading = read_image(descriptor, buffer);
-    let Reading::Bytes(length) = reading else {
-        os::fail(name);
-        return put_unread(text);
-    };
-    put_listing(&buffer[..length], text)
-}
-
 fn put_file(path: &[u8], buffer: &mut [u8], text: &mut [u8]) -> usize {
-    let descriptor = os::open_read(path);
-    if descriptor < 0 {
-        os::fail(path);
-        return put_unread(text);
+    let reading = read_file(path, buffer);
+    match reading {
+        Reading::Bytes(length) => put_listing(part(buffer, 0, length), text),
+        Reading::Failed => put_unread(text),
     }
-    let size = put_descriptor(descriptor, path, buffer, text);
-    libc::close(descriptor);
-    size
 }
 
 fn put_argument(position: usize, argument: &mut [u8], buffer: &mut [u8], text: &mut [u8]) -> usize {
@@ -70,7 +51,11 @@ fn put_argument(position: usize, argument: &mut [u8], buffer: &mut [u8], text: &
 }
 
 // Argument 0 is the program's own name. The answer is whether every text could be written.
-fn write_listings(argument: &mut [u8], buffer: &mut [u8], text: &mut [u8]) -> bool {
+fn write_listings(
+    argument: &mut [u8; ARGUMENT_ROOM],
+    buffer: &mut [u8; IMAGE_ROOM],
+    text: &mut [u8; TEXT_ROOM],
+) -> bool {
     let count = os::arg_count();
     for position in 1..count {
         let size = put_argument(position, argument, buffer, text);

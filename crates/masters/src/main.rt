@@ -8,6 +8,8 @@
 //
 // There are three buffers whatever the number of images: an image, its packed form, and the packed form of an earlier one, which is
 // read again for every comparison.
+use input::ARGUMENT_ROOM;
+use input::IMAGE_ROOM;
 use input::Reading;
 use input::read_image;
 use libc::STDOUT_FILENO;
@@ -16,14 +18,8 @@ use rules::Answer;
 use sector::bytes::part;
 use sector::bytes::same;
 
-// One byte more than the longest image that can be sound.
-const IMAGE_ROOM: usize = 409601;
-
 // The longest image that can be sound.
 const PACKED_ROOM: usize = 409600;
-
-// One byte more than the longest argument that Linux passes where a page has 4,096 bytes.
-const ARGUMENT_ROOM: usize = 131072;
 
 // What packing an image gives: how many bytes its packed form has, its number, or that there was no image.
 enum Master {
@@ -32,30 +28,30 @@ enum Master {
     Unread,
 }
 
-// Packs what the descriptor gives. What is longer than the packed form can be is no volume.
-fn pack_descriptor(descriptor: i32, source: &mut [u8], packed: &mut [u8]) -> Master {
-    let reading = read_image(descriptor, source);
+// Packs what was read. What is longer than the packed form can be is no volume.
+fn pack_reading(reading: Reading, source: &[u8], packed: &mut [u8]) -> Master {
     let Reading::Bytes(length) = reading else {
         return Master::Unread;
     };
     if length > packed.len() {
         return Master::Refused(1);
     }
-    let answer = pack(&source[..length], &mut packed[0..length]);
+    let answer = pack(part(source, 0, length), &mut packed[0..length]);
     match answer {
         Answer::Done => Master::Packed(length),
         Answer::Refused(number) => Master::Refused(number),
     }
 }
 
+// Tells no reason: an image is read again for every comparison, and `write_line` tells it once.
 fn pack_file(path: &[u8], source: &mut [u8], packed: &mut [u8]) -> Master {
     let descriptor = os::open_read(path);
     if descriptor < 0 {
         return Master::Unread;
     }
-    let master = pack_descriptor(descriptor, source, packed);
+    let reading = read_image(descriptor, source);
     libc::close(descriptor);
-    master
+    pack_reading(reading, source, packed)
 }
 
 // Packs the image that an argument names.
@@ -92,9 +88,9 @@ fn has_form(
 fn first_with(
     position: usize,
     form: &[u8],
-    argument: &mut [u8],
-    source: &mut [u8],
-    other: &mut [u8],
+    argument: &mut [u8; ARGUMENT_ROOM],
+    source: &mut [u8; IMAGE_ROOM],
+    other: &mut [u8; PACKED_ROOM],
 ) -> usize {
     for earlier in 1..position {
         if has_form(earlier, form, argument, source, other) {
@@ -122,10 +118,10 @@ fn write_argument(position: usize, argument: &mut [u8]) -> bool {
 // The line of an image. The answer, here and below, is whether it could be written.
 fn write_line(
     position: usize,
-    argument: &mut [u8],
-    source: &mut [u8],
-    packed: &mut [u8],
-    other: &mut [u8],
+    argument: &mut [u8; ARGUMENT_ROOM],
+    source: &mut [u8; IMAGE_ROOM],
+    packed: &mut [u8; PACKED_ROOM],
+    other: &mut [u8; PACKED_ROOM],
 ) -> bool {
     let master = pack_argument(position, argument, source, packed);
     match master {
@@ -149,10 +145,10 @@ fn write_line(
 
 // Argument 0 is the program's own name.
 fn write_lines(
-    argument: &mut [u8],
-    source: &mut [u8],
-    packed: &mut [u8],
-    other: &mut [u8],
+    argument: &mut [u8; ARGUMENT_ROOM],
+    source: &mut [u8; IMAGE_ROOM],
+    packed: &mut [u8; PACKED_ROOM],
+    other: &mut [u8; PACKED_ROOM],
 ) -> bool {
     let count = os::arg_count();
     for position in 1..count {

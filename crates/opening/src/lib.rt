@@ -1,7 +1,7 @@
-// Numbers 1 to 8 of a call that names a file: the one opener of all such calls.
+// The one opener of all calls that name a file: at a place, absent, or refused with a number from 1 to 7.
 ghost use mathlib.Core.Path.{_≡_};
-ghost use Rattle.rules.specs.Outcome.{findIn, openOf};
 ghost use Rattle.rules.specs.Volume.{files};
+ghost use Rattle.rules.specs.Opening.{findIn, openOf};
 use descriptor::name::name_rule;
 use rules::Opened;
 use sector::bytes::part;
@@ -19,7 +19,7 @@ pub fn find_in(image: &[u8], name: &[u8]) -> Opened
     while at + 2 <= sector1.len() {
         let k = word(sector1, at);
         if k == 0 {
-            return Opened::Refused(8);
+            return Opened::Absent;
         }
         if same(name, part(sector_of(image, k), 0, 10)) {
             return Opened::At(place, k);
@@ -27,10 +27,10 @@ pub fn find_in(image: &[u8], name: &[u8]) -> Opened
         place += 1;
         at += 2;
     }
-    Opened::Refused(8)
+    Opened::Absent
 }
 
-// The file of that name in a sound volume, or the number 1 to 8 that is due.
+// The file of that name in a sound volume, or the number 1 to 7 that is due.
 pub fn find(image: &[u8], name: &[u8]) -> Opened
     ensures { λ r. ⌜ r ≡ openOf (now (image .entry)) (now (name .entry)) ⌝ }
 {

@@ -1,6 +1,6 @@
 -- The loops over the files: what the files from byte `at` of sector 1 on still give, at the start, a file further, and where no number is left.
-use mathlib.Core.Path.{_≡_, refl, sym, ap, _∙_}
-use mathlib.Core.List.{List, [], _∷_, map}
+use mathlib.Core.Path.{_≡_, sym, ap, _∙_}
+use mathlib.Core.List.{List, [], _∷_, _++_, map}
 use Prim.Native.Nat.{ℕ, _+_, _*_, _≤_, _<_}
 use native.Mathlib.Omega.{arith}
 use lib.ListN.{length, drop, length-append, length-map}
@@ -13,7 +13,7 @@ use Rattle.rules.specs.Sound.{Sound}
 use Rattle.rules.specs.Calls.Load.{joined}
 use Rattle.rules.specs.Packing.{packedDescriptor, packedDescriptors, packedData, dataSectors, packedSectors}
 use Rattle.rules.proofs.Bytes.{part-short}
-use Rattle.rules.proofs.Splice.{splice-append, splice-length, splice-none}
+use Rattle.rules.proofs.Pieces.{Pieces, pieces-first, pieces-next, pieces-last}
 use Rattle.rules.proofs.Indexed.{numbers-read}
 use Rattle.rules.proofs.Packing.{descriptor-length, file-whole}
 use Rattle.packing.proofs.FileLaws.{Kept, all-kept, first-kept, rest-kept, contents-count}
@@ -73,23 +73,21 @@ counted-end counted none =
     let used-is = rw none at (counted .used-is) in
     (omega (arith, many-is), omega (arith, used-is))
 
--- laying the descriptors: those of the files from `at` on, laid from `to` on, give what all give
+-- laying the descriptors: those of the files from `at` on are left, and go to `to`
 pub record Described (image sector1 before after : List ℕ) (at start to : ℕ) : Type 0 where
   pub rest : Rest image sector1 at
-  pub kept : length after ≡ length before
   pub to-is : to ≡ 512 + 128 * at
   pub start-is : start + dataSectors (filesFrom image sector1 at) ≡ packedSectors (catalogue image)
-  pub same : splice after to (packedDescriptors start (filesFrom image sector1 at)) ≡ splice before 512 (packedDescriptors (2 + length (files image)) (catalogue image))
+  pub pieces : Pieces (packedDescriptors (2 + length (files image)) (catalogue image)) before 512 (packedDescriptors start (filesFrom image sector1 at)) after to
 
 pub described-start : (image sector1 target : List ℕ) (start : ℕ) → Sound image → sector1 ≡ sectorOf image 1 → start ≡ 2 + length (files image) → Described image sector1 target target 0 start 512
 unfolding files catalogue packedSectors
 described-start image sector1 target start is e f =
     record {
       rest = rest-start image sector1 is e;
-      kept = refl;
       to-is = omega arith;
       start-is = rw e (omega (arith, f, length-map (files image) (fileIn image)));
-      same = rw (e, f);
+      pieces = rw (e, f) (pieces-first _ target 512);
     }
 
 -- the sectors of the file at k, and that they do not pass the last in use
@@ -104,64 +102,48 @@ pub described-step : {image sector1 before after later laid : List ℕ} {at star
     → Described image sector1 before after at start to → Read image sector1 at k → sectors ≡ sectorsOf (sectorOf image k) → laid ≡ packedDescriptor start (fileIn image k)
     → later ≡ splice after to laid → Described image sector1 before later (at + 2) (start + sectors) (to + 256)
 unfolding packedDescriptors
-described-step {image} {sector1} {before} {after} {later} {laid} {at} {start} {to} {k} {sectors} whole described read is laid-is later-is =
-    let more = filesFrom image sector1 (at + 2) in
+described-step {image} {sector1} {laid = laid} {at} {start} {to} {k} {sectors} whole described read is laid-is later-is =
     let count : length (fileIn image k .contents) ≡ sectors = contents-count image k (read .descriptor) ∙ sym is in
     let long : length laid ≡ 256 = ap length laid-is ∙ descriptor-length start (fileIn image k) (file-whole _ image whole k (read .inside) (read .descriptor)) in
-    let same = rw (read .ahead, count, ← laid-is) at (described .same) in
-    let next = ap (λ (m : ℕ). splice (splice after to laid) (to + m) (packedDescriptors (start + sectors) more)) (sym long) ∙ splice-append after to laid (packedDescriptors (start + sectors) more) in
     record {
       rest = read .rest;
-      kept = ap length later-is ∙ splice-length after to laid ∙ described .kept;
       to-is = omega (arith, described .to-is);
       start-is = described-ahead described read is;
-      same = rw later-is (next ∙ same);
+      pieces = pieces-next (described .pieces) laid (rw (read .ahead, count, laid-is)) later-is (omega (arith, long));
     }
 
 pub described-end : {image sector1 before after : List ℕ} {at start to : ℕ} → Described image sector1 before after at start to → numbers (drop at sector1) ≡ []
     → after ≡ splice before 512 (packedDescriptors (2 + length (files image)) (catalogue image))
 unfolding packedDescriptors
-described-end {after = after} {to = to} described none =
-    let same = rw none at (described .same) in
-    sym (splice-none after to) ∙ same
+described-end described none = pieces-last (described .pieces) (rw none) .0
 
--- laying the data: that of the files from `at` on, laid from `to` on, gives what all gives and ends where all ends
+-- laying the data: that of the files from `at` on is left, and goes to `to`
 pub record Joined (image sector1 before after : List ℕ) (from at to : ℕ) : Type 0 where
   pub rest : Rest image sector1 at
-  pub kept : length after ≡ length before
-  pub ends : to + length (packedData (filesFrom image sector1 at)) ≡ from + length (packedData (catalogue image))
-  pub same : splice after to (packedData (filesFrom image sector1 at)) ≡ splice before from (packedData (catalogue image))
+  pub pieces : Pieces (packedData (catalogue image)) before from (packedData (filesFrom image sector1 at)) after to
 
 pub joined-start : (image sector1 target : List ℕ) (from : ℕ) → Sound image → sector1 ≡ sectorOf image 1 → Joined image sector1 target target from 0 from
 unfolding files catalogue
-joined-start image sector1 target from is e = record { rest = rest-start image sector1 is e; kept = refl; ends = rw e; same = rw e }
+joined-start image sector1 target from is e = record { rest = rest-start image sector1 is e; pieces = rw e (pieces-first _ target from) }
 
--- the data of the file at k, and that it does not pass the end of all data
-pub joined-ahead : {image sector1 before after : List ℕ} {from at to k : ℕ} → Joined image sector1 before after from at to → Read image sector1 at k
-    → to + length (joined (fileIn image k .contents)) + length (packedData (filesFrom image sector1 (at + 2))) ≡ from + length (packedData (catalogue image))
-unfolding packedData
-joined-ahead {image} {sector1} {at = at} {k = k} so-far read =
-    let ends = rw (read .ahead) at (so-far .ends) in
-    omega (arith, ends, length-append (joined (fileIn image k .contents)) (packedData (filesFrom image sector1 (at + 2))))
+module _ {image sector1 : List ℕ} {at k : ℕ} (read : Read image sector1 at k) where
+  data-ahead : packedData (filesFrom image sector1 at) ≡ joined (fileIn image k .contents) ++ packedData (filesFrom image sector1 (at + 2))
+  unfolding packedData
+  data-ahead = rw (read .ahead)
 
-pub joined-step : {image sector1 before after later : List ℕ} {from at to next k : ℕ} → Joined image sector1 before after from at to → Read image sector1 at k
-    → next ≡ to + length (joined (fileIn image k .contents)) → later ≡ splice after to (joined (fileIn image k .contents))
-    → Joined image sector1 before later from (at + 2) next
-unfolding packedData
-joined-step {image} {sector1} {before} {after} {later} {from} {at} {to} {next} {k} so-far read next-is later-is =
-    let here = joined (fileIn image k .contents) in
-    let more = packedData (filesFrom image sector1 (at + 2)) in
-    let same = rw (read .ahead) at (so-far .same) in
-    record {
-      rest = read .rest;
-      kept = ap length later-is ∙ splice-length after to here ∙ so-far .kept;
-      ends = omega (arith, next-is, joined-ahead so-far read);
-      same = rw (later-is, next-is) (splice-append after to here more ∙ same);
-    }
+  -- the data of the file at k does not pass the end of all data
+  pub joined-ahead : {before after : List ℕ} {from to : ℕ} → Joined image sector1 before after from at to
+      → to + length (joined (fileIn image k .contents)) ≤ from + length (packedData (catalogue image))
+  joined-ahead so-far =
+      omega (arith, so-far .pieces .ends, ap length data-ahead, length-append (joined (fileIn image k .contents)) (packedData (filesFrom image sector1 (at + 2))))
+
+  pub joined-step : {before after later : List ℕ} {from to next : ℕ} → Joined image sector1 before after from at to
+      → next ≡ to + length (joined (fileIn image k .contents)) → later ≡ splice after to (joined (fileIn image k .contents))
+      → Joined image sector1 before later from (at + 2) next
+  joined-step so-far next-is later-is =
+      record { rest = read .rest; pieces = pieces-next (so-far .pieces) (joined (fileIn image k .contents)) data-ahead later-is next-is }
 
 pub joined-end : {image sector1 before after : List ℕ} {from at to : ℕ} → Joined image sector1 before after from at to → numbers (drop at sector1) ≡ []
     → after ≡ splice before from (packedData (catalogue image))
 unfolding packedData
-joined-end {after = after} {to = to} so-far none =
-    let same = rw none at (so-far .same) in
-    sym (splice-none after to) ∙ same
+joined-end so-far none = pieces-last (so-far .pieces) (rw none) .0

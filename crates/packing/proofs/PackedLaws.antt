@@ -34,43 +34,36 @@ system-length image many used label =
     let index = indexOf (run 2 many) in
     length-append (labelArea image) (map ++ index) ∙ omega (arith, length-append map index, label, map-length (sectorCount image) (run 0 used), index-length (run 2 many))
 
-module _ (image : List ℕ) (is : Sound image) where
-  unfoldable many : ℕ
-  many = length (files image)
-
-  unfoldable used : ℕ
-  used = packedSectors (catalogue image)
-
+module _ (image : List ℕ) (is : Sound image) {many used : ℕ} (many-is : many ≡ length (files image)) (used-is : used ≡ packedSectors (catalogue image)) where
   unfoldable descriptors : List ℕ
   descriptors = packedDescriptors (2 + many) (catalogue image)
 
   descriptors-all : length descriptors ≡ 256 * many
-  unfolding descriptors many catalogue
-  descriptors-all = descriptors-length (2 + length (files image)) (catalogue image) (catalogue-whole image is) ∙ omega (arith, length-map (files image) (fileIn image))
+  unfolding descriptors catalogue
+  descriptors-all = descriptors-length (2 + many) (catalogue image) (catalogue-whole image is) ∙ omega (arith, length-map (files image) (fileIn image), many-is)
 
   -- the definition, as it is laid
   parts : (rest : List ℕ) → rest ≡ replicate (256 * (sectorCount image - used)) 0xE5
       → ((system image many used ++ descriptors) ++ packedData (catalogue image)) ++ rest ≡ packed (sectorCount image) (labelArea image) (catalogue image)
-  unfolding packed catalogue many used descriptors
-  parts rest e = rw (e, length-map (files image) (fileIn image)) (simp append-assoc)
+  unfolding packed catalogue descriptors
+  parts rest e = rw (e, many-is, used-is, length-map (files image) (fileIn image)) (simp append-assoc)
 
   pub laid-packed : (target first second third rest : List ℕ) → length target ≡ length image
-      → first ≡ splice target 0 (system image (length (files image)) (packedSectors (catalogue image)))
-      → second ≡ splice first 512 (packedDescriptors (2 + length (files image)) (catalogue image))
-      → third ≡ splice second (512 + 256 * length (files image)) (packedData (catalogue image))
-      → rest ≡ replicate (length (part third (256 * packedSectors (catalogue image)) (length third - 256 * packedSectors (catalogue image)))) 0xE5
-      → putMid (256 * packedSectors (catalogue image)) (length third - 256 * packedSectors (catalogue image)) third rest
-      ≡ packed (sectorCount image) (labelArea image) (catalogue image)
-  unfolding many used descriptors
+      → first ≡ splice target 0 (system image many used)
+      → second ≡ splice first 512 (packedDescriptors (2 + many) (catalogue image))
+      → third ≡ splice second (512 + 256 * many) (packedData (catalogue image))
+      → rest ≡ replicate (length (part third (256 * used) (length third - 256 * used))) 0xE5
+      → putMid (256 * used) (length third - 256 * used) third rest ≡ packed (sectorCount image) (labelArea image) (catalogue image)
+  unfolding descriptors
   laid-packed target first second third rest same first-is second-is third-is rest-is =
       let n = sectorCount image in
       let bytes = packedData (catalogue image) in
       let front = system image many used in
-      let inside : used ≤ n = used-inside image is in
+      let inside : used ≤ n = omega (arith, used-inside image is, used-is) in
       let front-long : length front ≡ 512 = system-length image many used (label-length n image (is .whole) (omega (arith, is .size))) in
       let descriptors-long : length descriptors ≡ 256 * many = descriptors-all in
       let two-long : length (front ++ descriptors) ≡ 512 + 256 * many = length-append front descriptors ∙ omega arith in
-      let three-long : length ((front ++ descriptors) ++ bytes) ≡ 256 * used = length-append (front ++ descriptors) bytes ∙ omega (arith, two-long, data-ends image is) in
+      let three-long : length ((front ++ descriptors) ++ bytes) ≡ 256 * used = length-append (front ++ descriptors) bytes ∙ omega (arith, two-long, data-ends image is, many-is, used-is) in
       let two : second ≡ splice target 0 (front ++ descriptors) = second-is ∙ rw first-is (laid-next target front descriptors 512 front-long) in
       let three : third ≡ splice target 0 ((front ++ descriptors) ++ bytes) = third-is ∙ rw two (laid-next target (front ++ descriptors) bytes (512 + 256 * many) two-long) in
       let third-long : length third ≡ 256 * n = ap length three ∙ splice-length target 0 ((front ++ descriptors) ++ bytes) ∙ same ∙ is .whole in

@@ -1,59 +1,18 @@
 // Sectors 0 and 1 of the packed form: the label area as it was, the map of the sectors below `used`, the numbers from 2 on.
 ghost use mathlib.Core.Path.{_≡_};
 ghost use mathlib.Core.List.{_++_};
-ghost use Prim.Native.Nat.{_≤_, _<_, _*_};
+ghost use Prim.Native.Nat.{_≤_};
 ghost use lib.ListN.{length};
 ghost use Rattle.rules.specs.Bytes.{splice};
 ghost use Rattle.rules.specs.Sectors.{sectorCount};
-ghost use Rattle.rules.specs.Map.{taken, byteOf, mapOf};
+ghost use Rattle.rules.specs.Map.{mapOf};
 ghost use Rattle.rules.specs.Chain.{run};
 ghost use Rattle.rules.specs.Index.{indexOf};
 ghost use Rattle.rules.specs.Packing.{labelArea};
+use mapping::new_map;
 use sector::buffer::lay;
 use sector::bytes::part;
 use sector::bytes::sector_of;
-
-// The bit of sector k: those below `used` and those from n on are one.
-fn bit(n: usize, used: usize, k: usize) -> u8
-    ensures { λ r. ⌜ (r ≡ taken n (run 0 used) k) × (r ≤ 1) ⌝ }
-{
-    if k < used {
-        return 1;
-    }
-    if n <= k {
-        return 1;
-    }
-    0
-}
-
-// The byte of the map from sector k on.
-fn map_byte(n: usize, used: usize, k: usize) -> u8
-    requires { ⌜ k < 1600 ⌝ }
-    ensures { λ r. ⌜ r ≡ byteOf (taken n (run 0 used)) k ⌝ }
-{
-    let low = bit(n, used, k)
-        + 2 * bit(n, used, k + 1)
-        + 4 * bit(n, used, k + 2)
-        + 8 * bit(n, used, k + 3);
-    let high = 16 * bit(n, used, k + 4)
-        + 32 * bit(n, used, k + 5)
-        + 64 * bit(n, used, k + 6)
-        + 128 * bit(n, used, k + 7);
-    low + high
-}
-
-// Bytes 56 to 255 of sector 0.
-fn new_map(n: usize, used: usize) -> [u8; 200]
-    ensures { λ r. ⌜ r ≡ mapOf n (run 0 used) ⌝ }
-{
-    let mut map = [0u8; 200];
-    let mut i = 0;
-    while i < 200 {
-        map[i] = map_byte(n, used, 8 * i);
-        i += 1;
-    }
-    map
-}
 
 // Sector 1: the numbers 2, 3 and so on, as many as there are files. All are below 256, so each high byte is zero.
 fn new_index(files: usize) -> [u8; 256]
@@ -72,7 +31,7 @@ fn new_index(files: usize) -> [u8; 256]
 
 // Both sectors, over the front of the target.
 pub(crate) fn lay_system(source: &[u8], target: &mut [u8], files: usize, used: usize)
-    requires { ⌜ (files ≤ 127) × (length (labelArea (now source)) ≡ 56) ⌝ }
+    requires { ⌜ (files ≤ 127) × (length (labelArea (now source)) ≡ 56) × (used ≤ sectorCount (now source)) ⌝ }
     ensures { λ _. ⌜ now (target .exit) ≡ splice (now (target .entry)) 0 (labelArea (now (source .entry)) ++ (mapOf (sectorCount (now (source .entry))) (run 0 used) ++ indexOf (run 2 files))) ⌝ }
 {
     let map = new_map(source.len() / 256, used);

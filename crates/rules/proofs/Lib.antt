@@ -2,6 +2,7 @@
 pub mod Tests
 pub mod Bytes
 pub mod Splice
+pub mod Pieces
 pub mod Sectors
 pub mod Name
 pub mod Label
@@ -9,6 +10,7 @@ pub mod Map
 pub mod Chain
 pub mod Status
 pub mod Descriptor
+pub mod Fields
 pub mod Index
 pub mod Volume
 pub mod Indexed
@@ -25,5 +27,6 @@ pub mod Replaced
 pub mod Outcome
 pub mod Opening
 pub mod Formatted
+pub mod MapMade
 pub mod Listing
 pub mod Packing

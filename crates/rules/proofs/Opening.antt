@@ -18,8 +18,12 @@ use Rattle.rules.specs.Volume.{files, nameIn, placesIn}
 use Rattle.rules.specs.Tests.{Test, refuse, firstOf, unlessMet, Passed}
 use Rattle.rules.specs.Verdict.{volumeTests, verdict}
 use Rattle.rules.specs.Sound.{Sound, fileAt, IsFile}
-use Rattle.rules.specs.Outcome.{Report, refuses, Outcome, refusal}
+use Rattle.rules.specs.Outcome.{Report, refuses, Outcome, refusal, AmountSays, Meets, Gives}
 use Rattle.rules.specs.Opening.{findIn, opening, nameTests, openOf, onFile, changing, adding}
+use Rattle.rules.specs.Calls.Read.{ReadSays}
+use Rattle.rules.specs.declared.Answer.{Answer}
+use Rattle.rules.specs.declared.Answer.the-variants as answer
+use Rattle.rules.specs.declared.Amount.the-variants as amount
 use Rattle.rules.specs.declared.Opened.{Opened}
 use Rattle.rules.specs.declared.Opened.the-variants.{At, Absent, Refused}
 use Rattle.rules.proofs.Tests.{absurd-test, all-passed, passed-both, first-passed, first-met, none-met, unless-passed, unless-met}
@@ -28,7 +32,8 @@ use Rattle.rules.proofs.Map.{count-none, count-other}
 use Rattle.rules.proofs.Sectors.{sector-length}
 use Rattle.rules.proofs.Index.{numbers-step, numbers-end, numbers-short, number-at, number-past}
 use Rattle.rules.proofs.Volume.{place-inside}
-use Rattle.rules.proofs.Verdict.{sound}
+use Rattle.rules.proofs.Verdict.{sound, unsound-first, sound-first}
+use Rattle.rules.proofs.Outcome.{refusal-meets, amount-refused, read-refused}
 
 -- the search, a number at a time
 module _ (image name : List ℕ) (p : ℕ) (sector1 : List ℕ) (at : ℕ) where
@@ -103,12 +108,12 @@ pub opening-passed : (tests : List Test) (image name : List ℕ) → firstOf tes
 unfolding opening
 opening-passed tests image name e = unless-passed tests _ _ e
 
-pub opening-met : (tests : List Test) (image name : List ℕ) → (firstOf tests ≡ 0 → ⊥) → opening tests image name ≡ Refused (firstOf tests)
+pub opening-met : (tests : List Test) (image name : List ℕ) (number : ℕ) → firstOf tests ≡ number → (number ≡ 0 → ⊥) → opening tests image name ≡ Refused number
 unfolding opening
-opening-met tests image name some = unless-met tests _ _ some
+opening-met tests image name number e some = unless-met tests _ _ (λ z. some (sym e ∙ z)) ∙ ap Refused e
 
 -- a search refuses nothing
-find-looks : (image name : List ℕ) (p : ℕ) (ks : List ℕ) (number : ℕ) → findIn image name p ks ≡ Refused number → ⊥
+pub find-looks : (image name : List ℕ) (p : ℕ) (ks : List ℕ) (number : ℕ) → findIn image name p ks ≡ Refused number → ⊥
 unfolding findIn
 find-looks image name p [] number e = let z : _≡_ {A = ℕ} 0 1 = cc in omega arith
 find-looks image name p (k ∷ ks) number e = go (same name (nameIn image k)) e (find-looks image name (p + 1) ks number)
@@ -126,7 +131,7 @@ pub opening-looked : (tests : List Test) (image name : List ℕ) (opened : Opene
 opening-looked tests image name opened e =
     elim (ℕ-discrete (firstOf tests) 0) [
       | yes passed ↦ looked passed (sym (opening-passed tests image name passed) ∙ e)
-      | no some ↦ unseen some (sym e ∙ opening-met tests image name some)
+      | no some ↦ unseen some (sym e ∙ opening-met tests image name (firstOf tests) refl some)
     ]
 
 -- numbers 1 to 7 passed: a sound volume, and a name that keeps the rule
@@ -135,6 +140,20 @@ unfolding verdict nameTests Passed
 name-passed image name e =
     let passed = passed-both (volumeTests image) (refuse 7 (not (nameRule name)) ∷ []) (all-passed (nameTests image name) e) in
     (sound image (none-met (volumeTests image) (passed .0)), not-false (nameRule name) (passed .1 .0))
+
+-- and the number of the first that is met
+module _ (image name : List ℕ) where
+  pub unsound-number : (verdict image ≡ 0 → ⊥) → firstOf (nameTests image name) ≡ verdict image
+  unfolding nameTests
+  unsound-number some = unsound-first image _ some
+
+  pub unnamed-number : verdict image ≡ 0 → nameRule name ≡ false → firstOf (nameTests image name) ≡ 7
+  unfolding nameTests firstOf
+  unnamed-number e broken = sound-first image _ e ∙ rw broken
+
+  pub named-number : verdict image ≡ 0 → nameRule name ≡ true → firstOf (nameTests image name) ≡ 0
+  unfolding nameTests firstOf
+  named-number e kept = sound-first image _ e ∙ rw kept
 
 -- a name that keeps the rule and is no file's, on a sound volume
 pub record IsAbsent (image name : List ℕ) : Type 0 where
@@ -167,6 +186,14 @@ refused-by tests image name number e = go (opening-looked tests image name (Refu
 
 -- of a call that takes one name
 module _ (image name : List ℕ) where
+  pub open-met : (number : ℕ) → firstOf (nameTests image name) ≡ number → (number ≡ 0 → ⊥) → openOf image name ≡ Refused number
+  unfolding openOf
+  open-met number e some = opening-met (nameTests image name) image name number e some
+
+  pub open-passed : firstOf (nameTests image name) ≡ 0 → openOf image name ≡ findIn image name 0 (files image)
+  unfolding openOf
+  open-passed e = opening-passed (nameTests image name) image name e
+
   pub opened-is : (p k : ℕ) → openOf image name ≡ At p k → IsOpened image name p k
   unfolding openOf
   opened-is = opened-by (nameTests image name) image name (name-passed image name)
@@ -194,45 +221,56 @@ unfound image name p (k ∷ ks) e j some is = go (same name (nameIn image k)) re
           | no there ↦ more e j (omega (arith, some, count-other j k ks there)) is
         ]
 
--- a reading call on that file, a change of it, and an addition under its name, by what was opened
-module _ (opened : Opened) (reading : ℕ → Report) where
-  pub on-found : (p k : ℕ) → opened ≡ At p k → onFile opened reading ≡ reading k
+-- what a call promises, by what was opened: a reading call on that file
+module _ (before : List ℕ) (opened : Opened) (reading : ℕ → Report) where
+  pub load-refused : (number : ℕ) → opened ≡ Refused number → (number ≡ 0 → ⊥) → Gives AmountSays (onFile opened reading) (amount.Refused number) before before
   unfolding onFile
-  on-found p k e = rw e
+  load-refused number e some = rw e (amount-refused before (refuses number) number some refl)
 
-  pub on-absent : opened ≡ Absent → onFile opened reading ≡ refuses 8
+  pub load-absent : opened ≡ Absent → Gives AmountSays (onFile opened reading) (amount.Refused 8) before before
   unfolding onFile
-  on-absent e = rw e
+  load-absent e = rw e (amount-refused before (refuses 8) 8 (λ z. omega arith) refl)
 
-  pub on-refused : (number : ℕ) → opened ≡ Refused number → onFile opened reading ≡ refuses number
+  pub file-refused : (number : ℕ) → opened ≡ Refused number → (number ≡ 0 → ⊥) → Gives ReadSays (onFile opened reading) (answer.Refused number) before before
   unfolding onFile
-  on-refused number e = rw e
+  file-refused number e some = rw e (read-refused before (refuses number) number some refl)
 
-module _ (opened : Opened) (change : ℕ → Outcome) where
-  pub change-found : (p k : ℕ) → opened ≡ At p k → changing opened change ≡ change k
+  pub file-absent : opened ≡ Absent → Gives ReadSays (onFile opened reading) (answer.Refused 8) before before
+  unfolding onFile
+  file-absent e = rw e (read-refused before (refuses 8) 8 (λ z. omega arith) refl)
+
+  pub on-found : {Given : Type 0} (Says : Given → Report → Type 0) (p k : ℕ) → opened ≡ At p k → (given : Given) (after : List ℕ)
+      → Gives Says (reading k) given before after → Gives Says (onFile opened reading) given before after
+  unfolding onFile
+  on-found Says p k e given after gives = rw e gives
+
+-- a change of it
+module _ (image : List ℕ) (opened : Opened) (change : ℕ → Outcome) where
+  pub change-refused : (number : ℕ) → opened ≡ Refused number → (number ≡ 0 → ⊥) → Meets (changing opened change) (answer.Refused number) image image
   unfolding changing
-  change-found p k e = rw e
+  change-refused number e some = rw e (refusal-meets image (refusal number) number some refl)
 
-  pub change-absent : opened ≡ Absent → changing opened change ≡ refusal 8
+  pub change-absent : opened ≡ Absent → Meets (changing opened change) (answer.Refused 8) image image
   unfolding changing
-  change-absent e = rw e
+  change-absent e = rw e (refusal-meets image (refusal 8) 8 (λ z. omega arith) refl)
 
-  pub change-refused : (number : ℕ) → opened ≡ Refused number → changing opened change ≡ refusal number
+  pub change-found : (p k : ℕ) → opened ≡ At p k → (given : Answer) (after : List ℕ) → Meets (change k) given image after → Meets (changing opened change) given image after
   unfolding changing
-  change-refused number e = rw e
+  change-found p k e given after meets = rw e meets
 
-module _ (opened : Opened) (addition : Outcome) where
-  pub add-present : (p k : ℕ) → opened ≡ At p k → adding opened addition ≡ refusal 9
+-- an addition under its name
+module _ (image : List ℕ) (opened : Opened) (addition : Outcome) where
+  pub add-refused : (number : ℕ) → opened ≡ Refused number → (number ≡ 0 → ⊥) → Meets (adding opened addition) (answer.Refused number) image image
   unfolding adding
-  add-present p k e = rw e
+  add-refused number e some = rw e (refusal-meets image (refusal number) number some refl)
 
-  pub add-absent : opened ≡ Absent → adding opened addition ≡ addition
+  pub add-present : (p k : ℕ) → opened ≡ At p k → Meets (adding opened addition) (answer.Refused 9) image image
   unfolding adding
-  add-absent e = rw e
+  add-present p k e = rw e (refusal-meets image (refusal 9) 9 (λ z. omega arith) refl)
 
-  pub add-refused : (number : ℕ) → opened ≡ Refused number → adding opened addition ≡ refusal number
+  pub add-absent : opened ≡ Absent → (given : Answer) (after : List ℕ) → Meets addition given image after → Meets (adding opened addition) given image after
   unfolding adding
-  add-refused number e = rw e
+  add-absent e given after meets = rw e meets
 
 -- the file at a place of the catalogue, by the two bytes of sector 1 there
 pub place-none : (image : List ℕ) (p : ℕ) → Sound image → wordAt (sectorOf image 1) (2 * p) ≡ 0 → length (files image) ≤ p

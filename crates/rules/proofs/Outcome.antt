@@ -69,10 +69,6 @@ module _ (image : List ℕ) (outcome : Outcome) where
   unfolding AnswerSays
   done-meets writes e = rw e (record { said = refl; left = refl })
 
--- a call that hands on what another one did
-pub handed-on : (image after : List ℕ) (given : Answer) (outcome inner : Outcome) → outcome ≡ inner → Meets inner given image after → Meets outcome given image after
-handed-on image after given outcome inner e meets = rw e meets
-
 -- a call that reads
 module _ (before : List ℕ) (report : Report) where
   pub amount-refused : (number : ℕ) → (number ≡ 0 → ⊥) → report ≡ refuses number → Gives AmountSays report (amount.Refused number) before before

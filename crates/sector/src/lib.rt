@@ -1,4 +1,5 @@
-// The leaves of an image: readings of bytes, parts and sectors, and writing into a lent buffer. Each answers for any bytes with
+// The leaves of an image: readings of bytes, parts, sectors and the numbers of sector 1, and writing into a lent buffer. Each answers for any bytes with
 // what the rules' definition of the same name says; those with a `requires` ask a bound on a number or equal lengths.
 pub mod buffer;
 pub mod bytes;
+pub mod numbers;

@@ -14,21 +14,17 @@ use Rattle.rules.proofs.Splice.{splice-none, splice-cut}
 use Rattle.rules.proofs.Extended.{with-chain-laid}
 use Rattle.storing.specs.Spread.{IsSpread}
 
--- 256 zeros have room for 256 bytes
-pub piece-is : (bytes : List ℕ) (at : ℕ) → splice (replicate 256 0) 0 (part bytes at 256) ≡ over (replicate 256 0) (drop at bytes)
-unfolding splice
-piece-is bytes at = splice-cut (replicate 256 0) 0 (drop at bytes) 256 (omega (arith, length-replicate {A = ℕ} 256 0))
+-- a sector written with the bytes from `at` on, of which 256 zeros have room for 256: the rest goes to the sectors behind it
+pub piece-written : (image bytes : List ℕ) (at : ℕ) {later piece all ks : List ℕ} {k : ℕ} → all ≡ k ∷ ks → piece ≡ splice (replicate 256 0) 0 (part bytes at 256) → later ≡ splice image (256 * k) piece
+    → written later (dataWrites (drop (at + 256) bytes) ks) ≡ written image (dataWrites (drop at bytes) all)
+unfolding written dataWrites splice
+piece-written image bytes at ahead piece-is later-is =
+    let cut = splice-cut (replicate 256 0) 0 (drop at bytes) 256 (omega (arith, length-replicate {A = ℕ} 256 0)) in
+    rw (ahead, later-is, piece-is, cut, drop-drop 256 at bytes)
 
--- the bytes from `at` on go to a sector and the rest to the sectors behind it
-pub piece-written : (image bytes : List ℕ) (at k : ℕ) (ks : List ℕ)
-    → written image (dataWrites (drop at bytes) (k ∷ ks))
-    ≡ written (splice image (256 * k) (over (replicate 256 0) (drop at bytes))) (dataWrites (drop (at + 256) bytes) ks)
+pub none-written : {image all : List ℕ} (bytes : List ℕ) → all ≡ [] → written image (dataWrites bytes all) ≡ image
 unfolding written dataWrites
-piece-written image bytes at k ks = rw (drop-drop 256 at bytes)
-
-pub none-written : (image bytes : List ℕ) → written image (dataWrites bytes []) ≡ image
-unfolding written dataWrites
-none-written image bytes = refl
+none-written bytes none = rw none
 
 -- two bytes set one behind the other
 two-set : (buffer : List ℕ) (at a b : ℕ) → set (set buffer at a) (suc at) b ≡ splice buffer at (a ∷ (b ∷ []))

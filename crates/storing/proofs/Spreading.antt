@@ -35,9 +35,9 @@ pub record Spreading (many : ℕ) (sector0₀ sector0 chain : List ℕ) (search 
   pub map : markedAll 1 sector0 (dataChoices left sector0) ≡ markedAll 1 sector0₀ (dataChoices many sector0₀)
   pub blocks-are : extendedAll (blocks chain) (dataChoices left sector0) ≡ extendedAll [] (dataChoices many sector0₀)
 
-pub spreading-first : (many : ℕ) (sector0 chain : List ℕ) (search : Search) → length sector0 ≡ 256 → ((i : ℕ) → byteAt chain i < 256) → chain ≡ replicate 228 0
+pub spreading-first : {many : ℕ} {sector0 : List ℕ} (chain : List ℕ) {search : Search} → length sector0 ≡ 256 → ((i : ℕ) → byteAt chain i < 256) → chain ≡ replicate 228 0
     → Searched sector0 search → Spreading many sector0 sector0 chain search noTip many
-spreading-first many sector0 chain search size small zeros first =
+spreading-first {many} {sector0} chain size small zeros first =
     record {
       size = size;
       small = small;
@@ -48,9 +48,9 @@ spreading-first many sector0 chain search size small zeros first =
       blocks-are = ap (λ (bs : List Block). extendedAll bs (dataChoices many sector0)) (ap blocks zeros ∙ no-blocks 228);
     }
 
-module _ (many : ℕ) (sector0₀ sector0 chain : List ℕ) (search : Search) (tip : Tip) (left : ℕ) (is : Spreading many sector0₀ sector0 chain search tip left) where
+module _ {many : ℕ} {sector0₀ sector0 chain : List ℕ} {search : Search} {tip : Tip} {left : ℕ} (is : Spreading many sector0₀ sector0 chain search tip left) where
   -- Another sector k.
-  module _ (more : 0 < left) (k : ℕ) (chosen : k ≡ dataChoice sector0) where
+  module _ (more : 0 < left) {k : ℕ} (chosen : k ≡ dataChoice sector0) where
     next-choices : dataChoices left sector0 ≡ k ∷ dataChoices (left - 1) (marked 1 sector0 k)
     next-choices =
         let e : left ≡ suc (left - 1) = omega arith in
@@ -63,8 +63,8 @@ module _ (many : ℕ) (sector0₀ sector0 chain : List ℕ) (search : Search) (t
     unfolding extendedAll
     blocks-with = sym (ap (extendedAll (blocks chain)) next-choices) ∙ is .blocks-are
 
-    pub too-many-blocks : (longer : Tip) → longer ≡ tipWith tip k → 76 < longer .used → (after now : List ℕ) → Spread many sector0₀ false after now
-    too-many-blocks longer e past after now =
+    pub too-many-blocks : {longer : Tip} → longer ≡ tipWith tip k → 76 < longer .used → {after now : List ℕ} → Spread many sector0₀ false after now
+    too-many-blocks {longer} e past =
         let used = longer-used chain tip k (is .built .tip-is) longer e in
         let all = extended-all-length (dataChoices (left - 1) (marked 1 sector0 k)) (extended 0 (blocks chain) k) in
         let long = ap length blocks-with in
@@ -73,8 +73,8 @@ module _ (many : ℕ) (sector0₀ sector0 chain : List ℕ) (search : Search) (t
           taken = λ z. absurd-test (sym z);
         }
 
-    pub room-for : many ≤ 129 → (longer : Tip) → longer ≡ tipWith tip k → longer .used ≤ 76 → Extendable chain tip k
-    room-for few longer e fits =
+    pub room-for : many ≤ 129 → {longer : Tip} → longer ≡ tipWith tip k → longer .used ≤ 76 → Extendable chain tip k
+    room-for few e fits =
         let range = data-choice-range sector0 in
         record {
           built = is .built;
@@ -84,10 +84,10 @@ module _ (many : ℕ) (sector0₀ sector0 chain : List ℕ) (search : Search) (t
           room = rw e at fits;
         }
 
-    pub spreading-on : (found : Search) → Searched sector0 found → (after : List ℕ) (longer : Tip) → Extends chain tip k after longer → ((i : ℕ) → byteAt after i < 256)
+    pub spreading-on : {found : Search} → Searched sector0 found → {after : List ℕ} {longer : Tip} → Extends chain tip k after longer → ((i : ℕ) → byteAt after i < 256)
         → Spreading many sector0₀ (marked 1 sector0 k) after found longer (left - 1)
     unfolding markedAll
-    spreading-on found searched after longer extends small =
+    spreading-on {found} searched extends small =
         record {
           size = marked-length 1 sector0 k ∙ is .size;
           small = small;

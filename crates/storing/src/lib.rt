@@ -9,7 +9,7 @@ ghost use Rattle.rules.specs.Name.{nameRule};
 ghost use Rattle.rules.specs.Chain.{blocks, places};
 ghost use Rattle.rules.specs.Descriptor.{newDescriptor, withChain};
 ghost use Rattle.rules.specs.Sound.{Sound};
-ghost use Rattle.rules.specs.Outcome.{answerOf};
+ghost use Rattle.rules.specs.Outcome.{Meets};
 ghost use Rattle.rules.specs.Calls.Store.{dataWrites, storing, storeOf};
 ghost use Rattle.storing.specs.Spread.{Spread, IsSpread};
 use descriptor::chain::Cursor;
@@ -101,8 +101,7 @@ fn program_descriptor(
 // On a sound volume, under a name that keeps the rule and is not there.
 fn store_new(image: &mut [u8], name: &[u8], bytes: &[u8]) -> Answer
     requires { ⌜ Sound (now image) × (nameRule (now name) ≡ true) ⌝ }
-    ensures { λ r. ⌜ r ≡ answerOf (storing (now (image .entry)) (now (name .entry)) (now (bytes .entry)) .number) ⌝ }
-    ensures { λ _. ⌜ now (image .exit) ≡ written (now (image .entry)) (storing (now (image .entry)) (now (name .entry)) (now (bytes .entry)) .writes) ⌝ }
+    ensures { λ r. ⌜ Meets (storing (now (image .entry)) (now (name .entry)) (now (bytes .entry))) r (now (image .entry)) (now (image .exit)) ⌝ }
 {
     if bytes.len() > 32768 {
         return Answer::Refused(15);
@@ -132,17 +131,12 @@ fn store_new(image: &mut [u8], name: &[u8], bytes: &[u8]) -> Answer
 }
 
 pub fn store(image: &mut [u8], name: &[u8], bytes: &[u8]) -> Answer
-    ensures { λ r. ⌜ r ≡ answerOf (storeOf (now (image .entry)) (now (name .entry)) (now (bytes .entry)) .number) ⌝ }
-    ensures { λ _. ⌜ now (image .exit) ≡ written (now (image .entry)) (storeOf (now (image .entry)) (now (name .entry)) (now (bytes .entry)) .writes) ⌝ }
+    ensures { λ r. ⌜ Meets (storeOf (now (image .entry)) (now (name .entry)) (now (bytes .entry))) r (now (image .entry)) (now (image .exit)) ⌝ }
 {
     let opened = find(image, name);
     match opened {
+        Opened::Refused(number) => Answer::Refused(number),
         Opened::At(_, _) => Answer::Refused(9),
-        Opened::Refused(number) => {
-            if number != 8 {
-                return Answer::Refused(number);
-            }
-            store_new(image, name, bytes)
-        }
+        Opened::Absent => store_new(image, name, bytes),
     }
 }

@@ -1,77 +1,115 @@
--- `appending::append_at` meets its contract: each refusal gives the number of the first test that failed; what is chosen and the blocks with it are those of the definition. Assumes nothing.
+-- `appending::append_at` meets its contract: each refusal gives the number of the first test that was met; what is chosen and the blocks with it are those of the definition. Assumes nothing.
 use mathlib.Core.Path.{_≡_, refl, sym, ap, subst, _∙_}
 use mathlib.Core.Bool.{false}
 use mathlib.Core.List.{List}
 use Prim.Native.Nat.{ℕ, _≤_, _<_}
 use native.Mathlib.Omega.{arith}
 use lib.ListN.{length}
+use borrow.Author.Tests.{eq-eqb, ne-eqb, lt-ltb, le-ltb}
 use Rattle.rules.specs.Bytes.{byteAt, part}
-use Rattle.rules.specs.Sectors.{sectorOf, sectorCount, written}
+use Rattle.rules.specs.Sectors.{sectorOf, sectorCount}
 use Rattle.rules.specs.Map.{freeCount}
 use Rattle.rules.specs.Chain.{blocks, extended}
 use Rattle.rules.specs.Kind.{isProgram, isProtected}
 use Rattle.rules.specs.Descriptor.{statusOf, sectorsOf, chainOf}
 use Rattle.rules.specs.Choice.{dataChoice}
-use Rattle.rules.specs.Calls.Append.{appending}
+use Rattle.rules.specs.Tests.{firstOf, unlessMet}
+use Rattle.rules.specs.Calls.Append.{longerBlocks, appendTests, appendWrites, appending}
 use Rattle.rules.proofs.Bytes.{part-length, part-short}
-use Rattle.rules.proofs.Outcome.{file-long}
 use Rattle.rules.proofs.Choice.{data-choice-range}
 use Rattle.rules.proofs.Extended.{sectors-few}
-use Rattle.rules.proofs.Changes.{refusal-meets, done-meets, in-volume, is-sector, has-rules, protected, unprotected, program, no-program}
+use Rattle.rules.proofs.Status.{protected, unprotected, program, no-program}
+use Rattle.rules.proofs.Outcome.{refusal-meets, done-meets}
+use Rattle.rules.proofs.Opening.{in-volume, is-sector, has-rules}
 use Rattle.extension.specs.Tip.{IsTip}
 use Rattle.extension.specs.Built.{Extendable}
 use Rattle.extension.proofs.Building.{built-chain, longer-used}
-use Rattle.appending.proofs.AppendLaws.{longerBlocks, append-protected, append-program, append-other, append-full, append-77th, append-done}
 use borrow.Author.Needs.{needs}
 use Rattle.appending.proofs.append_at.Statement.{statement}
 use Rattle.appending.proofs.append_at.Tie as tie
+
+-- the ways back: the status read, the tests passed one by one, what was chosen, the chain's tip
+abbrev start : tie.After-byte → tie.Start
+start c = c .before .before .before .before .before
+
+abbrev data-file : tie.Else3 → tie.Else2
+data-file c = c .before
+
+abbrev lent : tie.Else4 → tie.Else3
+lent c = c .before .before .before .before
+
+abbrev room : tie.After-next → tie.Else4
+room c = c .before .before .before .before
+
+abbrev chosen : tie.After-tip-of → tie.After-next
+chosen c = c .before .before .before .before
+
+abbrev status : tie.Else2 → tie.After-byte
+status c = c .before .before
+
+-- the start, from each of them
+abbrev start₃ : tie.Else3 → tie.Start
+start₃ c = start (status (data-file c))
+
+abbrev start₄ : tie.Else4 → tie.Start
+start₄ c = start₃ (lent c)
+
+abbrev start₅ : tie.After-next → tie.Start
+start₅ c = start₄ (room c)
+
+abbrev start₆ : tie.After-tip-of → tie.Start
+start₆ c = start₅ (chosen c)
 
 -- what the tests so far say of the file
 small : (c : tie.Start) → c .args .k < 65536
 small c = omega (arith, in-volume _ _ (c .pre), c .pre .sound .size)
 
-status-is : (c : tie.After-byte) → c .byte .result ≡ statusOf (sectorOf (c .before .before .before .before .before .args .image .now) (c .before .before .before .before .before .args .k))
+status-is : (c : tie.After-byte) → c .byte .result ≡ statusOf (sectorOf (start c .args .image .now) (start c .args .k))
 status-is c = c .byte .ensures .0 ∙ ap (λ (s : List ℕ). byteAt s 12) (c .before .sector-of .ensures)
 
-open-file : (c : tie.Else1) → isProtected (statusOf (sectorOf (c .before .before .before .before .before .before .args .image .now) (c .before .before .before .before .before .before .args .k))) ≡ false
-open-file c = unprotected (sectorOf (c .before .before .before .before .before .before .args .image .now) (c .before .before .before .before .before .before .args .k)) _ (status-is (c .before)) (c .if1 .left)
+open-file : (c : tie.Else1) → isProtected (statusOf (sectorOf (start (c .before) .args .image .now) (start (c .before) .args .k))) ≡ false
+open-file c = unprotected (sectorOf (start (c .before) .args .image .now) (start (c .before) .args .k)) _ (status-is (c .before)) (c .if1 .left)
 
-is-data : (c : tie.Else2) → isProgram (statusOf (sectorOf (c .before .before .before .before .before .before .before .args .image .now) (c .before .before .before .before .before .before .before .args .k))) ≡ false
-is-data c = no-program (sectorOf (c .before .before .before .before .before .before .before .args .image .now) (c .before .before .before .before .before .before .before .args .k)) _ (status-is (c .before .before)) (c .if2 .left)
+is-data : (c : tie.Else2) → isProgram (statusOf (sectorOf (start (status c) .args .image .now) (start (status c) .args .k))) ≡ false
+is-data c = no-program (sectorOf (start (status c) .args .image .now) (start (status c) .args .k)) _ (status-is (status c)) (c .if2 .left)
 
-free-is : (c : tie.After-free-count-of) → c .free-count-of .result ≡ freeCount (sectorOf (c .before .before .before .before .before .before .before .before .before .before .before .args .image .now) 0)
+free-is : (c : tie.After-free-count-of) → c .free-count-of .result ≡ freeCount (sectorOf (start₃ (c .before .before .before) .args .image .now) 0)
 free-is c = c .free-count-of .ensures .0 ∙ ap freeCount (c .before .sector-of2 .ensures)
 
-some : (c : tie.Else4) → 1 ≤ freeCount (sectorOf (c .before .before .before .before .before .before .before .before .before .before .before .before .args .image .now) 0)
+some : (c : tie.Else4) → 1 ≤ freeCount (sectorOf (start₄ c .args .image .now) 0)
 some c = omega (arith, free-is (c .before), c .if4 .left)
 
 -- the sector that is chosen
-new-is : (c : tie.After-next) → c .next .result .sector ≡ dataChoice (sectorOf (c .before .before .before .before .before .before .before .before .before .before .before .before .before .before .before .before .args .image .now) 0)
+new-is : (c : tie.After-next) → c .next .result .sector ≡ dataChoice (sectorOf (start₅ c .args .image .now) 0)
 new-is c = c .next .ensures .0 ∙ ap dataChoice (c .before .sector-of3 .ensures)
 
 new-range : (c : tie.After-next) → (2 ≤ c .next .result .sector) × (c .next .result .sector ≤ 1600)
-new-range c = rw (new-is c) (data-choice-range (sectorOf (c .before .before .before .before .before .before .before .before .before .before .before .before .before .before .before .before .args .image .now) 0))
+new-range c = rw (new-is c) (data-choice-range (sectorOf (start₅ c .args .image .now) 0))
 
 -- the chain, and the blocks with that sector
-tip-is : (c : tie.After-tip-of) → IsTip (chainOf (sectorOf (c .before .before .before .before .before .before .before .before .before .before .before .before .before .before .before .before .before .before .before .before .args .image .now) (c .before .before .before .before .before .before .before .before .before .before .before .before .before .before .before .before .before .before .before .before .args .k))) (c .tip-of .result)
+tip-is : (c : tie.After-tip-of) → IsTip (chainOf (sectorOf (start₆ c .args .image .now) (start₆ c .args .k))) (c .tip-of .result)
 unfolding chainOf
 tip-is c = subst (λ (s : List ℕ). IsTip s (c .tip-of .result)) (c .before .part .ensures ∙ ap (λ (s : List ℕ). part s 28 228) (c .before .before .sector-of4 .ensures)) (c .tip-of .ensures)
 
-used-is : (c : tie.After-tip-with) → c .tip-with .result .used ≡ length (longerBlocks (c .before .before .before .before .before .before .before .before .before .before .before .before .before .before .before .before .before .before .before .before .before .args .image .now) (c .before .before .before .before .before .before .before .before .before .before .before .before .before .before .before .before .before .before .before .before .before .args .bytes .now) (c .before .before .before .before .before .before .before .before .before .before .before .before .before .before .before .before .before .before .before .before .before .args .k))
+used-is : (c : tie.After-tip-with) → c .tip-with .result .used ≡ length (longerBlocks (start₆ (c .before) .args .image .now) (start₆ (c .before) .args .k))
+unfolding longerBlocks
 used-is c =
-    longer-used (chainOf (sectorOf (c .before .before .before .before .before .before .before .before .before .before .before .before .before .before .before .before .before .before .before .before .before .args .image .now) (c .before .before .before .before .before .before .before .before .before .before .before .before .before .before .before .before .before .before .before .before .before .args .k))) (c .before .tip-of .result) (c .before .before .before .before .before .next .result .sector) (tip-is (c .before)) (c .tip-with .result) (c .tip-with .ensures)
-    ∙ ap (λ (m : ℕ). length (extended 0 (blocks (chainOf (sectorOf (c .before .before .before .before .before .before .before .before .before .before .before .before .before .before .before .before .before .before .before .before .before .args .image .now) (c .before .before .before .before .before .before .before .before .before .before .before .before .before .before .before .before .before .before .before .before .before .args .k)))) m)) (new-is (c .before .before .before .before .before))
+    let t = c .before in
+    let d = sectorOf (start₆ t .args .image .now) (start₆ t .args .k) in
+    longer-used (chainOf d) (t .tip-of .result) (chosen t .next .result .sector) (tip-is t) (c .tip-with .result) (c .tip-with .ensures)
+    ∙ ap (λ (m : ℕ). length (extended 0 (blocks (chainOf d)) m)) (new-is (chosen t))
 
 extendable : (c : tie.After-tip-with) → c .tip-with .result .used ≤ 76 →
-    let d = sectorOf (c .before .before .before .before .before .before .before .before .before .before .before .before .before .before .before .before .before .before .before .before .before .args .image .now) (c .before .before .before .before .before .before .before .before .before .before .before .before .before .before .before .before .before .before .before .before .before .args .k) in
-    Extendable (chainOf d) (c .before .tip-of .result) (c .before .before .before .before .before .next .result .sector) × (sectorsOf d ≡ c .before .tip-of .result .next)
+    let d = sectorOf (start₆ (c .before) .args .image .now) (start₆ (c .before) .args .k) in
+    Extendable (chainOf d) (c .before .tip-of .result) (chosen (c .before) .next .result .sector) × (sectorsOf d ≡ c .before .tip-of .result .next)
 unfolding chainOf
 extendable c few =
-    let file = c .before .before .before .before .before .before .before .before .before .before .before .before .before .before .before .before .before .before .before .before .before .pre in
-    let image = c .before .before .before .before .before .before .before .before .before .before .before .before .before .before .before .before .before .before .before .before .before .args .image .now in
-    let d = sectorOf image (c .before .before .before .before .before .before .before .before .before .before .before .before .before .before .before .before .before .before .before .before .before .args .k) in
-    let built = built-chain (sectorCount image) (sectorsOf d) (chainOf d) (c .before .tip-of .result) (omega (arith, file .sound .size)) (part-length d 28 228 (omega (arith, is-sector _ _ file))) (has-rules _ _ file .chain) (tip-is (c .before)) in
-    let range = new-range (c .before .before .before .before .before) in
+    let t = c .before in
+    let file = start₆ t .pre in
+    let image = start₆ t .args .image .now in
+    let d = sectorOf image (start₆ t .args .k) in
+    let built = built-chain (sectorCount image) (sectorsOf d) (chainOf d) (t .tip-of .result) (omega (arith, file .sound .size)) (part-length d 28 228 (omega (arith, is-sector _ _ file))) (has-rules _ _ file .chain) (tip-is t) in
+    let range = new-range (chosen t) in
     let few-sectors = rw (file .is) at (sectors-few image (file .place) (file .sound) (file .inside)) in (
       record {
         built = built .0;
@@ -93,25 +131,29 @@ same-length : tie.Need-same-length
 same-length c = search needs
 
 returns : tie.Need-returns
+unfolding appending appendTests firstOf unlessMet
 returns c =
-    let a = c .before .before .before .before .before .before .args in
-    refusal-meets (a .image .now) _ 10 (λ z. omega arith) (append-protected (a .image .now) (a .bytes .now) (a .k) (protected (sectorOf (a .image .now) (a .k)) _ (status-is (c .before)) (c .if1 .taken)))
+    let a = start (c .before) .args in
+    rw (protected (sectorOf (a .image .now) (a .k)) _ (status-is (c .before)) (c .if1 .taken)) (refusal-meets (a .image .now) _ 10 (λ z. omega arith) refl)
 
 same-length-2 : tie.Need-same-length-2
 same-length-2 c = search needs
 
 returns-2 : tie.Need-returns-2
+unfolding appending appendTests firstOf unlessMet
 returns-2 c =
-    let a = c .before .before .before .before .before .before .before .args in
-    refusal-meets (a .image .now) _ 14 (λ z. omega arith) (append-program (a .image .now) (a .bytes .now) (a .k) (open-file (c .before)) (program (sectorOf (a .image .now) (a .k)) _ (status-is (c .before .before)) (c .if2 .taken)))
+    let e = c .before in
+    let a = start (e .before) .args in
+    rw (open-file e, program (sectorOf (a .image .now) (a .k)) _ (status-is (e .before)) (c .if2 .taken)) (refusal-meets (a .image .now) _ 14 (λ z. omega arith) refl)
 
 same-length-3 : tie.Need-same-length-3
 same-length-3 c = search needs
 
 returns-3 : tie.Need-returns-3
+unfolding appending appendTests firstOf unlessMet
 returns-3 c =
-    let a = c .before .before .before .before .before .before .before .before .args in
-    refusal-meets (a .image .now) _ 15 (λ z. omega arith) (append-other (a .image .now) (a .bytes .now) (a .k) (open-file (c .before .before)) (is-data (c .before)) (c .if3 .taken))
+    let e = c .before in
+    rw (open-file (e .before), is-data e, ne-eqb _ _ (c .if3 .taken)) (refusal-meets (start (status e) .args .image .now) _ 15 (λ z. omega arith) refl)
 
 sector-of-requires-2 : tie.Need-sector-of-requires-2
 sector-of-requires-2 c κs = search needs
@@ -123,9 +165,11 @@ same-length-4 : tie.Need-same-length-4
 same-length-4 c = search needs
 
 returns-4 : tie.Need-returns-4
+unfolding appending appendTests firstOf unlessMet
 returns-4 c =
-    let a = c .before .before .before .before .before .before .before .before .before .before .before .before .args in
-    refusal-meets (a .image .now) _ 12 (λ z. omega arith) (append-full (a .image .now) (a .bytes .now) (a .k) (open-file (c .before .before .before .before .before .before)) (is-data (c .before .before .before .before .before)) (c .before .before .before .before .if3 .left) (omega (arith, free-is (c .before), c .if4 .taken)))
+    let l = c .before .before .before .before in
+    let e = data-file l in
+    rw (open-file (e .before), is-data e, eq-eqb _ _ (l .if3 .left), lt-ltb (freeCount (sectorOf (start₃ l .args .image .now) 0)) 1 (omega (arith, free-is (c .before), c .if4 .taken))) (refusal-meets (start₃ l .args .image .now) _ 12 (λ z. omega arith) refl)
 
 first-requires : tie.Need-first-requires
 first-requires c κs = search needs
@@ -137,7 +181,7 @@ next-requires : tie.Need-next-requires
 next-requires c κs = c .before .before .first .ensures _
 
 sector-of-requires-4 : tie.Need-sector-of-requires-4
-sector-of-requires-4 c κs = small (c .before .before .before .before .before .before .before .before .before .before .before .before .before .before .before .before .before)
+sector-of-requires-4 c κs = small (start₅ (c .before))
 
 part-requires : tie.Need-part-requires
 part-requires c κs = search needs
@@ -154,57 +198,45 @@ tip-with-requires c κs =
 same-length-5 : tie.Need-same-length-5
 same-length-5 c = search needs
 
+-- the tests before the last one, passed
+passed : (c : tie.After-tip-of) →
+    let a = start₆ c .args in
+    (isProtected (statusOf (sectorOf (a .image .now) (a .k))) ≡ false) × (isProgram (statusOf (sectorOf (a .image .now) (a .k))) ≡ false)
+    × (length (a .bytes .now) ≡ 256) × (1 ≤ freeCount (sectorOf (a .image .now) 0))
+passed c =
+    let r = room (chosen c) in
+    let l = lent r in
+    let e = data-file l in
+    (open-file (e .before), is-data e, l .if3 .left, some r)
+
 returns-5 : tie.Need-returns-5
+unfolding appending appendTests firstOf unlessMet
 returns-5 c =
-    let a = c .before .before .before .before .before .before .before .before .before .before .before .before .before .before .before .before .before .before .before .before .before .before .before .args in
-    refusal-meets (a .image .now) _ 13 (λ z. omega arith) (append-77th (a .image .now) (a .bytes .now) (a .k) (open-file (c .before .before .before .before .before .before .before .before .before .before .before .before .before .before .before .before .before)) (is-data (c .before .before .before .before .before .before .before .before .before .before .before .before .before .before .before .before)) (c .before .before .before .before .before .before .before .before .before .before .before .before .before .before .before .if3 .left) (some (c .before .before .before .before .before .before .before .before .before .before .before)) (omega (arith, used-is (c .before .before), c .if5 .taken)))
+    let w = c .before .before in
+    let p = passed (w .before) in
+    let a = start₆ (w .before) .args in
+    rw (p .0, p .1, eq-eqb _ _ (p .2), le-ltb (freeCount _) 1 (p .3), lt-ltb 76 (length (longerBlocks (a .image .now) (a .k))) (omega (arith, used-is w, c .if5 .taken))) (refusal-meets (a .image .now) _ 13 (λ z. omega arith) refl)
 
-slice-aggregate-longer : tie.Need-slice-aggregate-longer
-slice-aggregate-longer c = search needs
-
-sector-of-requires-5 : tie.Need-sector-of-requires-5
-sector-of-requires-5 c κs = small (c .before .before .before .before .before .before .before .before .before .before .before .before .before .before .before .before .before .before .before .before .before .before .before .before .before)
-
-longer-requires : tie.Need-longer-requires
-unfolding chainOf
-longer-requires c κs =
-    let b = extendable (c .before .before .before .before .before) (omega (arith, c .before .before .before .if5 .left)) in
-    rw (c .sector-of5 .ensures) (refl, is-sector _ _ (c .before .before .before .before .before .before .before .before .before .before .before .before .before .before .before .before .before .before .before .before .before .before .before .before .before .before .pre), b .0, b .1)
-
-slice-aggregate-map-with : tie.Need-slice-aggregate-map-with
-slice-aggregate-map-with c = search needs
-
-map-with-requires : tie.Need-map-with-requires
-map-with-requires c κs =
-    let sound = c .before .before .before .before .before .before .before .before .before .before .before .before .before .before .before .before .before .before .before .before .before .before .before .before .before .before .before .before .before .before .pre .sound in
-    (refl, file-long _ 0 sound (omega (arith, sound .size)))
-
-write-sector-requires : tie.Need-write-sector-requires
-write-sector-requires c κs = omega (arith, new-range (c .before .before .before .before .before .before .before .before .before .before .before .before .before .before .before .before .before))
-
-slice-aggregate-write-sector : tie.Need-slice-aggregate-write-sector
-slice-aggregate-write-sector c = search needs
-
-write-sector-requires-2 : tie.Need-write-sector-requires-2
-write-sector-requires-2 c κs = omega arith
-
-slice-aggregate-write-sector-2 : tie.Need-slice-aggregate-write-sector-2
-slice-aggregate-write-sector-2 c = search needs
-
-write-sector-requires-3 : tie.Need-write-sector-requires-3
-write-sector-requires-3 c κs = small (c .before .before .before .before .before .before .before .before .before .before .before .before .before .before .before .before .before .before .before .before .before .before .before .before .before .before .before .before .before .before .before .before .before .before .before .before .before .before .before .before .before .before .before)
+write-longer-requires : tie.Need-write-longer-requires
+write-longer-requires c κs =
+    let e = c .before in
+    let w = e .before .before in
+    let b = extendable w (omega (arith, e .if5 .left)) in
+    (start₆ (w .before) .pre, new-is (chosen (w .before)), b .0, b .1)
 
 same-length-6 : tie.Need-same-length-6
 same-length-6 c = search needs
 
 returns-6 : tie.Need-returns-6
-unfolding written
+unfolding appending appendTests firstOf unlessMet
 returns-6 c =
-    let a = c .before .before .before .before .before .before .before .before .before .before .before .before .before .before .before .before .before .before .before .before .before .before .before .before .before .before .before .before .before .before .before .before .before .before .before .before .before .before .before .before .before .before .before .before .before .before .args in
-    let meets = done-meets (a .image .now) (appending (a .image .now) (a .bytes .now) (a .k)) _ (append-done (a .image .now) (a .bytes .now) (a .k) (open-file (c .before .before .before .before .before .before .before .before .before .before .before .before .before .before .before .before .before .before .before .before .before .before .before .before .before .before .before .before .before .before .before .before .before .before .before .before .before .before .before .before)) (is-data (c .before .before .before .before .before .before .before .before .before .before .before .before .before .before .before .before .before .before .before .before .before .before .before .before .before .before .before .before .before .before .before .before .before .before .before .before .before .before .before)) (c .before .before .before .before .before .before .before .before .before .before .before .before .before .before .before .before .before .before .before .before .before .before .before .before .before .before .before .before .before .before .before .before .before .before .before .before .before .before .if3 .left) (some (c .before .before .before .before .before .before .before .before .before .before .before .before .before .before .before .before .before .before .before .before .before .before .before .before .before .before .before .before .before .before .before .before .before .before)) (omega (arith, used-is (c .before .before .before .before .before .before .before .before .before .before .before .before .before .before .before .before .before .before .before .before .before .before .before .before .before), c .before .before .before .before .before .before .before .before .before .before .before .before .before .before .before .before .before .before .before .before .before .before .before .if5 .left))) in (
-      meets .0,
-      rw (c .before .before .write-sector3 .ensures, c .before .before .before .before .before .before .before .write-sector2 .ensures, c .before .before .before .before .before .before .before .before .before .before .before .before .write-sector .ensures, c .before .before .before .before .before .before .before .before .before .before .before .before .before .before .before .map-with .ensures, c .before .before .before .before .before .before .before .before .before .before .before .before .before .before .before .before .before .before .before .longer .ensures, c .before .before .before .before .before .before .before .before .before .before .before .before .before .before .before .before .before .before .before .before .sector-of5 .ensures, new-is (c .before .before .before .before .before .before .before .before .before .before .before .before .before .before .before .before .before .before .before .before .before .before .before .before .before .before .before .before .before .before)) (meets .1),
-    )
+    let done = c .before .before in
+    let e = done .before .before in
+    let w = e .before .before in
+    let p = passed (w .before) in
+    let a = start₆ (w .before) .args in
+    rw (p .0, p .1, eq-eqb _ _ (p .2), le-ltb (freeCount _) 1 (p .3), le-ltb 76 (length (longerBlocks (a .image .now) (a .k))) (omega (arith, used-is w, e .if5 .left)), done .write-longer .ensures)
+    (done-meets (a .image .now) _ (appendWrites (a .image .now) (a .bytes .now) (a .k)) refl)
 
 pub append-at-spec : {M : Type 1} → statement M
 append-at-spec =
@@ -231,15 +263,6 @@ append-at-spec =
     tip-with-requires
     same-length-5
     returns-5
-    slice-aggregate-longer
-    sector-of-requires-5
-    longer-requires
-    slice-aggregate-map-with
-    map-with-requires
-    write-sector-requires
-    slice-aggregate-write-sector
-    write-sector-requires-2
-    slice-aggregate-write-sector-2
-    write-sector-requires-3
+    write-longer-requires
     same-length-6
     returns-6)

@@ -10,12 +10,6 @@ use borrow.Author.Needs.{needs}
 use Rattle.catalogue.proofs.put_text.Statement.{statement}
 use Rattle.catalogue.proofs.put_text.Tie as tie
 
-refused-line-requires : tie.Need-refused-line-requires
-refused-line-requires c κs = search needs
-
-same-length : tie.Need-same-length
-same-length c = search needs
-
 returns : tie.Need-returns
 returns c =
     let y = c .before .before in
@@ -23,21 +17,6 @@ returns c =
     let start = long .before .before .before in
     front (start .args .text .now) (refusedLine 1) (y .refused-line .ensures .0) (y .refused-line .ensures .1) (omega (arith, refused-short 1, start .pre))
     ∙ sym (output-long (start .args .image .now) (long .if1 .taken))
-
-listing-requires : tie.Need-listing-requires
-listing-requires c κs = search needs
-
-enum-known-amount : tie.Need-enum-known-amount
-enum-known-amount c = search needs
-
-enum-known-amount-2 : tie.Need-enum-known-amount-2
-enum-known-amount-2 c = search needs
-
-refused-line-requires-2 : tie.Need-refused-line-requires-2
-refused-line-requires-2 c κs = search needs
-
-same-length-2 : tie.Need-same-length-2
-same-length-2 c = search needs
 
 returns-2 : tie.Need-returns-2
 returns-2 c =
@@ -49,9 +28,6 @@ returns-2 c =
     let text = start .args .text .now in
     let is = when-given image (length text) (λ i. omega (arith, short .before .before .shared-slice-known .given i)) (omega (arith, start .pre)) _ (sym (o .amount .given .1) ∙ y .listing .ensures .0) in
     front text (listed image) (is .long) (y .listing .ensures .1 ∙ ap (splice text 0) (is .is)) (is .fits) ∙ sym (output-short image (short .if1 .left))
-
-same-length-3 : tie.Need-same-length-3
-same-length-3 c = search needs
 
 returns-3 : tie.Need-returns-3
 returns-3 c =
@@ -69,14 +45,14 @@ pub put-text-spec : {M : Type 1} → statement M
 put-text-spec =
     tie.close
     (tie.spec
-    refused-line-requires
-    same-length
+    (λ c κs. search needs)
+    (λ c. search needs)
     returns
-    listing-requires
-    enum-known-amount
-    enum-known-amount-2
-    refused-line-requires-2
-    same-length-2
+    (λ c κs. search needs)
+    (λ c. search needs)
+    (λ c. search needs)
+    (λ c κs. search needs)
+    (λ c. search needs)
     returns-2
-    same-length-3
+    (λ c. search needs)
     returns-3)

@@ -15,11 +15,12 @@ use Rattle.rules.specs.Index.{numbers, indexOf}
 use Rattle.rules.specs.Volume.{files, placed}
 use Rattle.rules.specs.Choice.{descriptorChoice}
 use Rattle.rules.specs.Sound.{Sound}
+use Rattle.rules.specs.Tests.{firstOf, unlessMet}
 use Rattle.rules.specs.Outcome.{done, refusal}
-use Rattle.rules.specs.Calls.Create.{createStatus, entered, creating}
+use Rattle.rules.specs.Calls.Create.{createStatus, entered, createTests, creating}
 use Rattle.rules.proofs.Name.{name-is}
-use Rattle.rules.proofs.Outcome.{place-none, place-some, file-long}
-use Rattle.rules.proofs.Changes.{refusal-meets, done-meets}
+use Rattle.rules.proofs.Outcome.{refusal-meets, done-meets}
+use Rattle.rules.proofs.Opening.{place-none, place-some, file-long}
 use Rattle.index.proofs.Entered.{written-entered}
 use borrow.Author.Needs.{needs}
 use Rattle.creating.proofs.create_new.Statement.{statement}
@@ -28,26 +29,26 @@ use Rattle.creating.proofs.create_new.Tie as tie
 -- which test gives which number; place 126, the last but one, is that of a 127th file
 module _ (image name : List ℕ) (status recordLength recordsPerSector : ℕ) where
   misasked : createStatus status ≡ false → creating image name status recordLength recordsPerSector ≡ refusal 15
-  unfolding creating
+  unfolding creating createTests firstOf unlessMet
   misasked e = rw e
 
   module _ (whole : Sound image) (asked : createStatus status ≡ true) where
     full : (wordAt (sectorOf image 1) 252 ≡ 0 → ⊥) → creating image name status recordLength recordsPerSector ≡ refusal 11
-    unfolding creating
-    full some = rw (asked, le-ltb (length (files image)) 127 (place-some image 126 whole some .0))
+    unfolding creating createTests firstOf unlessMet
+    full some = rw (asked, le-leb 127 (length (files image)) (place-some image 126 whole some .0))
 
     module _ (room : wordAt (sectorOf image 1) 252 ≡ 0) where
       few : length (files image) < 127
       few = omega (arith, place-none image 126 whole room)
 
       taken : freeCount (sectorOf image 0) ≡ 0 → creating image name status recordLength recordsPerSector ≡ refusal 12
-      unfolding creating
-      taken none = rw (asked, lt-ltb (length (files image)) 127 few, lt-leb 1 (freeCount (sectorOf image 0)) (omega arith))
+      unfolding creating createTests firstOf unlessMet
+      taken none = rw (asked, lt-leb 127 (length (files image)) few, lt-ltb (freeCount (sectorOf image 0)) 1 (omega arith))
 
       passed : (freeCount (sectorOf image 0) ≡ 0 → ⊥) → (k : ℕ) → k ≡ descriptorChoice (sectorOf image 0)
           → creating image name status recordLength recordsPerSector ≡ done (entered image name k (newDescriptor name status recordsPerSector 0 recordLength) (marked 1 (sectorOf image 0) k))
-      unfolding creating
-      passed some k is = rw (is, asked, lt-ltb (length (files image)) 127 few, le-leb 1 (freeCount (sectorOf image 0)) (omega (arith, some)))
+      unfolding creating createTests firstOf unlessMet
+      passed some k is = rw (is, asked, lt-leb 127 (length (files image)) few, le-ltb (freeCount (sectorOf image 0)) 1 (omega (arith, some)))
 
 asked : (c : tie.Else1) → createStatus (c .before .before .before .before .args .status) ≡ true
 asked c = sym (c .before .create-status .ensures) ∙ not-false (c .before .create-status .result) (c .if1 .left)
@@ -163,10 +164,11 @@ returns-4 c =
     let met =
     done-meets image (creating image name (a .status) (a .record-length) (a .records-per-sector)) _
     (passed _ _ _ _ _ (start .pre .0) (asked (room .before .before .before .before)) (sym (last-is (room .before)) ∙ room .if2 .left) (λ z. some .if3 .left (free-is (some .before) ∙ z)) k chosen)
-    in (
-      met .0,
-      written-entered image name k [] _ _ image _ _ _ _ refl (descriptor .new-descriptor .ensures) laid indexed (entering .enter .ensures) ∙ met .1,
-    )
+    in
+    record {
+      said = met .said;
+      left = written-entered image name k [] _ _ image _ _ _ _ refl (descriptor .new-descriptor .ensures) laid indexed (entering .enter .ensures) ∙ met .left;
+    }
 
 pub create-new-spec : {M : Type 1} → statement M
 create-new-spec =

@@ -1,13 +1,13 @@
 -- `index::index_without` meets its contract. The loop's invariant: laying the numbers from byte `at` of sector 1 on but k, from `at` on, gives what laying all of them but k gives.
 -- The measure is what is left of sector 1. Assumes nothing.
 use mathlib.Core.Path.{_≡_, sym, ap, _∙_}
-use mathlib.Core.List.{List}
-use Prim.Native.Nat.{ℕ, _≤_, _-_}
+use mathlib.Core.List.{List, [], _∷_}
+use Prim.Native.Nat.{ℕ, _+_, _-_, _≤_}
+use native.Mathlib.Omega.{arith}
 use lib.ListN.{length, drop}
 use Rattle.rules.specs.Bytes.{splice}
 use Rattle.rules.specs.Index.{numbers, numbersBytes, indexOf, without}
-use Rattle.rules.proofs.Index.{numbers-short}
-use Rattle.rules.proofs.Indexed.{laid-none, laid-number, laid-index, numbers-read, numbers-zero, without-none, without-here, without-later}
+use Rattle.rules.proofs.Indexed.{laid-none, laid-number, laid-index, without-none, without-here, without-later}
 use borrow.Author.Needs.{needs}
 use Rattle.index.proofs.index_without.Statement.{statement}
 use Rattle.index.proofs.index_without.Tie as tie
@@ -22,62 +22,54 @@ abbrev μ-loop : tie.MeasureT-loop
 loop-holds : tie.Need-loop-holds Inv-loop μ-loop
 loop-holds c = (search needs, rw (c .before .pre) (laid-index _))
 
-add-loop : tie.Need-add-loop Inv-loop μ-loop
-add-loop c = search needs
+number-at-requires : tie.Need-number-at-requires Inv-loop μ-loop
+number-at-requires c κs = search needs
 
-word-requires : tie.Need-word-requires Inv-loop μ-loop
-word-requires c κs = search needs
+-- what is left to lay: nothing at the end, and otherwise what is left behind the number that stands here, with it or without it
+abbrev left : tie.At-loop Inv-loop μ-loop → List ℕ
+left c = let a = c .before .before .args in without (a .k) (numbers (drop (c .loop .at) (a .sector1 .now)))
+
+none : (c : tie.Then1 Inv-loop μ-loop) → left (c .before .before) ≡ []
+none c = let a = c .before .before .before .before .args in ap (without (a .k)) (c .before .number-at .ensures .none (c .if1 .taken)) ∙ without-none (a .k)
+
+here : (c : tie.Else1 Inv-loop μ-loop) →
+    let l = c .before .before in
+    let a = l .before .before .args in
+    left l ≡ without (a .k) (c .before .number-at .result ∷ numbers (drop (l .loop .at + 2) (a .sector1 .now)))
+here c = ap (without (c .before .before .before .before .args .k)) (c .before .number-at .ensures .some (c .if1 .left))
+
+inside : (c : tie.Else1 Inv-loop μ-loop) → let l = c .before .before in l .loop .at + 2 ≤ length (l .before .before .args .sector1 .now)
+inside c = c .before .number-at .ensures .inside (c .if1 .left)
 
 returns : tie.Need-returns Inv-loop μ-loop
-returns c =
-    let l = c .before .before .before in
-    let a = l .before .before .args in
-    let none = numbers-zero (a .sector1 .now) (l .loop .at) _ (c .before .before .loop-test .taken) (c .before .word .ensures .0) (c .if1 .taken) in
-    sym (laid-none (l .loop .index) (l .loop .at) _ (ap (without (a .k)) none ∙ without-none (a .k))) ∙ l .loop .inv .1
+returns c = let l = c .before .before .loop in sym (laid-none (l .index) (l .at) _ (none c)) ∙ l .inv .1
 
 add-next : tie.Need-add-next Inv-loop μ-loop
-add-next c = search needs
+add-next c = omega (arith, inside (c .before))
 
 copy-numbers-requires : tie.Need-copy-numbers-requires Inv-loop μ-loop
-copy-numbers-requires c κs = search needs
+copy-numbers-requires c κs = (omega arith, inside (c .before .before))
 
 returns-2 : tie.Need-returns-2 Inv-loop μ-loop
 returns-2 c =
-    let e = c .before .before in
-    let n = e .before in
-    let l = n .before .before .before in
-    let a = l .before .before .args in
-    let more = numbers-read (a .sector1 .now) (l .loop .at) _ (n .before .before .loop-test .taken) (n .before .word .ensures .0) (n .if1 .left) in
-    let rest = ap (without (a .k)) more ∙ without-here (a .k) _ _ (e .if2 .taken) in
-    c .copy-numbers .ensures ∙ ap (λ (ks : List ℕ). splice (l .loop .index) (l .loop .at) (numbersBytes ks)) (sym rest) ∙ l .loop .inv .1
+    let t = c .before .before in
+    let l = t .before .before .before .loop in
+    c .copy-numbers .ensures ∙ ap (λ (ks : List ℕ). splice (l .index) (l .at) (numbersBytes ks)) (sym (here (t .before) ∙ without-here _ _ _ (t .if2 .taken))) ∙ l .inv .1
 
 lay-number-requires : tie.Need-lay-number-requires Inv-loop μ-loop
-lay-number-requires c κs = search needs
+lay-number-requires c κs = c .before .before .before .number-at .ensures .small
 
 add-at : tie.Need-add-at Inv-loop μ-loop
-add-at c = search needs
+add-at c = omega (arith, inside (c .before .before .before))
 
 loop-less : tie.Need-loop-less Inv-loop μ-loop
-loop-less c = search needs
+loop-less c = omega (arith, inside (c .before .before .before))
 
 loop-again : tie.Need-loop-again Inv-loop μ-loop
 loop-again c =
-    let e = c .before .before in
-    let n = e .before in
-    let l = n .before .before .before in
-    let a = l .before .before .args in
-    let more = numbers-read (a .sector1 .now) (l .loop .at) _ (n .before .before .loop-test .taken) (n .before .word .ensures .0) (n .if1 .left) in
-    let rest = ap (without (a .k)) more ∙ without-later (a .k) _ _ (e .if2 .left) in (
-      search needs,
-      laid-number (l .loop .index) (l .loop .at) _ _ _ _ rest (c .lay-number .ensures) ∙ l .loop .inv .1,
-    )
-
-returns-3 : tie.Need-returns-3 Inv-loop μ-loop
-returns-3 c =
-    let l = c .before in
-    let a = l .before .before .args in
-    let none = numbers-short (a .sector1 .now) (l .loop .at) (c .loop-test .left) in
-    sym (laid-none (l .loop .index) (l .loop .at) _ (ap (without (a .k)) none ∙ without-none (a .k))) ∙ l .loop .inv .1
+    let other = c .before .before in
+    let l = other .before .before .before .loop in
+    (inside (other .before), laid-number (l .index) (l .at) _ _ _ _ (here (other .before) ∙ without-later _ _ _ (other .if2 .left)) (c .lay-number .ensures) ∙ l .inv .1)
 
 pub index-without-spec : {M : Type 1} → statement M
 index-without-spec =
@@ -86,8 +78,7 @@ index-without-spec =
     Inv-loop
     μ-loop
     loop-holds
-    add-loop
-    word-requires
+    number-at-requires
     returns
     add-next
     copy-numbers-requires
@@ -95,5 +86,4 @@ index-without-spec =
     lay-number-requires
     add-at
     loop-less
-    loop-again
-    returns-3)
+    loop-again)

@@ -17,61 +17,35 @@ Inv-loop descriptor buffer₀ filled₀ buffer filled = (length buffer ≡ lengt
 abbrev μ-loop : tie.MeasureT-loop
 μ-loop descriptor buffer₀ filled₀ buffer filled = length buffer - filled
 
+-- what was read, and the turn of the loop
+abbrev once : tie.After-reading Inv-loop μ-loop → tie.After-read-once Inv-loop μ-loop
+once c = c .before .before .before .before
+
+abbrev turn : tie.After-read-once Inv-loop μ-loop → tie.At-loop Inv-loop μ-loop
+turn c = c .before .before .before
+
 -- what is filled, with what this turn read, lies within the buffer: the turn read into the part from `filled` on
-within : (c : tie.Else1 Inv-loop μ-loop)
-    → c .before .before .before .before .before .before .before .before .before .loop .filled + c .before .before .reading .given .0 .0
-    ≤ length (c .before .before .before .before .before .before .before .before .before .loop .buffer)
+within : (c : tie.After-reading Inv-loop μ-loop) → let l = turn (once c) .loop in l .filled + c .reading .given .0 .0 ≤ length (l .buffer)
 within c =
-    omega (
-      arith,
-      counted _ (c .before .before .reading .given .1) (c .before .before .before .before .before .before .read-once .ensures) .0,
-      simp (length-take, length-drop) at (c .before .before .before .before .before .buffer .given .0),
-    )
+    omega (arith, counted _ (c .reading .given .1) (once c .read-once .ensures) .0, simp (length-take, length-drop) at (c .before .before .before .buffer .given .0))
 
 loop-holds : tie.Need-loop-holds Inv-loop μ-loop
 loop-holds c = search needs
 
-sub-read-once : tie.Need-sub-read-once Inv-loop μ-loop
-sub-read-once c = search needs
-
-part-read-once-start : tie.Need-part-read-once-start Inv-loop μ-loop
-part-read-once-start c = search needs
-
-part-read-once-end : tie.Need-part-read-once-end Inv-loop μ-loop
-part-read-once-end c = search needs
-
-read-once-requires : tie.Need-read-once-requires Inv-loop μ-loop
-read-once-requires c κs = search needs
-
-enum-known-reading : tie.Need-enum-known-reading Inv-loop μ-loop
-enum-known-reading c = search needs
-
-enum-told : tie.Need-enum-told Inv-loop μ-loop
-enum-told c = search needs
-
-same-length : tie.Need-same-length Inv-loop μ-loop
-same-length c = search needs
-
 returns : tie.Need-returns Inv-loop μ-loop
 returns c = tt
-
-same-length-2 : tie.Need-same-length-2 Inv-loop μ-loop
-same-length-2 c = search needs
 
 returns-2 : tie.Need-returns-2 Inv-loop μ-loop
 returns-2 c = counts _ _ (omega arith)
 
 add-filled : tie.Need-add-filled Inv-loop μ-loop
-add-filled c = let h = within c in search needs
+add-filled c = let h = within (c .before .before) in search needs
 
 loop-less : tie.Need-loop-less Inv-loop μ-loop
-loop-less c = let h = within c in omega arith
+loop-less c = let h = within (c .before .before) in omega arith
 
 loop-again : tie.Need-loop-again Inv-loop μ-loop
-loop-again c = let h = within c in (omega arith, omega arith)
-
-same-length-3 : tie.Need-same-length-3 Inv-loop μ-loop
-same-length-3 c = search needs
+loop-again c = let h = within (c .before .before) in (omega arith, omega arith)
 
 returns-3 : tie.Need-returns-3 Inv-loop μ-loop
 returns-3 c = counts _ _ (omega arith)
@@ -83,18 +57,18 @@ read-image-spec =
     Inv-loop
     μ-loop
     loop-holds
-    sub-read-once
-    part-read-once-start
-    part-read-once-end
-    read-once-requires
-    enum-known-reading
-    enum-told
-    same-length
+    (λ c. search needs)
+    (λ c. search needs)
+    (λ c. search needs)
+    (λ c κs. search needs)
+    (λ c. search needs)
+    (λ c. search needs)
+    (λ c. search needs)
     returns
-    same-length-2
+    (λ c. search needs)
     returns-2
     add-filled
     loop-less
     loop-again
-    same-length-3
+    (λ c. search needs)
     returns-3)

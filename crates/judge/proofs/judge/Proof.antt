@@ -1,38 +1,125 @@
--- `judge::judge` meets its contract: each way out gives the number of the first test that failed, the tests before it having passed. Assumes nothing.
-use mathlib.Core.Path.{_≡_, sym, ap, _∙_}
-use mathlib.Core.Bool.{true, false}
-use mathlib.Core.List.{[]}
-use Prim.Native.Nat.{ℕ, _≤_, _<_}
+-- `judge::judge` meets its contract: each way out gives the number of the first test that failed, the tests before it having passed. What the marks say of holders and map
+-- are laws of the claims. Assumes nothing.
+use mathlib.Core.Path.{_≡_, sym, _∙_}
+use mathlib.Core.Bool.{true}
+use mathlib.Core.List.{List, []}
+use Prim.Native.Nat.{ℕ, _≤_}
 use native.Mathlib.Omega.{arith}
 use borrow.Author.Tests.{eq-eqb, ne-eqb, le-leb, lt-leb, not-true, not-false}
 use Rattle.rules.specs.Sectors.{sectorOf, sectorCount}
 use Rattle.rules.specs.Label.{labelRule}
 use Rattle.rules.specs.Index.{indexRule}
-use Rattle.rules.specs.Map.{taken, mapRule}
+use Rattle.rules.specs.Map.{mapRule}
 use Rattle.rules.specs.Volume.{files, holders}
-use Rattle.rules.specs.Verdict.{sizeRule, descriptorsRule, heldTwice, verdict}
+use Rattle.rules.specs.Verdict.{sizeRule, descriptorsRule, heldTwice}
 use Rattle.rules.proofs.Bytes.{part-length}
-use Rattle.rules.proofs.Sectors.{sector-length, sector-below}
-use Rattle.rules.proofs.Map.{bits-agree}
+use Rattle.rules.proofs.Sectors.{sector-length}
 use Rattle.rules.proofs.Verdict.{size-is}
-use Rattle.judge.specs.Claim.{markAt, Claimed}
-use Rattle.judge.proofs.MarkLaws.{map-bits}
-use Rattle.judge.proofs.ClaimLaws.{judged-twice, judged-small, judged-marks}
+use Rattle.judge.specs.Claim.{markAt}
+use Rattle.judge.proofs.ClaimLaws.{judged-twice, judged-small, judged-map}
+use Rattle.judge.proofs.VerdictSteps.{FourPassed, wrong-size, wrong-label, wrong-index, wrong-descriptor, wrong-holders, wrong-map, nothing-wrong}
 use borrow.Author.Needs.{needs}
 use Rattle.judge.proofs.judge.Statement.{statement}
 use Rattle.judge.proofs.judge.Tie as tie
 
+-- The ways back, each from a test to where the one before it had passed: the size, the label, sector 1, the descriptors, the holders.
+abbrev e₁ : tie.Else3 → tie.Else1
+e₁ c = c .before .before
+
+abbrev e₃ : tie.After-label-rule → tie.Else3
+e₃ c = c .before .before
+
+abbrev e₄ : tie.After-index-rule → tie.Else4
+e₄ c = c .before .before
+
+abbrev e₅ : tie.After-descriptors-rule → tie.Else5
+e₅ c = c .before
+
+abbrev u₆ : tie.After-claim-files → tie.After-unmark
+u₆ c = c .before .before
+
+abbrev e₆ : tie.After-claim-files → tie.Else6
+e₆ c = u₆ c .before .before
+
+abbrev e₇ : tie.After-map-rule → tie.Else7
+e₇ c = c .before .before .before
+
+-- the image, as each test has it
+abbrev lent : tie.Else3 → tie.After-shared-slice-known
+lent c = e₁ c .before
+
+abbrev image₃ : tie.Else3 → List ℕ
+image₃ c = lent c .before .args .image .now
+
+abbrev image₄ : tie.Else4 → List ℕ
+image₄ c = image₃ (e₃ (c .before))
+
+abbrev image₅ : tie.Else5 → List ℕ
+image₅ c = image₄ (e₄ (c .before))
+
+abbrev image₆ : tie.Else6 → List ℕ
+image₆ c = image₅ (e₅ (c .before))
+
+abbrev image₇ : tie.After-claim-files → List ℕ
+image₇ c = image₆ (e₆ c)
+
+-- the tests that have passed
+sized : (c : tie.Else3) → sizeRule (image₃ c) ≡ true
+unfolding sizeRule
+sized c = rw (eq-eqb _ _ (e₁ c .if1 .left), le-leb _ _ (c .before .if2 .left), le-leb _ _ (c .if3 .left))
+
+label-is : (c : tie.After-label-rule) → labelRule (sectorCount (image₃ (e₃ c))) (sectorOf (image₃ (e₃ c)) 0) ≡ c .label-rule .result
+label-is c = rw (← c .before .sector-of .ensures) (sym (c .label-rule .ensures))
+
+labelled : (c : tie.Else4) → labelRule (sectorCount (image₄ c)) (sectorOf (image₄ c) 0) ≡ true
+labelled c = label-is (c .before) ∙ not-false (c .before .label-rule .result) (c .if4 .left)
+
+index-is-result : (c : tie.After-index-rule) → indexRule (sectorCount (image₄ (e₄ c))) (sectorOf (image₄ (e₄ c)) 1) ≡ c .index-rule .result
+index-is-result c = rw (← c .before .sector-of2 .ensures) (sym (c .index-rule .ensures))
+
+indexed : (c : tie.Else5) → indexRule (sectorCount (image₅ c)) (sectorOf (image₅ c) 1) ≡ true
+indexed c = index-is-result (c .before) ∙ not-false (c .before .index-rule .result) (c .if5 .left)
+
+passed : (c : tie.Else6) → FourPassed (image₆ c)
+passed c =
+    let five = e₅ (c .before) in
+    let four = e₄ (five .before) in
+    record {
+      sized = sized (e₃ (four .before));
+      labelled = labelled four;
+      indexed = indexed five;
+      described = sym (c .before .descriptors-rule .ensures) ∙ not-false (c .before .descriptors-rule .result) (c .if6 .left);
+    }
+
+-- what the claims gave, said of the holders
+twice-is : (c : tie.After-claim-files) → heldTwice (holders (image₇ c)) ≡ c .claim-files .result
+twice-is c = judged-twice _ _ (u₆ c .unmark .ensures) (passed (e₆ c)) _ _ (c .claim-files .ensures)
+
+small : (c : tie.Else7) (k : ℕ) → markAt (c .before .claim-files .last .1 .0) k ≤ 1
+small c = judged-small _ _ (u₆ (c .before) .unmark .ensures) (passed (e₆ (c .before))) _ _ (c .before .claim-files .ensures) (c .if7 .left)
+
+-- and of the map; sector 0 was read before the label's test
+abbrev sector0 : tie.Else7 → tie.After-sector-of
+sector0 c = e₄ (e₅ (e₆ (c .before) .before) .before) .before .before
+
+map-is : (c : tie.After-map-rule) → let image = image₇ (e₇ c .before) in mapRule (sectorCount image) (holders image) (sectorOf image 0) ≡ c .map-rule .result
+map-is c =
+    let e = e₇ c in
+    sym (c .map-rule .ensures
+    ∙ judged-map _ _ (u₆ (e .before) .unmark .ensures) (passed (e₆ (e .before))) _ _ (e .before .claim-files .ensures) (e .if7 .left) _ _
+    (c .before .before .part .ensures) (sector0 e .sector-of .ensures) (λ i. omega (arith, lent (sector0 e .before) .shared-slice-known .given i)))
+
 returns : tie.Need-returns
-unfolding verdict sizeRule
-returns c = rw (ne-eqb _ _ (c .if1 .taken))
+unfolding sizeRule
+returns c = sym (wrong-size _ (rw (ne-eqb _ _ (c .if1 .taken))))
 
 returns-2 : tie.Need-returns-2
-unfolding verdict sizeRule
-returns-2 c = rw (eq-eqb _ _ (c .before .if1 .left), lt-leb _ _ (c .if2 .taken))
+unfolding sizeRule
+returns-2 c = sym (wrong-size _ (rw (eq-eqb _ _ (c .before .if1 .left), lt-leb _ _ (c .if2 .taken))))
 
 returns-3 : tie.Need-returns-3
-unfolding verdict sizeRule
-returns-3 c = rw (eq-eqb _ _ (c .before .before .if1 .left), le-leb _ _ (c .before .if2 .left), lt-leb _ _ (c .if3 .taken))
+unfolding sizeRule
+returns-3 c = let low = c .before in sym (wrong-size _ (rw (eq-eqb _ _ (low .before .if1 .left), le-leb _ _ (low .if2 .left), lt-leb _ _ (c .if3 .taken))))
 
 sector-of-requires : tie.Need-sector-of-requires
 sector-of-requires c κs = search needs
@@ -40,38 +127,10 @@ sector-of-requires c κs = search needs
 label-rule-requires : tie.Need-label-rule-requires
 label-rule-requires c κs = search needs
 
-sized : (c : tie.Else3) → sizeRule (c .before .before .before .before .args .image .now) ≡ true
-unfolding sizeRule
-sized c = rw (eq-eqb _ _ (c .before .before .if1 .left), le-leb _ _ (c .before .if2 .left), le-leb _ _ (c .if3 .left))
-
-label-is : (c : tie.After-label-rule) →
-    let image = c .before .before .before .before .before .before .args .image .now in
-    labelRule (sectorCount image) (sectorOf image 0) ≡ c .label-rule .result
-label-is c = rw (← c .before .sector-of .ensures) (sym (c .label-rule .ensures))
-
-labelled : (c : tie.Else4) →
-    let image = c .before .before .before .before .before .before .before .args .image .now in
-    labelRule (sectorCount image) (sectorOf image 0) ≡ true
-labelled c = label-is (c .before) ∙ not-false (c .before .label-rule .result) (c .if4 .left)
-
-index-is-result : (c : tie.After-index-rule) →
-    let image = c .before .before .before .before .before .before .before .before .before .args .image .now in
-    indexRule (sectorCount image) (sectorOf image 1) ≡ c .index-rule .result
-index-is-result c = rw (← c .before .sector-of2 .ensures) (sym (c .index-rule .ensures))
-
-indexed : (c : tie.Else5) →
-    let image = c .before .before .before .before .before .before .before .before .before .before .args .image .now in
-    indexRule (sectorCount image) (sectorOf image 1) ≡ true
-indexed c = index-is-result (c .before) ∙ not-false (c .before .index-rule .result) (c .if5 .left)
-
-described : (c : tie.Else6) →
-    let image = c .before .before .before .before .before .before .before .before .before .before .before .before .args .image .now in
-    descriptorsRule (sectorCount image) image [] (files image) ≡ true
-described c = sym (c .before .descriptors-rule .ensures) ∙ not-false (c .before .descriptors-rule .result) (c .if6 .left)
-
 returns-4 : tie.Need-returns-4
-unfolding verdict
-returns-4 c = rw (sized (c .before .before .before), label-is (c .before), not-true (c .before .label-rule .result) (c .if4 .taken))
+returns-4 c =
+    let l = c .before in
+    sym (wrong-label _ (sized (e₃ l)) (label-is l ∙ not-true (l .label-rule .result) (c .if4 .taken)))
 
 sector-of-requires-2 : tie.Need-sector-of-requires-2
 sector-of-requires-2 c κs = search needs
@@ -80,22 +139,20 @@ index-rule-requires : tie.Need-index-rule-requires
 index-rule-requires c κs = search needs
 
 returns-5 : tie.Need-returns-5
-unfolding verdict
 returns-5 c =
     let i = c .before in
-    let l = i .before .before in
-    rw (sized (l .before .before .before), labelled l, index-is-result i, not-true (i .index-rule .result) (c .if5 .taken))
+    let e = e₄ i in
+    sym (wrong-index _ (sized (e₃ (e .before))) (labelled e) (index-is-result i ∙ not-true (i .index-rule .result) (c .if5 .taken)))
 
 descriptors-rule-requires : tie.Need-descriptors-rule-requires
 descriptors-rule-requires c κs = search needs
 
 returns-6 : tie.Need-returns-6
-unfolding verdict
 returns-6 c =
     let d = c .before in
-    let i = d .before in
-    let l = i .before .before .before in
-    rw (sized (l .before .before .before), labelled l, indexed i, sym (d .descriptors-rule .ensures) ∙ not-true (d .descriptors-rule .result) (c .if6 .taken))
+    let five = e₅ d in
+    let four = e₄ (five .before) in
+    sym (wrong-descriptor _ (sized (e₃ (four .before))) (labelled four) (indexed five) (sym (d .descriptors-rule .ensures) ∙ not-true (d .descriptors-rule .result) (c .if6 .taken)))
 
 unmark-requires : tie.Need-unmark-requires
 unmark-requires c κs = search needs
@@ -103,86 +160,31 @@ unmark-requires c κs = search needs
 claim-files-requires : tie.Need-claim-files-requires
 claim-files-requires c κs = search needs
 
--- all four tests before the holders', at once
-passed : (c : tie.Else6) →
-    let image = c .before .before .before .before .before .before .before .before .before .before .before .before .args .image .now in
-    (sizeRule image ≡ true) × (labelRule (sectorCount image) (sectorOf image 0) ≡ true) × (indexRule (sectorCount image) (sectorOf image 1) ≡ true)
-    × (descriptorsRule (sectorCount image) image [] (files image) ≡ true)
-passed c =
-    let i = c .before .before in
-    let l = i .before .before .before in
-    (sized (l .before .before .before), labelled l, indexed i, described c)
-
--- what the claims gave, said of the holders
-module _ (c : tie.After-claim-files) where
-  twice-result :
-      let image = c .before .before .before .before .before .before .before .before .before .before .before .before .before .before .before .before .args .image .now in
-      heldTwice (holders image) ≡ c .claim-files .result
-  twice-result =
-      let u = c .before .before in
-      let before = passed (u .before .before) in
-      sym (ap (λ (r : Claimed). r .twice) (c .claim-files .ensures) ∙ judged-twice _ _ (u .unmark .ensures) (before .0) (before .2) (before .3))
-
-  small-marks : c .claim-files .result ≡ false → (k : ℕ) → markAt (c .claim-files .last .1 .0) k ≤ 1
-  small-marks e k =
-      let u = c .before .before in
-      let before = passed (u .before .before) in
-      rw (ap (λ (r : Claimed). r .marks) (c .claim-files .ensures)) (judged-small _ _ (u .unmark .ensures) (before .0) (before .2) (before .3) (twice-result ∙ e) k)
-
-  marks-result : c .claim-files .result ≡ false → (k : ℕ) → k < 1600 →
-      let image = c .before .before .before .before .before .before .before .before .before .before .before .before .before .before .before .before .args .image .now in
-      markAt (c .claim-files .last .1 .0) k ≡ taken (sectorCount image) (holders image) k
-  marks-result e k l =
-      let u = c .before .before in
-      let before = passed (u .before .before) in
-      rw (ap (λ (r : Claimed). r .marks) (c .claim-files .ensures)) (judged-marks _ _ (u .unmark .ensures) (before .0) (before .2) (before .3) (twice-result ∙ e) k l)
-
-map-result : (c : tie.After-map-rule) →
-    let image = c .before .before .before .before .before .before .before .before .before .before .before .before .before .before .before .before .before .before .before .before .args .image .now in
-    mapRule (sectorCount image) (holders image) (sectorOf image 0) ≡ c .map-rule .result
-unfolding mapRule
-map-result c =
-    let p = c .before .before in
-    let f = p .before in
-    let image-known = f .before .before .before .before .before .before .before .before .before .before .before .before .before .before .before .before in
-    let sector0-is = f .before .before .before .before .before .before .before .before .before .before .before .before .sector-of .ensures in
-    let small = sector-below (image-known .before .args .image .now) 0 256 (omega arith) (λ i. omega (arith, image-known .shared-slice-known .given i)) in
-    sym (c .map-rule .ensures
-    ∙ rw (p .part .ensures, sector0-is) (map-bits _ _ (small-marks (f .before) (f .if7 .left)) small)
-    ∙ bits-agree _ _ _ 1600 0 (λ k low high. marks-result (f .before) (f .if7 .left) k (omega arith)))
-
 returns-7 : tie.Need-returns-7
-unfolding verdict
-returns-7 c =
-    let e = c .before .before .before .before .before in
-    rw (passed e .0, passed e .1, passed e .2, passed e .3, twice-result (c .before) ∙ c .if7 .taken)
+returns-7 c = let f = c .before in sym (wrong-holders _ (passed (e₆ f)) (twice-is f ∙ c .if7 .taken))
 
 part-requires : tie.Need-part-requires
 part-requires c κs = search needs
 
 map-rule-requires : tie.Need-map-rule-requires
 map-rule-requires c κs =
-    let f = c .before .before in
-    let s = f .before .before .before .before .before .before .before .before .before .before .before .before in
-    let size = size-is _ (sized (s .before)) in
-    let long = sector-length (s .before .before .before .before .before .args .image .now) 0 (omega (arith, size .0, size .1)) in
-    (rw (c .before .part .ensures, s .sector-of .ensures) (part-length (sectorOf (s .before .before .before .before .before .args .image .now) 0) 56 200 (omega (arith, long))), small-marks (f .before) (f .if7 .left))
+    let e = c .before .before in
+    let image = image₇ (e .before) in
+    let size = size-is image (passed (e₆ (e .before)) .sized) in
+    let long = sector-length image 0 (omega (arith, size .0, size .1)) in
+    (rw (c .before .part .ensures, sector0 e .sector-of .ensures) (part-length (sectorOf image 0) 56 200 (omega (arith, long))), small e)
 
 returns-8 : tie.Need-returns-8
-unfolding verdict
 returns-8 c =
     let m = c .before in
-    let f = m .before .before .before in
-    let e = f .before .before .before .before .before in
-    rw (passed e .0, passed e .1, passed e .2, passed e .3, twice-result (f .before) ∙ f .if7 .left, map-result m ∙ not-true (m .map-rule .result) (c .if8 .taken))
+    let e = e₇ m in
+    sym (wrong-map _ (passed (e₆ (e .before))) (twice-is (e .before) ∙ e .if7 .left) (map-is m ∙ not-true (m .map-rule .result) (c .if8 .taken)))
 
 returns-9 : tie.Need-returns-9
-unfolding verdict
 returns-9 c =
     let m = c .before in
-    let f = m .before .before .before in
-    let e = f .before .before .before .before .before in
-    rw (passed e .0, passed e .1, passed e .2, passed e .3, twice-result (f .before) ∙ f .if7 .left, map-result m ∙ not-false (m .map-rule .result) (c .if8 .left))
+    let e = e₇ m in
+    sym (nothing-wrong _ (passed (e₆ (e .before))) (twice-is (e .before) ∙ e .if7 .left) (map-is m ∙ not-false (m .map-rule .result) (c .if8 .left)))
 
 pub judge-spec : {M : Type 1} → statement M
 judge-spec =

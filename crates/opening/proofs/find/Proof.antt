@@ -1,40 +1,42 @@
--- `opening::find` meets its contract. Assumes nothing.
-use mathlib.Core.Path.{sym, ap, _∙_}
+-- `opening::find` meets its contract: each of its ways out is the first test that was met, or the search where none was. Assumes nothing.
+use mathlib.Core.Path.{_≡_, sym, _∙_}
+use Prim.Native.Nat.{ℕ}
+use native.Mathlib.Omega.{arith}
 use borrow.Author.Tests.{not-true, not-false}
-use Rattle.rules.specs.Outcome.{openOf}
-use Rattle.rules.specs.declared.Opened.the-variants.{Refused}
-use Rattle.rules.proofs.Tests.{equal-by, unequal-by}
+use Rattle.rules.specs.Verdict.{verdict}
+use Rattle.rules.proofs.Opening.{unsound-number, unnamed-number, named-number, open-met, open-passed}
 use borrow.Author.Needs.{needs}
 use Rattle.opening.proofs.find.Statement.{statement}
 use Rattle.opening.proofs.find.Tie as tie
+
+-- past the judge
+sound : (c : tie.Else1) → verdict (c .before .before .before .before .args .image .now) ≡ 0
+sound c = sym (c .before .judge .ensures) ∙ c .if1 .left
 
 judge-requires : tie.Need-judge-requires
 judge-requires c κs = search needs
 
 returns : tie.Need-returns
-unfolding openOf
-returns c = rw (unequal-by (c .before .judge .ensures) (c .if1 .taken)) (ap Refused (c .before .judge .ensures))
+returns c =
+    let j = c .before .judge .ensures in
+    sym (open-met _ _ _ (unsound-number _ _ (λ z. c .if1 .taken (j ∙ z)) ∙ sym j) (c .if1 .taken))
 
 name-rule-requires : tie.Need-name-rule-requires
 name-rule-requires c κs = search needs
 
 returns-2 : tie.Need-returns-2
-unfolding openOf
 returns-2 c =
     let n = c .before in
-    let s = n .before in
-    rw (equal-by (s .before .judge .ensures) (s .if1 .left), sym (n .name-rule .ensures) ∙ not-true (n .name-rule .result) (c .if2 .taken))
+    sym (open-met _ _ 7 (unnamed-number _ _ (sound (n .before)) (sym (n .name-rule .ensures) ∙ not-true (n .name-rule .result) (c .if2 .taken))) (λ z. omega arith))
 
 find-in-requires : tie.Need-find-in-requires
 find-in-requires c κs = search needs
 
 returns-3 : tie.Need-returns-3
-unfolding openOf
 returns-3 c =
     let g = c .before in
     let n = g .before in
-    let s = n .before in
-    rw (equal-by (s .before .judge .ensures) (s .if1 .left), sym (n .name-rule .ensures) ∙ not-false (n .name-rule .result) (g .if2 .left)) (c .find-in .ensures)
+    c .find-in .ensures ∙ sym (open-passed _ _ (named-number _ _ (sound (n .before)) (sym (n .name-rule .ensures) ∙ not-false (n .name-rule .result) (g .if2 .left))))
 
 pub find-spec : {M : Type 1} → statement M
 find-spec =

@@ -9,9 +9,9 @@ use Rattle.rules.specs.Bytes.{part, same}
 use Rattle.rules.specs.Index.{numbers}
 use Rattle.rules.specs.Descriptor.{nameOf}
 use Rattle.rules.specs.Volume.{files, nameIn}
-use Rattle.rules.specs.Outcome.{findIn}
+use Rattle.rules.specs.Opening.{findIn}
 use Rattle.rules.specs.declared.Opened.the-variants.{At}
-use Rattle.rules.proofs.Outcome.{find-step, find-zero, find-past}
+use Rattle.rules.proofs.Opening.{find-step, find-zero, find-past}
 use borrow.Author.Needs.{needs}
 use Rattle.opening.proofs.find_in.Statement.{statement}
 use Rattle.opening.proofs.find_in.Tie as tie

@@ -11,79 +11,71 @@ use borrow.Author.Needs.{needs}
 use Rattle.packing.proofs.write_packed.Statement.{statement}
 use Rattle.packing.proofs.write_packed.Tie as tie
 
-extent-of-requires : tie.Need-extent-of-requires
-extent-of-requires c κs = search needs
+-- the start of the call and the parts laid, each found from the one behind it
+abbrev start : tie.After-extent-of → tie.Start
+start c = c .before .before .before
+
+abbrev extent : tie.After-lay-system → tie.After-extent-of
+extent c = c .before .before
+
+abbrev system : tie.After-lay-descriptors → tie.After-lay-system
+system c = c .before .before .before .before
+
+abbrev descriptors : tie.After-lay-data → tie.After-lay-descriptors
+descriptors c = c .before .before .before .before
 
 lay-system-requires : tie.Need-lay-system-requires
 lay-system-requires c κs =
-    let is = c .before .before .before .before .pre .0 in
-    (omega (arith, c .before .extent-of .ensures .0, files-few _ is), label-length _ _ (is .whole) (omega (arith, is .size)))
-
-lay-descriptors-requires : tie.Need-lay-descriptors-requires
-lay-descriptors-requires c κs = search needs
-
-lay-data-requires : tie.Need-lay-data-requires
-lay-data-requires c κs = search needs
+    let e = c .before in
+    let is = start e .pre .0 in
+    (omega (arith, e .extent-of .ensures .0, files-few _ is), label-length _ _ (is .whole) (omega (arith, is .size)), omega (arith, e .extent-of .ensures .1, used-inside _ is))
 
 mul-end : tie.Need-mul-end
 mul-end c =
-    let e = c .before .before .before .before .before .before .before .before .before .before .before .before in
-    let is = e .before .before .before .pre .0 in
+    let e = extent (system (descriptors (c .before .before))) in
+    let is = start e .pre .0 in
     omega (arith, e .extent-of .ensures .1, used-inside _ is, is .size)
 
 -- the sectors in use are inside the target
-room : (c : tie.After-slice-known4) → 256 * c .before .before .before .before .before .before .before .before .before .before .before .before .extent-of .result .used ≤ length (c .before .before .lay-data .last .1 .0)
+room : (c : tie.After-lay-data) → 256 * extent (system (descriptors c)) .extent-of .result .used ≤ length (c .lay-data .last .1 .0)
 room c =
-    let d = c .before .before in
-    let s = d .before .before .before .before in
-    let y = s .before .before .before .before in
-    let e = y .before .before in
-    let start = e .before .before .before in
-    let kept = ap length (d .lay-data .ensures) ∙ splice-length _ _ _ ∙ ap length (s .lay-descriptors .ensures) ∙ splice-length _ _ _ ∙ ap length (y .lay-system .ensures) ∙ splice-length _ _ _ in
-    omega (arith, kept, e .extent-of .ensures .1, used-inside _ (start .pre .0), start .pre .0 .whole, start .pre .1)
+    let s = descriptors c in
+    let y = system s in
+    let e = extent y in
+    let pre = start e .pre in
+    let kept = ap length (c .lay-data .ensures) ∙ splice-length _ _ _ ∙ ap length (s .lay-descriptors .ensures) ∙ splice-length _ _ _ ∙ ap length (y .lay-system .ensures) ∙ splice-length _ _ _ in
+    omega (arith, kept, e .extent-of .ensures .1, used-inside _ (pre .0), pre .0 .whole, pre .1)
 
 sub-fill-free : tie.Need-sub-fill-free
-sub-fill-free c = room c
+sub-fill-free c = room (c .before .before)
 
 part-fill-free-start : tie.Need-part-fill-free-start
-part-fill-free-start c = room c
-
-part-fill-free-end : tie.Need-part-fill-free-end
-part-fill-free-end c = search needs
-
-fill-free-requires : tie.Need-fill-free-requires
-fill-free-requires c κs = search needs
-
-same-length : tie.Need-same-length
-same-length c = search needs
+part-fill-free-start c = room (c .before .before)
 
 returns : tie.Need-returns
 returns c =
-    let d = c .before .before .before .before .before .before in
-    let s = d .before .before .before .before in
-    let y = s .before .before .before .before in
-    let e = y .before .before in
-    let start = e .before .before .before in
-    let many = e .extent-of .ensures .0 in
-    let used = e .extent-of .ensures .1 in
-    let first = rw (many, used) at (y .lay-system .ensures) in
-    let second = rw many at (s .lay-descriptors .ensures) in
-    let third = rw many at (d .lay-data .ensures) in
-    let rest = rw used at (c .before .before .fill-free .ensures) in
-    rw used (laid-packed (start .args .source .now) (start .pre .0) (start .args .target .now) _ _ _ _ (start .pre .1) first second third rest)
+    let f = c .before .before in
+    let d = f .before .before .before .before in
+    let s = descriptors d in
+    let y = system s in
+    let e = extent y in
+    let a = start e .args in
+    let pre = start e .pre in
+    laid-packed (a .source .now) (pre .0) (e .extent-of .ensures .0) (e .extent-of .ensures .1) (a .target .now) _ _ _ _ (pre .1) (y .lay-system .ensures) (s .lay-descriptors .ensures) (d .lay-data .ensures)
+    (f .fill-free .ensures)
 
 pub write-packed-spec : {M : Type 1} → statement M
 write-packed-spec =
     tie.close
     (tie.spec
-    extent-of-requires
+    (λ c κs. search needs)
     lay-system-requires
-    lay-descriptors-requires
-    lay-data-requires
+    (λ c κs. search needs)
+    (λ c κs. search needs)
     mul-end
     sub-fill-free
     part-fill-free-start
-    part-fill-free-end
-    fill-free-requires
-    same-length
+    (λ c. search needs)
+    (λ c κs. search needs)
+    (λ c. search needs)
     returns)

@@ -4,7 +4,7 @@ use mathlib.Core.List.{List, [], _∷_}
 use Prim.Native.Nat.{ℕ, _+_}
 use lib.Dec.{eqb, ltb}
 use lib.ListN.{length}
-use Rattle.rules.specs.Sectors.{sectorOf}
+use Rattle.rules.specs.Sectors.{Write, sectorOf}
 use Rattle.rules.specs.Map.{freeCount, marked}
 use Rattle.rules.specs.Chain.{blocks, extended}
 use Rattle.rules.specs.Kind.{isProgram, isProtected}
@@ -26,13 +26,15 @@ appendTests image bytes k =
     ∷ (refuse 15 (not (eqb (length bytes) 256))
     ∷ (refuse 12 (ltb (freeCount (sectorOf image 0)) 1) ∷ (refuse 13 (ltb 76 (length (longerBlocks image k))) ∷ []))))
 
-unfoldable pub appending : List ℕ → List ℕ → ℕ → Outcome
-appending image bytes k =
+unfoldable pub appendWrites : List ℕ → List ℕ → ℕ → List Write
+appendWrites image bytes k =
     let sector0 = sectorOf image 0 in
     let descriptor = sectorOf image k in
     let new = dataChoice sector0 in
-    tested (appendTests image bytes k)
-    (write new bytes ∷ (write 0 (marked 1 sector0 new) ∷ (write k (withChain descriptor (sectorsOf descriptor + 1) (longerBlocks image k)) ∷ [])))
+    write new bytes ∷ (write 0 (marked 1 sector0 new) ∷ (write k (withChain descriptor (sectorsOf descriptor + 1) (longerBlocks image k)) ∷ []))
+
+unfoldable pub appending : List ℕ → List ℕ → ℕ → Outcome
+appending image bytes k = tested (appendTests image bytes k) (appendWrites image bytes k)
 
 unfoldable pub appendOf : List ℕ → List ℕ → List ℕ → Outcome
 appendOf image name bytes = changing (openOf image name) (appending image bytes)

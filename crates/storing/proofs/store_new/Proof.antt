@@ -18,8 +18,8 @@ use Rattle.rules.specs.Volume.{files, placed}
 use Rattle.rules.specs.Calls.Store.{sectorsFor, dataWrites}
 use Rattle.rules.proofs.Name.{name-is}
 use Rattle.rules.proofs.Choice.{choices-length}
-use Rattle.rules.proofs.Outcome.{place-none, place-some, file-long}
-use Rattle.rules.proofs.Changes.{refusal-meets, done-meets}
+use Rattle.rules.proofs.Outcome.{refusal-meets, done-meets}
+use Rattle.rules.proofs.Opening.{place-none, place-some, file-long}
 use Rattle.index.proofs.Entered.{written-entered}
 use Rattle.storing.specs.Spread.{Spread}
 use Rattle.storing.proofs.StoreLaws.{too-long, no-place, too-few-free, too-scattered, stored}
@@ -226,10 +226,13 @@ returns-5 c =
     let chain = spreading .spread .last .1 .0 in
     let first = dataWrites (a .bytes .now) (places chain) in
     let descriptor = withChain (newDescriptor (a .name .now) 0x01 0 (length (a .bytes .now) % 256) 0) (sectorsFor (length (a .bytes .now))) (blocks chain) in
-    let whole = done-meets _ _ _ (stored _ _ _ (short (at-length passed)) (has-place (counted .before .before .before .before)) (has-free counted) k (chosen choosing) _ _ (all-spread passed)) in (
-      whole .0,
-      written-entered (a .image .now) (a .name .now) k first descriptor (spreading .spread .last .0) _ _ _ _ _ (writing .write-data .ensures) (describing .program-descriptor .ensures) refl (index-is indexing) (entering .enter .ensures) ∙ whole .1,
-    )
+    let whole = done-meets _ _ _ (stored _ _ _ (short (at-length passed)) (has-place (counted .before .before .before .before)) (has-free counted) k (chosen choosing) _ _ (all-spread passed)) in
+    record {
+      said = whole .said;
+      left =
+          written-entered (a .image .now) (a .name .now) k first descriptor (spreading .spread .last .0) _ _ _ _ _ (writing .write-data .ensures) (describing .program-descriptor .ensures) refl (index-is indexing) (entering .enter .ensures)
+          ∙ whole .left;
+    }
 
 pub store-new-spec : {M : Type 1} → statement M
 store-new-spec =

@@ -1,6 +1,6 @@
 -- `storing::write_data` meets its contract. The loop's invariant: writing the bytes from `at` on to the places ahead of the cursor gives what writing all of them gives.
 -- The measure is the number of places ahead. Assumes nothing.
-use mathlib.Core.Path.{_≡_, refl, sym, ap, subst, _∙_}
+use mathlib.Core.Path.{_≡_, refl, sym, ap, _∙_}
 use mathlib.Core.List.{List, []}
 use Prim.Native.Nat.{ℕ, _+_, _*_}
 use native.Mathlib.Omega.{arith}
@@ -11,10 +11,9 @@ use Rattle.rules.specs.Chain.{places}
 use Rattle.rules.specs.Calls.Store.{dataWrites}
 use Rattle.rules.proofs.Splice.{splice-length}
 use Rattle.descriptor.specs.Cursor.{ahead, Steady, Stepped}
-use Rattle.descriptor.specs.declared.chain.Step.{Step}
 use Rattle.descriptor.specs.declared.chain.Step.the-variants.{Place}
 use Rattle.descriptor.proofs.Ahead.{at-first}
-use Rattle.storing.proofs.Laying.{piece-is, piece-written, none-written}
+use Rattle.storing.proofs.Laying.{piece-written, none-written}
 use borrow.Author.Needs.{needs}
 use Rattle.storing.proofs.write_data.Statement.{statement}
 use Rattle.storing.proofs.write_data.Tie as tie
@@ -27,92 +26,67 @@ Inv-loop image₀ chain bytes cursor₀ at₀ image cursor at =
 abbrev μ-loop : tie.MeasureT-loop
 μ-loop image₀ chain bytes cursor₀ at₀ image cursor at = length (ahead chain cursor)
 
--- at the end of the chain, and at a place of it
-ended : (c : tie.After-enum-told Inv-loop μ-loop) →
-    let l = c .before .before .before in
-    ahead (l .before .before .before .before .before .args .chain .now) (l .loop .cursor) ≡ []
+-- the start of the call, the cursor's step, the place that it gave, and the piece laid for it, each found from what is behind it
+abbrev start : tie.At-loop Inv-loop μ-loop → tie.Start Inv-loop μ-loop
+start c = c .before .before .before .before .before
+
+abbrev chain : tie.After-step Inv-loop μ-loop → List ℕ
+chain c = start (c .before) .args .chain .now
+
+abbrev placed : tie.After-lay Inv-loop μ-loop → tie.After-place Inv-loop μ-loop
+placed c = c .before .before .before .before
+
+abbrev laid : tie.After-write-sector Inv-loop μ-loop → tie.After-lay Inv-loop μ-loop
+laid c = c .before .before .before .before
+
+-- at a place of the chain, and at its end
+stepped : (c : tie.After-place Inv-loop μ-loop) → let s = c .before .before in Stepped (chain s) (s .before .loop .cursor) (Place (c .place .given .0 .0) (c .place .given .0 .1 .0))
+stepped c = rw (c .place .given .1) at (c .before .before .step .ensures)
+
+ended : (c : tie.After-enum-told Inv-loop μ-loop) → let s = c .before .before in ahead (chain s) (s .before .loop .cursor) ≡ []
 unfolding Stepped
-ended c =
-    let l = c .before .before .before in
-    subst (λ (s : Step). Stepped (l .before .before .before .before .before .args .chain .now) (l .loop .cursor) s) (c .enum-told .given .1) (c .before .before .step .ensures)
-
-stepped : (c : tie.After-place Inv-loop μ-loop) →
-    let l = c .before .before .before in
-    Stepped (l .before .before .before .before .before .args .chain .now) (l .loop .cursor) (Place (c .place .given .0 .0) (c .place .given .0 .1 .0))
-stepped c =
-    let l = c .before .before .before in
-    subst (λ (s : Step). Stepped (l .before .before .before .before .before .args .chain .now) (l .loop .cursor) s) (c .place .given .1) (c .before .before .step .ensures)
-
-first-requires : tie.Need-first-requires Inv-loop μ-loop
-first-requires c κs = search needs
+ended c = rw (c .enum-told .given .1) at (c .before .before .step .ensures)
 
 loop-holds : tie.Need-loop-holds Inv-loop μ-loop
 loop-holds c =
-    let e = c .first .ensures in (
-      refl,
-      rw e (record { inside = omega arith; small = omega arith }),
-      rw (e, at-first (c .before .before .before .before .args .chain .now)) (omega arith),
-      rw (e, at-first (c .before .before .before .before .args .chain .now)),
-    )
+    let e = c .first .ensures in
+    let all = at-first (c .before .before .before .before .args .chain .now) in
+    (refl, rw e (record { inside = omega arith; small = omega arith }), rw (e, all) (omega arith), rw (e, all))
 
 step-requires : tie.Need-step-requires Inv-loop μ-loop
 step-requires c κs = c .loop .inv .1
 
-enum-known-place : tie.Need-enum-known-place Inv-loop μ-loop
-enum-known-place c = search needs
-
-slice-aggregate-lay : tie.Need-slice-aggregate-lay Inv-loop μ-loop
-slice-aggregate-lay c = search needs
-
-part-requires : tie.Need-part-requires Inv-loop μ-loop
-part-requires c κs = search needs
-
-lay-requires : tie.Need-lay-requires Inv-loop μ-loop
-lay-requires c κs = search needs
-
-slice-aggregate-write-sector : tie.Need-slice-aggregate-write-sector Inv-loop μ-loop
-slice-aggregate-write-sector c = search needs
-
 write-sector-requires : tie.Need-write-sector-requires Inv-loop μ-loop
 unfolding Stepped
-write-sector-requires c κs = omega (arith, stepped (c .before .before .before .before .before .before .before) .2)
+write-sector-requires c κs = omega (arith, stepped (placed (c .before .before .before)) .2)
 
 add-at : tie.Need-add-at Inv-loop μ-loop
-add-at c = omega (arith, c .before .before .before .before .before .before .before .before .before .before .before .before .before .loop .inv .2, c .before .before .before .before .before .before .before .before .before .before .before .before .before .before .before .before .before .before .pre)
+add-at c =
+    let l = placed (laid (c .before .before)) .before .before .before in
+    omega (arith, l .loop .inv .2, start l .pre)
 
 loop-less : tie.Need-loop-less Inv-loop μ-loop
 unfolding Stepped
-loop-less c = omega (arith, ap length (stepped (c .before .before .before .before .before .before .before .before .before .before) .0))
+loop-less c = omega (arith, ap length (stepped (placed (laid (c .before .before))) .0))
 
 loop-again : tie.Need-loop-again Inv-loop μ-loop
 unfolding Stepped
 loop-again c =
-    let l = c .before .before .before .before .before .before .before .before .before .before .before .before .before .loop in
-    let a = c .before .before .before .before .before .before .before .before .before .before .before .before .before .before .before .before .before .before .args in
-    let e = stepped (c .before .before .before .before .before .before .before .before .before .before) in
-    let place = c .before .before .before .before .before .before .before .before .before .before .place .given .0 .0 in
-    let piece = c .before .before .before .before .before .before .lay .ensures ∙ ap (splice (replicate 256 0) 0) (c .before .before .before .before .before .before .before .part .ensures) ∙ piece-is (a .bytes .now) (l .at) in
-    let now = c .before .before .write-sector .ensures ∙ ap (splice (l .image) (256 * place)) piece in (
-      ap length (c .before .before .write-sector .ensures) ∙ splice-length (l .image) (256 * place) _ ∙ l .inv .0,
-      e .1,
-      omega (arith, ap length (e .0), l .inv .2),
-      rw now
-          (sym (piece-written (l .image) (a .bytes .now) (l .at) place (ahead (a .chain .now) (c .before .before .before .before .before .before .before .before .before .before .place .given .0 .1 .0)))
-          ∙ sym (ap (λ (ks : List ℕ). written (l .image) (dataWrites (drop (l .at) (a .bytes .now)) ks)) (e .0))
-          ∙ l .inv .3),
-    )
-
-enum-told : tie.Need-enum-told Inv-loop μ-loop
-enum-told c = search needs
+    let w = c .before .before in
+    let y = laid w in
+    let e = stepped (placed y) in
+    let l = placed y .before .before .before in
+    let is = l .loop .inv in
+    let piece = y .lay .ensures ∙ ap (splice (replicate 256 0) 0) (y .before .part .ensures) in
+    (ap length (w .write-sector .ensures) ∙ splice-length (l .loop .image) _ _ ∙ is .0, e .1, omega (arith, ap length (e .0), is .2), piece-written (l .loop .image) (start l .args .bytes .now) (l .loop .at) (e .0) piece (w .write-sector .ensures) ∙ is .3)
 
 same-length : tie.Need-same-length Inv-loop μ-loop
 same-length c = c .before .before .before .loop .inv .0
 
 returns : tie.Need-returns Inv-loop μ-loop
 returns c =
-    let l = c .before .before .before .loop in
-    let rest = drop (l .at) (c .before .before .before .before .before .before .before .before .args .bytes .now) in
-    sym (none-written (l .image) rest) ∙ sym (ap (λ (ks : List ℕ). written (l .image) (dataWrites rest ks)) (ended c)) ∙ l .inv .3
+    let l = c .before .before .before in
+    sym (none-written (drop (l .loop .at) (start l .args .bytes .now)) (ended c)) ∙ l .loop .inv .3
 
 pub write-data-spec : {M : Type 1} → statement M
 write-data-spec =
@@ -120,18 +94,18 @@ write-data-spec =
     (tie.spec
     Inv-loop
     μ-loop
-    first-requires
+    (λ c κs. search needs)
     loop-holds
     step-requires
-    enum-known-place
-    slice-aggregate-lay
-    part-requires
-    lay-requires
-    slice-aggregate-write-sector
+    (λ c. search needs)
+    (λ c. search needs)
+    (λ c κs. search needs)
+    (λ c κs. search needs)
+    (λ c. search needs)
     write-sector-requires
     add-at
     loop-less
     loop-again
-    enum-told
+    (λ c. search needs)
     same-length
     returns)

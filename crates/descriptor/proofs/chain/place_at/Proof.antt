@@ -1,12 +1,15 @@
 -- `descriptor::chain::place_at` meets its contract. The loop's invariant: place `left` of the blocks from byte `at` on is the place asked for.
 -- The measure is what is left of the chain. Assumes nothing.
 use mathlib.Core.Path.{_≡_, refl, sym, _∙_}
-use mathlib.Core.List.{_∷_}
-use Prim.Native.Nat.{_≤_, _-_, _+_}
+use mathlib.Core.List.{List, _∷_}
+use Prim.Native.Nat.{ℕ, _+_, _-_, _≤_}
 use native.Mathlib.Omega.{arith}
 use lib.ListN.{length, drop, getD}
 use Rattle.rules.specs.Chain.{blocks, placesFrom, places}
-use Rattle.rules.proofs.Chain.{blocks-step, blocks-end, blocks-short, place-here, place-later, no-place}
+use Rattle.rules.specs.declared.Block.{Block}
+use Rattle.rules.proofs.Chain.{place-here, place-later, no-place}
+use Rattle.descriptor.specs.Walk.{BlockHere}
+use Rattle.descriptor.proofs.Walk.{found, ended}
 use borrow.Author.Needs.{needs}
 use Rattle.descriptor.proofs.chain.place_at.Statement.{statement}
 use Rattle.descriptor.proofs.chain.place_at.Tie as tie
@@ -21,86 +24,63 @@ loop-holds : tie.Need-loop-holds Inv-loop μ-loop
 unfolding places
 loop-holds c = (search needs, refl)
 
-add-loop : tie.Need-add-loop Inv-loop μ-loop
-add-loop c = search needs
+block-at-requires : tie.Need-block-at-requires Inv-loop μ-loop
+block-at-requires c κs = search needs
 
-shared-slice-read-a : tie.Need-shared-slice-read-a Inv-loop μ-loop
-shared-slice-read-a c = search needs
+enum-known-block : tie.Need-enum-known-block Inv-loop μ-loop
+enum-known-block c = search needs
 
-add-b : tie.Need-add-b Inv-loop μ-loop
-add-b c = search needs
+-- the block met, and the test that met it
+met : (c : tie.After-less Inv-loop μ-loop) →
+    let l = c .before .before .before .before .before in
+    BlockHere (l .before .before .args .chain .now) (l .loop .at) (c .before .before .block .given .0 .0)
+met c = let b = c .before .before in found _ (b .before .before .block-at .ensures) (b .block .given .1)
 
-shared-slice-read-b : tie.Need-shared-slice-read-b Inv-loop μ-loop
-shared-slice-read-b c = search needs
-
-add-c : tie.Need-add-c Inv-loop μ-loop
-add-c c = search needs
-
-shared-slice-read-c : tie.Need-shared-slice-read-c Inv-loop μ-loop
-shared-slice-read-c c = search needs
-
-ends-chain-requires : tie.Need-ends-chain-requires Inv-loop μ-loop
-ends-chain-requires c κs = search needs
-
-returns : tie.Need-returns Inv-loop μ-loop
-returns c =
-    let e = c .before in
-    let l = e .before .before .before .before in
-    let chain = l .before .before .before .args .chain .now in
-    let none = blocks-end chain (l .before .loop .at) (l .loop-test .taken) (sym (e .ends-chain .ensures) ∙ c .if1 .taken) in
-    (sym (sym (l .before .loop .inv .1) ∙ rw (none, no-place (l .before .loop .next) (l .before .loop .left))), omega arith)
-
-block-of-requires : tie.Need-block-of-requires Inv-loop μ-loop
-block-of-requires c κs = search needs
-
--- the place asked for, with the block that stands here taken off
-stepped : (c : tie.After-block-of Inv-loop μ-loop) →
-    let l = c .before .before .before .before .before .before .before in
-    let a = l .before .before .args in
-    getD (places (a .chain .now)) (a .offset) 0 ≡ getD (placesFrom (l .loop .next) (c .block-of .result ∷ blocks (drop (l .loop .at + 3) (a .chain .now)))) (l .loop .left) 0
-stepped c =
-    let other = c .before in
-    let l = other .before .before .before .before .before in
-    let chain = l .before .before .before .args .chain .now in
-    let here = blocks-step chain (l .before .loop .at) (l .loop-test .taken) (sym (other .before .ends-chain .ensures) ∙ other .if1 .left) in
-    sym (l .before .loop .inv .1) ∙ rw (here, c .block-of .ensures .0)
+abbrev test : tie.After-less Inv-loop μ-loop → tie.At-loop Inv-loop μ-loop
+test c = c .before .before .before .before .before
 
 less-requires : tie.Need-less-requires Inv-loop μ-loop
 less-requires c κs = search needs
 
 add-many : tie.Need-add-many Inv-loop μ-loop
-add-many c = search needs
+add-many c = omega (arith, met c, c .less .ensures)
 
 add-result : tie.Need-add-result Inv-loop μ-loop
-add-result c = search needs
+add-result c = omega (arith, met (c .before), c .before .less .ensures)
 
-returns-2 : tie.Need-returns-2 Inv-loop μ-loop
-returns-2 c =
-    let block = c .before .before .block-of in
-    let many = c .before .less .ensures in (
-      sym (stepped (c .before .before) ∙ place-here _ _ _ _ (omega (arith, many, c .if2 .taken))),
-      omega (arith, block .ensures .1, block .ensures .2, many, c .if2 .taken),
-    )
+returns : tie.Need-returns Inv-loop μ-loop
+returns c =
+    let b = met (c .before) in
+    let many = c .before .less .ensures in
+    (sym (sym (test (c .before) .loop .inv .1) ∙ rw (b .is) (place-here _ _ _ _ (omega (arith, many, c .if1 .taken)))), omega (arith, many, c .if1 .taken))
 
 add-next : tie.Need-add-next Inv-loop μ-loop
-add-next c = search needs
+add-next c = omega (arith, met (c .before))
 
 add-at : tie.Need-add-at Inv-loop μ-loop
-add-at c = search needs
+add-at c = omega (arith, met (c .before))
 
 loop-less : tie.Need-loop-less Inv-loop μ-loop
-loop-less c = search needs
+loop-less c = omega (arith, met (c .before))
+
+-- the place asked for is not in the block met
+later : (bs : List Block) (block : Block) (more : List Block) (next left many : ℕ) → bs ≡ block ∷ more → many ≡ block .last - next → many + 1 ≤ left
+    → getD (placesFrom next bs) left 0 ≡ getD (placesFrom (block .last + 1) more) (left - (many + 1)) 0
+later bs block more next left many e m h = rw (e, m) (place-later _ _ _ _ (omega arith))
 
 loop-again : tie.Need-loop-again Inv-loop μ-loop
 loop-again c =
-    let many = c .before .less .ensures in
-    (search needs, sym (stepped (c .before .before) ∙ rw many (place-later _ _ _ _ (omega (arith, many, c .if2 .left)))))
+    let b = met (c .before) in
+    (b .inside, sym (sym (test (c .before) .loop .inv .1) ∙ later _ _ _ _ _ _ (b .is) (c .before .less .ensures) (c .if1 .left)))
 
-returns-3 : tie.Need-returns-3 Inv-loop μ-loop
-returns-3 c =
-    let l = c .before .loop in
-    let none = blocks-short (c .before .before .before .args .chain .now) (l .at) (c .loop-test .left) in
-    (sym (sym (l .inv .1) ∙ rw (none, no-place (l .next) (l .left))), omega arith)
+enum-told : tie.Need-enum-told Inv-loop μ-loop
+enum-told c = search needs
+
+returns-2 : tie.Need-returns-2 Inv-loop μ-loop
+returns-2 c =
+    let l = c .before .before .before in
+    let none = ended _ _ _ (c .before .before .block-at .ensures) (c .enum-told .given .1) in
+    (sym (sym (l .loop .inv .1) ∙ rw (none, no-place (l .loop .next) (l .loop .left))), omega arith)
 
 pub place-at-spec : {M : Type 1} → statement M
 place-at-spec =
@@ -109,21 +89,15 @@ place-at-spec =
     Inv-loop
     μ-loop
     loop-holds
-    add-loop
-    shared-slice-read-a
-    add-b
-    shared-slice-read-b
-    add-c
-    shared-slice-read-c
-    ends-chain-requires
-    returns
-    block-of-requires
+    block-at-requires
+    enum-known-block
     less-requires
     add-many
     add-result
-    returns-2
+    returns
     add-next
     add-at
     loop-less
     loop-again
-    returns-3)
+    enum-told
+    returns-2)

@@ -11,27 +11,6 @@ use borrow.Author.Needs.{needs}
 use Rattle.formatting.proofs.format.new_label.Statement.{statement}
 use Rattle.formatting.proofs.format.new_label.Tie as tie
 
-cast-high : tie.Need-cast-high
-cast-high c = search needs
-
-cast-low : tie.Need-cast-low
-cast-low c = search needs
-
-slice-aggregate-lay : tie.Need-slice-aggregate-lay
-slice-aggregate-lay c = search needs
-
-lay-requires : tie.Need-lay-requires
-lay-requires c κs = search needs
-
-slice-aggregate-lay-2 : tie.Need-slice-aggregate-lay-2
-slice-aggregate-lay-2 c = search needs
-
-slice-aggregate-lay-3 : tie.Need-slice-aggregate-lay-3
-slice-aggregate-lay-3 c = search needs
-
-lay-requires-2 : tie.Need-lay-requires-2
-lay-requires-2 c κs = search needs
-
 -- what the two calls leave in a label of zeros
 laid : (name behind : List ℕ) → length name ≡ 10 → length behind ≡ 10
     → splice (splice (replicate 56 0) 0 name) 10 behind ≡ name ++ (behind ++ replicate 36 0)
@@ -52,11 +31,11 @@ pub new-label-spec : {M : Type 1} → statement M
 new-label-spec =
     tie.close
     (tie.spec
-    cast-high
-    cast-low
-    slice-aggregate-lay
-    lay-requires
-    slice-aggregate-lay-2
-    slice-aggregate-lay-3
-    lay-requires-2
+    (λ c. search needs)
+    (λ c. search needs)
+    (λ c. search needs)
+    (λ c κs. search needs)
+    (λ c. search needs)
+    (λ c. search needs)
+    (λ c κs. search needs)
     returns)

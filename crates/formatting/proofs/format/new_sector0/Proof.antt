@@ -5,6 +5,7 @@ use Prim.Native.Nat.{ℕ}
 use native.Mathlib.Omega.{arith}
 use lib.ListN.{length, replicate, length-append}
 use Rattle.rules.specs.Bytes.{splice}
+use Rattle.rules.specs.Chain.{run}
 use Rattle.rules.proofs.Splice.{splice-whole}
 use Rattle.rules.proofs.Formatted.{laid-next, map-length, label-length}
 use Rattle.formatting.specs.Geometry.{geometryOf}
@@ -12,36 +13,13 @@ use borrow.Author.Needs.{needs}
 use Rattle.formatting.proofs.format.new_sector0.Statement.{statement}
 use Rattle.formatting.proofs.format.new_sector0.Tie as tie
 
-new-label-requires : tie.Need-new-label-requires
-new-label-requires c κs = search needs
-
-new-map-requires : tie.Need-new-map-requires
-new-map-requires c κs = search needs
-
-slice-aggregate-lay : tie.Need-slice-aggregate-lay
-slice-aggregate-lay c = search needs
-
-slice-aggregate-lay-2 : tie.Need-slice-aggregate-lay-2
-slice-aggregate-lay-2 c = search needs
-
-lay-requires : tie.Need-lay-requires
-lay-requires c κs = search needs
-
-slice-aggregate-lay-3 : tie.Need-slice-aggregate-lay-3
-slice-aggregate-lay-3 c = search needs
-
-slice-aggregate-lay-4 : tie.Need-slice-aggregate-lay-4
-slice-aggregate-lay-4 c = search needs
-
-lay-requires-2 : tie.Need-lay-requires-2
-lay-requires-2 c κs = search needs
-
 -- what the two calls leave in a sector of zeros
 laid : (label map : List ℕ) → length label ≡ 56 → length map ≡ 200 → splice (splice (replicate 256 0) 0 label) 56 map ≡ label ++ map
 laid label map long long′ =
     laid-next (replicate 256 0) label map 56 long ∙ splice-whole (replicate 256 0) (label ++ map) (length-append label map ∙ omega arith)
 
 returns : tie.Need-returns
+unfolding run
 returns c =
     let first = c .before .before .before .before .before .lay .ensures in
     let mapped = c .before .before .before .before .before .before .before .before in
@@ -54,12 +32,12 @@ pub new-sector0-spec : {M : Type 1} → statement M
 new-sector0-spec =
     tie.close
     (tie.spec
-    new-label-requires
-    new-map-requires
-    slice-aggregate-lay
-    slice-aggregate-lay-2
-    lay-requires
-    slice-aggregate-lay-3
-    slice-aggregate-lay-4
-    lay-requires-2
+    (λ c κs. search needs)
+    (λ c κs. search needs)
+    (λ c. search needs)
+    (λ c. search needs)
+    (λ c κs. search needs)
+    (λ c. search needs)
+    (λ c. search needs)
+    (λ c κs. search needs)
     returns)

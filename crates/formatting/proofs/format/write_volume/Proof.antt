@@ -14,42 +14,6 @@ use borrow.Author.Needs.{needs}
 use Rattle.formatting.proofs.format.write_volume.Statement.{statement}
 use Rattle.formatting.proofs.format.write_volume.Tie as tie
 
-new-sector0-requires : tie.Need-new-sector0-requires
-new-sector0-requires c κs = search needs
-
-slice-aggregate-lay : tie.Need-slice-aggregate-lay
-slice-aggregate-lay c = search needs
-
-lay-requires : tie.Need-lay-requires
-lay-requires c κs = search needs
-
-sub-fill : tie.Need-sub-fill
-sub-fill c = search needs
-
-part-fill-start : tie.Need-part-fill-start
-part-fill-start c = search needs
-
-part-fill-end : tie.Need-part-fill-end
-part-fill-end c = search needs
-
-fill-requires : tie.Need-fill-requires
-fill-requires c κs = search needs
-
-sub-fill-2 : tie.Need-sub-fill-2
-sub-fill-2 c = search needs
-
-part-fill-start-2 : tie.Need-part-fill-start-2
-part-fill-start-2 c = search needs
-
-part-fill-end-2 : tie.Need-part-fill-end-2
-part-fill-end-2 c = search needs
-
-fill-requires-2 : tie.Need-fill-requires-2
-fill-requires-2 c κs = search needs
-
-same-length : tie.Need-same-length
-same-length c = search needs
-
 -- what the three calls leave: each writes right behind the one before, and the last to the end of the image
 module _ (image sector0 : List ℕ) (n : ℕ) (large : 3 ≤ n) (long : length image ≡ 256 * n) (whole : length sector0 ≡ 256) where
   filled-one : (laid zeros : List ℕ) → laid ≡ splice image 0 sector0 → zeros ≡ replicate (length (part laid 256 256)) 0
@@ -97,16 +61,16 @@ pub write-volume-spec : {M : Type 1} → statement M
 write-volume-spec =
     tie.close
     (tie.spec
-    new-sector0-requires
-    slice-aggregate-lay
-    lay-requires
-    sub-fill
-    part-fill-start
-    part-fill-end
-    fill-requires
-    sub-fill-2
-    part-fill-start-2
-    part-fill-end-2
-    fill-requires-2
-    same-length
+    (λ c κs. search needs)
+    (λ c. search needs)
+    (λ c κs. search needs)
+    (λ c. search needs)
+    (λ c. search needs)
+    (λ c. search needs)
+    (λ c κs. search needs)
+    (λ c. search needs)
+    (λ c. search needs)
+    (λ c. search needs)
+    (λ c κs. search needs)
+    (λ c. search needs)
     returns)

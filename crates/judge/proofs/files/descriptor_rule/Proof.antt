@@ -1,6 +1,8 @@
--- `judge::files::descriptor_rule` meets its contract. Assumes nothing.
+-- `judge::files::descriptor_rule` meets its contract: each way out is the first test of the rule that came out false, and the last test where the others passed. Assumes nothing.
 use mathlib.Core.Path.{_≡_, sym, _∙_}
 use mathlib.Core.Bool.{true}
+use mathlib.Core.List.{List}
+use Prim.Native.Nat.{ℕ}
 use borrow.Author.Tests.{not-true, not-false}
 use Rattle.rules.specs.Name.{nameRule}
 use Rattle.rules.specs.Kind.{statusRule, kindRule}
@@ -15,32 +17,48 @@ part-requires c κs = search needs
 name-rule-requires : tie.Need-name-rule-requires
 name-rule-requires c κs = search needs
 
+-- The ways back, each from a test to where the one before it had passed: the name, the status. And the descriptor, as each test has it.
+abbrev e₁ : tie.After-status-rule → tie.Else1
+e₁ c = c .before .before
+
+abbrev w₂ : tie.After-kind-rule → tie.After-word
+w₂ c = c .before .before .before .before
+
+abbrev e₂ : tie.After-kind-rule → tie.Else2
+e₂ c = w₂ c .before
+
+abbrev d₁ : tie.After-name-rule → List ℕ
+d₁ c = c .before .before .before .args .descriptor .now
+
+abbrev d₂ : tie.After-status-rule → List ℕ
+d₂ c = d₁ (e₁ c .before)
+
+abbrev d₃ : tie.After-kind-rule → List ℕ
+d₃ c = d₂ (e₂ c .before)
+
 -- each test came out as the rule's
-named : (c : tie.After-name-rule) → nameRule (nameOf (c .before .before .before .args .descriptor .now)) ≡ c .name-rule .result
+name-is : (c : tie.After-name-rule) → nameRule (nameOf (d₁ c)) ≡ c .name-rule .result
 unfolding nameOf
-named c = rw (← c .before .part .ensures) (sym (c .name-rule .ensures))
+name-is c = rw (← c .before .part .ensures) (sym (c .name-rule .ensures))
 
-good-name : (c : tie.Else1) → nameRule (nameOf (c .before .before .before .before .args .descriptor .now)) ≡ true
-good-name c = named (c .before) ∙ not-false (c .before .name-rule .result) (c .if1 .left)
+good-name : (c : tie.Else1) → nameRule (nameOf (d₁ (c .before))) ≡ true
+good-name c = name-is (c .before) ∙ not-false (c .before .name-rule .result) (c .if1 .left)
 
-status-is : (c : tie.After-status-rule) → statusRule (statusOf (c .before .before .before .before .before .before .args .descriptor .now)) ≡ c .status-rule .result
+status-is : (c : tie.After-status-rule) → statusRule (statusOf (d₂ c)) ≡ c .status-rule .result
 status-is c = rw (← c .before .byte .ensures .0) (sym (c .status-rule .ensures))
 
-good-status : (c : tie.Else2) → statusRule (statusOf (c .before .before .before .before .before .before .before .args .descriptor .now)) ≡ true
+good-status : (c : tie.Else2) → statusRule (statusOf (d₂ (c .before))) ≡ true
 good-status c = status-is (c .before) ∙ not-false (c .before .status-rule .result) (c .if2 .left)
 
-kind-is : (c : tie.After-kind-rule) →
-    let d = c .before .before .before .before .before .before .before .before .before .before .before .before .args .descriptor .now in
-    kindRule (fileKind d) (sectorsOf d) ≡ c .kind-rule .result
+kind-is : (c : tie.After-kind-rule) → kindRule (fileKind (d₃ c)) (sectorsOf (d₃ c)) ≡ c .kind-rule .result
 unfolding fileKind
 kind-is c =
     let k = c .before in
-    let w = k .before .before .before in
-    sym (c .kind-rule .ensures ∙ rw (k .kind-of .ensures, w .word .ensures .0, k .before .before .byte2 .ensures .0, k .before .byte3 .ensures .0, w .before .before .before .byte .ensures .0))
+    cc (c .kind-rule .ensures, k .kind-of .ensures, w₂ c .word .ensures .0, k .before .before .byte2 .ensures .0, k .before .byte3 .ensures .0, e₂ c .before .before .byte .ensures .0)
 
 returns : tie.Need-returns
 unfolding descriptorRule
-returns c = rw (named (c .before), not-true (c .before .name-rule .result) (c .if1 .taken))
+returns c = rw (name-is (c .before), not-true (c .before .name-rule .result) (c .if1 .taken))
 
 byte-requires : tie.Need-byte-requires
 byte-requires c κs = search needs
@@ -50,9 +68,7 @@ status-rule-requires c κs = search needs
 
 returns-2 : tie.Need-returns-2
 unfolding descriptorRule
-returns-2 c =
-    let s = c .before in
-    rw (good-name (s .before .before), status-is s, not-true (s .status-rule .result) (c .if2 .taken))
+returns-2 c = let s = c .before in rw (good-name (e₁ s), status-is s, not-true (s .status-rule .result) (c .if2 .taken))
 
 word-requires : tie.Need-word-requires
 word-requires c κs = search needs
@@ -73,8 +89,7 @@ returns-3 : tie.Need-returns-3
 unfolding descriptorRule
 returns-3 c =
     let k = c .before in
-    let s = k .before .before .before .before .before in
-    rw (good-name (s .before .before .before), good-status s, kind-is k, not-true (k .kind-rule .result) (c .if3 .taken))
+    rw (good-name (e₁ (e₂ k .before)), good-status (e₂ k), kind-is k, not-true (k .kind-rule .result) (c .if3 .taken))
 
 part-requires-2 : tie.Need-part-requires-2
 part-requires-2 c κs = search needs
@@ -85,15 +100,14 @@ chain-rule-requires c κs = search needs
 returns-4 : tie.Need-returns-4
 unfolding descriptorRule chainOf
 returns-4 c =
-    let k = c .before .before .before in
-    let w = k .before .before .before .before in
-    let s = w .before in
+    let e = c .before .before in
+    let k = e .before in
     rw (
       c .chain-rule .ensures,
-      good-name (s .before .before .before),
-      good-status s,
-      kind-is k ∙ not-false (k .kind-rule .result) (c .before .before .if3 .left),
-      ← w .word .ensures .0,
+      good-name (e₁ (e₂ k .before)),
+      good-status (e₂ k),
+      kind-is k ∙ not-false (k .kind-rule .result) (e .if3 .left),
+      ← w₂ k .word .ensures .0,
       ← c .before .part2 .ensures,
     )
 

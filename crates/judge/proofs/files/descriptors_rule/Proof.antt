@@ -1,15 +1,18 @@
 -- `judge::files::descriptors_rule` meets its contract. The loop's invariant: the descriptors of the numbers from byte `at` on keep their rules, after the name before them, exactly where all do.
 -- The measure is what is left of sector 1. Assumes nothing.
 use mathlib.Core.Path.{_≡_, refl, sym, _∙_}
-use mathlib.Core.List.{[]}
-use Prim.Native.Nat.{_≤_, _-_}
+use mathlib.Core.Bool.{_&&_}
+use mathlib.Core.List.{List, []}
+use Prim.Native.Nat.{ℕ, _≤_, _-_, _+_}
+use native.Mathlib.Omega.{arith}
 use lib.ListN.{length, drop}
 use borrow.Author.Tests.{not-true, not-false}
 use Rattle.rules.specs.Index.{numbers}
-use Rattle.rules.specs.Descriptor.{nameOf}
+use Rattle.rules.specs.Name.{precedes}
+use Rattle.rules.specs.Descriptor.{nameOf, descriptorRule}
 use Rattle.rules.specs.Volume.{files}
 use Rattle.rules.specs.Verdict.{descriptorsRule}
-use Rattle.judge.proofs.IndexSteps.{descriptors-step, descriptors-zero, descriptors-past}
+use Rattle.judge.proofs.IndexSteps.{descriptors-step, descriptors-past}
 use borrow.Author.Needs.{needs}
 use Rattle.judge.proofs.files.descriptors_rule.Statement.{statement}
 use Rattle.judge.proofs.files.descriptors_rule.Tie as tie
@@ -30,30 +33,33 @@ loop-holds : tie.Need-loop-holds Inv-loop μ-loop
 unfolding files
 loop-holds c = (search needs, rw (c .part .ensures, c .before .sector-of .ensures))
 
-add-loop : tie.Need-add-loop Inv-loop μ-loop
-add-loop c = search needs
-
-word-requires : tie.Need-word-requires Inv-loop μ-loop
-word-requires c κs = search needs
+number-at-requires : tie.Need-number-at-requires Inv-loop μ-loop
+number-at-requires c κs = search needs
 
 returns : tie.Need-returns Inv-loop μ-loop
-returns c =
-    let l = c .before .before in
-    sym (sym (l .before .loop .inv .1) ∙ descriptors-zero _ _ _ _ _ _ (l .loop-test .taken) (c .before .word .ensures .0) (c .if1 .taken))
+returns c = let k = c .before in sym (sym (k .before .loop .inv .1) ∙ descriptors-past _ _ _ _ (k .number-at .ensures .none (c .if1 .taken)))
 
 sector-of-requires-2 : tie.Need-sector-of-requires-2 Inv-loop μ-loop
-sector-of-requires-2 c κs = search needs
+sector-of-requires-2 c κs = omega (arith, c .before .number-at .ensures .small)
 
 descriptor-rule-requires : tie.Need-descriptor-rule-requires Inv-loop μ-loop
 descriptor-rule-requires c κs = search needs
 
+-- all the rules, with the descriptor that stands here taken off; its name is whatever equals it
+stepped : (c : tie.After-sector-of2 Inv-loop μ-loop) (name : List ℕ) → name ≡ nameOf (c .sector-of2 .result .now) →
+    let l = c .before .before .before in
+    let a = l .before .before .before .before .args in
+    let more = numbers (drop (l .loop .at + 2) (l .before .before .sector-of .result .now)) in
+    descriptorsRule (a .n) (a .image .now) [] (files (a .image .now))
+    ≡ (descriptorRule (a .n) (c .sector-of2 .result .now) && (precedes (l .loop .previous .now) name && descriptorsRule (a .n) (a .image .now) name more))
+stepped c name is =
+    let k = c .before .before in
+    sym (k .before .loop .inv .1) ∙ descriptors-step _ _ _ _ _ _ _ name (k .number-at .ensures .some (c .before .if1 .left)) (c .sector-of2 .ensures) is
+
 returns-2 : tie.Need-returns-2 Inv-loop μ-loop
 returns-2 c =
     let d = c .before in
-    let e = d .before .before in
-    let l = e .before .before in
-    let bad = sym (d .descriptor-rule .ensures) ∙ not-true (d .descriptor-rule .result) (c .if2 .taken) in
-    sym (sym (l .before .loop .inv .1) ∙ descriptors-step _ _ _ _ _ _ _ _ (l .loop-test .taken) (e .before .word .ensures .0) (e .if1 .left) (d .before .sector-of2 .ensures) refl ∙ rw bad)
+    sym (stepped (d .before) _ refl ∙ rw (sym (d .descriptor-rule .ensures) ∙ not-true (d .descriptor-rule .result) (c .if2 .taken)))
 
 part-requires-2 : tie.Need-part-requires-2 Inv-loop μ-loop
 part-requires-2 c κs = search needs
@@ -61,44 +67,37 @@ part-requires-2 c κs = search needs
 precedes-requires : tie.Need-precedes-requires Inv-loop μ-loop
 precedes-requires c κs = search needs
 
-returns-3 : tie.Need-returns-3 Inv-loop μ-loop
+-- the same, the descriptor keeping its own rules
+kept : (c : tie.After-precedes Inv-loop μ-loop) →
+    let l = c .before .before .before .before .before .before .before in
+    let a = l .before .before .before .before .args in
+    let name = c .before .part2 .result .now in
+    let more = numbers (drop (l .loop .at + 2) (l .before .before .sector-of .result .now)) in
+    descriptorsRule (a .n) (a .image .now) [] (files (a .image .now)) ≡ (c .precedes .result && descriptorsRule (a .n) (a .image .now) name more)
 unfolding nameOf
-returns-3 c =
-    let p = c .before in
-    let g = p .before .before in
+kept c =
+    let g = c .before .before in
     let d = g .before in
-    let e = d .before .before in
-    let l = e .before .before in
-    let good = sym (d .descriptor-rule .ensures) ∙ not-false (d .descriptor-rule .result) (g .if2 .left) in
-    let late = sym (p .precedes .ensures) ∙ not-true (p .precedes .result) (c .if3 .taken) in
-    sym (sym (l .before .loop .inv .1)
-    ∙ descriptors-step _ _ _ _ _ _ _ _ (l .loop-test .taken) (e .before .word .ensures .0) (e .if1 .left) (d .before .sector-of2 .ensures) (p .before .part2 .ensures)
-    ∙ rw (good, late))
+    stepped (d .before) _ (c .before .part2 .ensures)
+    ∙ rw (sym (d .descriptor-rule .ensures) ∙ not-false (d .descriptor-rule .result) (g .if2 .left), sym (c .precedes .ensures))
+
+returns-3 : tie.Need-returns-3 Inv-loop μ-loop
+returns-3 c = sym (kept (c .before) ∙ rw (not-true (c .before .precedes .result) (c .if3 .taken)))
+
+-- two bytes are there
+inside : (c : tie.Else3 Inv-loop μ-loop) →
+    let l = c .before .before .before .before .before .before .before .before in
+    l .loop .at + 2 ≤ length (l .before .before .sector-of .result .now)
+inside c = let e = c .before .before .before .before .before .before in e .before .number-at .ensures .inside (e .if1 .left)
 
 add-at : tie.Need-add-at Inv-loop μ-loop
-add-at c = search needs
+add-at c = omega (arith, inside c)
 
 loop-less : tie.Need-loop-less Inv-loop μ-loop
-loop-less c = search needs
+loop-less c = omega (arith, inside c)
 
 loop-again : tie.Need-loop-again Inv-loop μ-loop
-unfolding nameOf
-loop-again c =
-    let p = c .before in
-    let g = p .before .before in
-    let d = g .before in
-    let e = d .before .before in
-    let l = e .before .before in
-    let good = sym (d .descriptor-rule .ensures) ∙ not-false (d .descriptor-rule .result) (g .if2 .left) in
-    let next = sym (p .precedes .ensures) ∙ not-false (p .precedes .result) (c .if3 .left) in (
-      l .loop-test .taken,
-      sym (sym (l .before .loop .inv .1)
-          ∙ descriptors-step _ _ _ _ _ _ _ _ (l .loop-test .taken) (e .before .word .ensures .0) (e .if1 .left) (d .before .sector-of2 .ensures) (p .before .part2 .ensures)
-          ∙ rw (good, next)),
-    )
-
-returns-4 : tie.Need-returns-4 Inv-loop μ-loop
-returns-4 c = sym (sym (c .before .loop .inv .1) ∙ descriptors-past _ _ _ _ _ (c .loop-test .left))
+loop-again c = (inside c, sym (kept (c .before) ∙ rw (not-false (c .before .precedes .result) (c .if3 .left))))
 
 pub descriptors-rule-spec : {M : Type 1} → statement M
 descriptors-rule-spec =
@@ -109,8 +108,7 @@ descriptors-rule-spec =
     sector-of-requires
     part-requires
     loop-holds
-    add-loop
-    word-requires
+    number-at-requires
     returns
     sector-of-requires-2
     descriptor-rule-requires
@@ -120,5 +118,4 @@ descriptors-rule-spec =
     returns-3
     add-at
     loop-less
-    loop-again
-    returns-4)
+    loop-again)

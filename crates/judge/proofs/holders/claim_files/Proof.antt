@@ -11,10 +11,9 @@ use Rattle.rules.specs.Descriptor.{chainOf}
 use Rattle.rules.specs.Index.{numbers}
 use Rattle.rules.specs.Volume.{files, placesIn, fileHolders}
 use Rattle.descriptor.specs.Cursor.{ahead, Steady, Stepped}
-use Rattle.descriptor.specs.declared.chain.Step.{Step}
 use Rattle.descriptor.specs.declared.chain.Step.the-variants.{Place}
-use Rattle.judge.specs.Claim.{claim, claimed}
-use Rattle.judge.proofs.ClaimSteps.{claim-done, files-step, files-zero, files-past, places-ahead, took, refused}
+use Rattle.judge.specs.Claim.{Claimed, claim, claimed}
+use Rattle.judge.proofs.ClaimSteps.{claim-done, files-step, files-past, places-ahead, took, refused}
 use borrow.Author.Needs.{needs}
 use Rattle.judge.proofs.holders.claim_files.Statement.{statement}
 use Rattle.judge.proofs.holders.claim_files.Tie as tie
@@ -33,83 +32,80 @@ Inv-files image marks₀ sector1 twice₀ at₀ marks twice at = (at ≤ length 
 abbrev μ-files : tie.MeasureT-files
 μ-files image marks₀ sector1 twice₀ at₀ marks twice at = length sector1 - at
 
--- the whole work, by the numbers of the sector 1 that was read
-whole : (c : tie.After-sector-of Inv-loop μ-loop Inv-files μ-files) →
-    let a = c .before .before .args in
-    claim (a .marks .now) (fileHolders (a .image .now) (files (a .image .now))) ≡ claim (a .marks .now) (fileHolders (a .image .now) (numbers (c .sector-of .result .now)))
+-- The ways back: from a place of a chain to the loop over it and to its start; from there to the taking of the descriptor's sector, its number, and the loop over the files.
+abbrev test : tie.After-place Inv-loop μ-loop Inv-files μ-files → tie.At-loop Inv-loop μ-loop Inv-files μ-files
+test c = c .before .before .before
+
+abbrev last : tie.After-enum-told Inv-loop μ-loop Inv-files μ-files → tie.At-loop Inv-loop μ-loop Inv-files μ-files
+last c = c .before .before .before
+
+abbrev place : tie.After-take2 Inv-loop μ-loop Inv-files μ-files → tie.After-place Inv-loop μ-loop Inv-files μ-files
+place c = c .before .before .before
+
+abbrev taken : tie.After-first Inv-loop μ-loop Inv-files μ-files → tie.After-take Inv-loop μ-loop Inv-files μ-files
+taken c = c .before .before .before .before
+
+abbrev number : tie.After-take Inv-loop μ-loop Inv-files μ-files → tie.Else1 Inv-loop μ-loop Inv-files μ-files
+number c = c .before .before
+
+abbrev file : tie.Else1 Inv-loop μ-loop Inv-files μ-files → tie.At-files Inv-loop μ-loop Inv-files μ-files
+file c = c .before .before
+
+abbrev filed : tie.After-first Inv-loop μ-loop Inv-files μ-files → tie.At-files Inv-loop μ-loop Inv-files μ-files
+filed c = file (number (taken c))
+
+abbrev image : tie.After-sector-of Inv-loop μ-loop Inv-files μ-files → List ℕ
+image c = c .before .before .args .image .now
+
+abbrev chain : tie.After-first Inv-loop μ-loop Inv-files μ-files → List ℕ
+chain c = c .before .part .result .now
+
+-- what the function is to come to; what is left behind the file that stands here
+abbrev whole : tie.After-sector-of Inv-loop μ-loop Inv-files μ-files → Claimed
+whole c = claim (c .before .before .args .marks .now) (fileHolders (image c) (files (image c)))
+
+abbrev rest : tie.At-files Inv-loop μ-loop Inv-files μ-files → List ℕ
+rest c = fileHolders (image (c .before)) (numbers (drop (c .files .at + 2) (c .before .sector-of .result .now)))
+
+-- the whole at a turn of the loop over the files
+turned : (c : tie.At-files Inv-loop μ-loop Inv-files μ-files) → whole (c .before) ≡ claim (c .files .marks) (fileHolders (image (c .before)) (numbers (drop (c .files .at) (c .before .sector-of .result .now))))
 unfolding files
-whole c = rw (c .sector-of .ensures)
+turned c = rw (← c .before .sector-of .ensures) (sym (c .files .inv .2))
 
 -- at a number that is not zero
 opened : (c : tie.Else1 Inv-loop μ-loop Inv-files μ-files) →
-    let f = c .before .before .before in
-    let a = f .before .before .before .args in
-    let k = c .before .word .result in
-    claim (a .marks .now) (fileHolders (a .image .now) (files (a .image .now)))
-    ≡ claim (f .files .marks) (k ∷ (placesIn (a .image .now) k ++ fileHolders (a .image .now) (numbers (drop (f .files .at + 2) (f .before .sector-of .result .now)))))
-opened c =
-    let i = c .before .before in
-    let f = i .before in
-    whole (f .before) ∙ sym (f .files .inv .2) ∙ ap (claim (f .files .marks)) (files-step _ _ _ _ (i .files-test .taken) (c .before .word .ensures .0) (c .if1 .left))
+    let k = c .before .number-at .result in
+    whole (file c .before) ≡ claim (file c .files .marks) (k ∷ (placesIn (image (file c .before)) k ++ rest (file c)))
+opened c = turned (file c) ∙ ap (claim (file c .files .marks)) (files-step _ _ _ _ (c .before .number-at .ensures .some (c .if1 .left)))
 
 -- at the first place of that file
-started : (c : tie.After-first Inv-loop μ-loop Inv-files μ-files) →
-    let t = c .before .before .before .before in
-    let f = t .before .before .before .before .before in
-    let a = f .before .before .before .args in
-    claim (a .marks .now) (fileHolders (a .image .now) (files (a .image .now)))
-    ≡ claim (t .take .last .0) (ahead (c .before .part .result .now) (c .first .result) ++ fileHolders (a .image .now) (numbers (drop (f .files .at + 2) (f .before .sector-of .result .now))))
+started : (c : tie.After-first Inv-loop μ-loop Inv-files μ-files) → whole (filed c .before) ≡ claim (taken c .take .last .0) (ahead (chain c) (c .first .result) ++ rest (filed c))
 unfolding chainOf
 started c =
-    let free = c .before .before .before in
-    let t = free .before in
-    let f = t .before .before .before .before .before in
-    let a = f .before .before .before .args in
-    let rest = fileHolders (a .image .now) (numbers (drop (f .files .at + 2) (f .before .sector-of .result .now))) in
-    opened (t .before .before)
-    ∙ took _ _ _ _ (t .take .result) (t .take .ensures .0) (t .take .ensures .1) (free .if2 .left)
-    ∙ ap (λ (ps : List ℕ). claim (t .take .last .0) (ps ++ rest))
-    (places-ahead _ _ _ _ (c .before .before .sector-of2 .ensures) (c .before .part .ensures) ∙ ap (ahead (c .before .part .result .now)) (sym (c .first .ensures)))
+    let t = taken c .take in
+    opened (number (taken c))
+    ∙ took _ _ _ _ (t .result) (t .ensures .0) (t .ensures .1) (c .before .before .before .if2 .left)
+    ∙ ap (λ (ps : List ℕ). claim (t .last .0) (ps ++ rest (filed c)))
+    (places-ahead _ _ _ _ (c .before .before .sector-of2 .ensures) (c .before .part .ensures) ∙ ap (ahead (chain c)) (sym (c .first .ensures)))
 
 -- at a turn of the loop over its sectors
-going : (c : tie.At-loop Inv-loop μ-loop Inv-files μ-files) →
-    let t = c .before .before .before .before .before in
-    let f = t .before .before .before .before .before in
-    let a = f .before .before .before .args in
-    claim (a .marks .now) (fileHolders (a .image .now) (files (a .image .now)))
-    ≡ claim (c .loop .marks) (ahead (c .before .before .part .result .now) (c .loop .cursor) ++ fileHolders (a .image .now) (numbers (drop (f .files .at + 2) (f .before .sector-of .result .now))))
+going : (c : tie.At-loop Inv-loop μ-loop Inv-files μ-files) → whole (filed (c .before) .before) ≡ claim (c .loop .marks) (ahead (chain (c .before)) (c .loop .cursor) ++ rest (filed (c .before)))
 going c = started (c .before) ∙ sym (c .loop .inv .2)
 
 -- at the last place's end
-ended : (c : tie.After-enum-told Inv-loop μ-loop Inv-files μ-files) → let l = c .before .before .before in ahead (l .before .before .part .result .now) (l .loop .cursor) ≡ []
+ended : (c : tie.After-enum-told Inv-loop μ-loop Inv-files μ-files) → ahead (chain (last c .before)) (last c .loop .cursor) ≡ []
 unfolding Stepped
-ended c =
-    let l = c .before .before .before in
-    subst (λ (s : Step). Stepped (l .before .before .part .result .now) (l .loop .cursor) s) (c .enum-told .given .1) (c .before .before .step .ensures)
+ended c = subst (Stepped (chain (last c .before)) (last c .loop .cursor)) (c .enum-told .given .1) (c .before .before .step .ensures)
 
 -- at a place
-stepped : (c : tie.After-place Inv-loop μ-loop Inv-files μ-files) →
-    let l = c .before .before .before in
-    Stepped (l .before .before .part .result .now) (l .loop .cursor) (Place (c .place .given .0 .0) (c .place .given .0 .1 .0))
-stepped c =
-    let l = c .before .before .before in
-    subst (λ (s : Step). Stepped (l .before .before .part .result .now) (l .loop .cursor) s) (c .place .given .1) (c .before .before .step .ensures)
+stepped : (c : tie.After-place Inv-loop μ-loop Inv-files μ-files) → Stepped (chain (test c .before)) (test c .loop .cursor) (Place (c .place .given .0 .0) (c .place .given .0 .1 .0))
+stepped c = subst (Stepped (chain (test c .before)) (test c .loop .cursor)) (c .place .given .1) (c .before .before .step .ensures)
 
 placed : (c : tie.After-place Inv-loop μ-loop Inv-files μ-files) →
-    let l = c .before .before .before in
-    let t = l .before .before .before .before .before in
-    let f = t .before .before .before .before .before in
-    let a = f .before .before .before .args in
-    claim (a .marks .now) (fileHolders (a .image .now) (files (a .image .now)))
-    ≡ claim (l .loop .marks) (c .place .given .0 .0 ∷ (ahead (l .before .before .part .result .now) (c .place .given .0 .1 .0) ++ fileHolders (a .image .now) (numbers (drop (f .files .at + 2) (f .before .sector-of .result .now)))))
+    let first = test c .before in
+    whole (filed first .before) ≡ claim (test c .loop .marks) (c .place .given .0 .0 ∷ (ahead (chain first) (c .place .given .0 .1 .0) ++ rest (filed first)))
 unfolding Stepped
-placed c =
-    let l = c .before .before .before in
-    let t = l .before .before .before .before .before in
-    let f = t .before .before .before .before .before in
-    let a = f .before .before .before .args in
-    let rest = fileHolders (a .image .now) (numbers (drop (f .files .at + 2) (f .before .sector-of .result .now))) in
-    going l ∙ ap (λ (ps : List ℕ). claim (l .loop .marks) (ps ++ rest)) (stepped c .0)
+placed c = going (test c) ∙ ap (λ (ps : List ℕ). claim (test c .loop .marks) (ps ++ rest (filed (test c .before)))) (stepped c .0)
 
 sector-of-requires : tie.Need-sector-of-requires Inv-loop μ-loop Inv-files μ-files
 sector-of-requires c κs = search needs
@@ -117,17 +113,14 @@ sector-of-requires c κs = search needs
 files-holds : tie.Need-files-holds Inv-loop μ-loop Inv-files μ-files
 files-holds c = (search needs, refl, refl)
 
-add-files : tie.Need-add-files Inv-loop μ-loop Inv-files μ-files
-add-files c = search needs
-
-word-requires : tie.Need-word-requires Inv-loop μ-loop Inv-files μ-files
-word-requires c κs = search needs
+number-at-requires : tie.Need-number-at-requires Inv-loop μ-loop Inv-files μ-files
+number-at-requires c κs = search needs
 
 take-requires : tie.Need-take-requires Inv-loop μ-loop Inv-files μ-files
 take-requires c κs = search needs
 
 sector-of-requires-2 : tie.Need-sector-of-requires-2 Inv-loop μ-loop Inv-files μ-files
-sector-of-requires-2 c κs = search needs
+sector-of-requires-2 c κs = omega (arith, number (c .before) .before .number-at .ensures .small)
 
 part-requires : tie.Need-part-requires Inv-loop μ-loop Inv-files μ-files
 part-requires c κs = search needs
@@ -152,55 +145,52 @@ take-requires-2 c κs = search needs
 
 loop-less : tie.Need-loop-less Inv-loop μ-loop Inv-files μ-files
 unfolding Stepped
-loop-less c = omega (arith, ap length (stepped (c .before .before .before .before) .0))
+loop-less c = omega (arith, ap length (stepped (place (c .before)) .0))
 
 loop-again : tie.Need-loop-again Inv-loop μ-loop Inv-files μ-files
 unfolding Stepped
 loop-again c =
-    let t = c .before in
-    let p = t .before .before .before in
-    let l = p .before .before .before in (
-      l .loop .inv .0,
+    let t = c .before .take2 in
+    let p = place (c .before) in (
+      test p .loop .inv .0,
       stepped p .1,
-      sym (took _ _ _ _ (t .take2 .result) (t .take2 .ensures .0) (t .take2 .ensures .1) (c .if3 .left)) ∙ sym (placed p) ∙ started (l .before),
+      sym (took _ _ _ _ (t .result) (t .ensures .0) (t .ensures .1) (c .if3 .left)) ∙ sym (placed p) ∙ started (test p .before),
     )
 
+-- two bytes of sector 1 are there
+inside : (c : tie.After-enum-told Inv-loop μ-loop Inv-files μ-files) →
+    let f = filed (last c .before) in
+    f .files .at + 2 ≤ length (f .before .sector-of .result .now)
+inside c = let k = number (taken (last c .before)) in k .before .number-at .ensures .inside (k .if1 .left)
+
 add-at : tie.Need-add-at Inv-loop μ-loop Inv-files μ-files
-add-at c = search needs
+add-at c = omega (arith, inside c)
 
 files-less : tie.Need-files-less Inv-loop μ-loop Inv-files μ-files
-files-less c = search needs
+files-less c = omega (arith, inside c)
 
 files-again : tie.Need-files-again Inv-loop μ-loop Inv-files μ-files
+unfolding files
 files-again c =
-    let l = c .before .before .before in
-    let i = l .before .before .before .before .before .before .before .before .before in
-    let f = i .before in
-    let a = f .before .before .before .args in
-    let rest = fileHolders (a .image .now) (numbers (drop (f .files .at + 2) (f .before .sector-of .result .now))) in (
-      i .files-test .taken,
+    let l = last c in
+    let f = filed (l .before) in (
+      inside c,
       l .loop .inv .0 ∙ f .files .inv .1,
-      sym (ap (λ (ps : List ℕ). claim (l .loop .marks) (ps ++ rest)) (ended c)) ∙ sym (going l) ∙ whole (f .before),
+      sym (ap (λ (ps : List ℕ). claim (l .loop .marks) (ps ++ rest f)) (ended c)) ∙ sym (going l) ∙ rw (← f .before .sector-of .ensures),
     )
 
 returns : tie.Need-returns Inv-loop μ-loop Inv-files μ-files
 returns c =
-    let f = c .before in
-    ap (λ (t : Bool). claimed t (f .files .marks)) (f .files .inv .1)
-    ∙ sym (whole (f .before) ∙ sym (f .files .inv .2) ∙ ap (claim (f .files .marks)) (files-past _ _ _ (c .files-test .left)) ∙ claim-done (f .files .marks))
+    let k = c .before in
+    let f = k .before in
+    let done = ap (claim (f .files .marks)) (files-past _ _ (k .number-at .ensures .none (c .if1 .taken))) ∙ claim-done (f .files .marks) in
+    ap (λ (t : Bool). claimed t (f .files .marks)) (f .files .inv .1) ∙ sym (turned f ∙ done)
 
 returns-2 : tie.Need-returns-2 Inv-loop μ-loop Inv-files μ-files
-returns-2 c =
-    let i = c .before .before in
-    let f = i .before in
-    ap (λ (t : Bool). claimed t (f .files .marks)) (f .files .inv .1)
-    ∙ sym (whole (f .before) ∙ sym (f .files .inv .2) ∙ ap (claim (f .files .marks)) (files-zero _ _ _ _ (i .files-test .taken) (c .before .word .ensures .0) (c .if1 .taken)) ∙ claim-done (f .files .marks))
+returns-2 c = let t = c .before .take in refused _ _ _ _ (t .result) (t .ensures .0) (t .ensures .1) (c .if2 .taken) ∙ sym (opened (number (c .before)))
 
 returns-3 : tie.Need-returns-3 Inv-loop μ-loop Inv-files μ-files
-returns-3 c = refused _ _ _ _ (c .before .take .result) (c .before .take .ensures .0) (c .before .take .ensures .1) (c .if2 .taken) ∙ sym (opened (c .before .before .before))
-
-returns-4 : tie.Need-returns-4 Inv-loop μ-loop Inv-files μ-files
-returns-4 c = refused _ _ _ _ (c .before .take2 .result) (c .before .take2 .ensures .0) (c .before .take2 .ensures .1) (c .if3 .taken) ∙ sym (placed (c .before .before .before .before))
+returns-3 c = let t = c .before .take2 in refused _ _ _ _ (t .result) (t .ensures .0) (t .ensures .1) (c .if3 .taken) ∙ sym (placed (place (c .before)))
 
 pub claim-files-spec : {M : Type 1} → statement M
 claim-files-spec =
@@ -212,8 +202,7 @@ claim-files-spec =
     μ-files
     sector-of-requires
     files-holds
-    add-files
-    word-requires
+    number-at-requires
     take-requires
     sector-of-requires-2
     part-requires
@@ -230,5 +219,4 @@ claim-files-spec =
     files-again
     returns
     returns-2
-    returns-3
-    returns-4)
+    returns-3)

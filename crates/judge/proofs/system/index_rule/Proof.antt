@@ -1,11 +1,15 @@
 -- `judge::system::index_rule` meets its contract. The loop's invariant: what is left from byte `at` on keeps the rule exactly where the sector does.
 -- The measure is what is left of the length. Assumes nothing.
 use mathlib.Core.Path.{_≡_, sym, _∙_}
-use Prim.Native.Nat.{_≤_, _-_}
-use lib.ListN.{length}
+use mathlib.Core.Bool.{_&&_}
+use Prim.Native.Nat.{_≤_, _-_, _+_, _*_}
+use native.Mathlib.Omega.{arith}
+use lib.Dec.{leb, ltb}
+use lib.ListN.{length, drop}
 use borrow.Author.Tests.{le-leb, lt-leb, lt-ltb, le-ltb}
-use Rattle.rules.specs.Index.{indexRule}
-use Rattle.judge.proofs.IndexSteps.{indexRest, index-start, index-step, index-zero, index-past}
+use Rattle.rules.specs.Index.{numbers, rangeRule, indexRule}
+use Rattle.judge.specs.Rest.{indexEnd}
+use Rattle.judge.proofs.IndexSteps.{indexRest, index-start, index-step, index-past}
 use borrow.Author.Needs.{needs}
 use Rattle.judge.proofs.system.index_rule.Statement.{statement}
 use Rattle.judge.proofs.system.index_rule.Tie as tie
@@ -19,53 +23,45 @@ abbrev μ-loop : tie.MeasureT-loop
 loop-holds : tie.Need-loop-holds Inv-loop μ-loop
 loop-holds c = (search needs, index-start _ _)
 
-add-loop : tie.Need-add-loop Inv-loop μ-loop
-add-loop c = search needs
-
-word-requires : tie.Need-word-requires Inv-loop μ-loop
-word-requires c κs = search needs
+number-at-requires : tie.Need-number-at-requires Inv-loop μ-loop
+number-at-requires c κs = search needs
 
 index-end-requires : tie.Need-index-end-requires Inv-loop μ-loop
 index-end-requires c κs = search needs
 
 returns : tie.Need-returns Inv-loop μ-loop
 returns c =
-    let zero = c .before in
-    let l = zero .before .before in
-    c .index-end .ensures ∙ sym (sym (l .before .loop .inv .1) ∙ index-zero _ _ _ _ (l .loop-test .taken) (zero .before .word .ensures .0) (zero .if1 .taken))
+    let z = c .before in
+    c .index-end .ensures ∙ sym (sym (z .before .before .loop .inv .1) ∙ index-past _ _ _ (z .before .number-at .ensures .none (z .if1 .taken)))
+
+-- the whole rule, with the number that stands here taken off
+stepped : (c : tie.Else1 Inv-loop μ-loop) →
+    let l = c .before .before in
+    let a = l .before .before .args in
+    let k = c .before .number-at .result in
+    let more = numbers (drop (l .loop .at + 2) (a .sector1 .now)) in
+    indexRule (a .n) (a .sector1 .now) ≡ ((leb 2 k && (ltb k (a .n) && rangeRule (a .n) more)) && indexEnd (a .sector1 .now) (l .loop .at + 2 + 2 * length more))
+stepped c = sym (c .before .before .loop .inv .1) ∙ index-step _ _ _ _ (c .before .number-at .ensures .some (c .if1 .left))
 
 returns-2 : tie.Need-returns-2 Inv-loop μ-loop
-returns-2 c =
-    let some = c .before in
-    let l = some .before .before in
-    sym (sym (l .before .loop .inv .1) ∙ index-step _ _ _ _ (l .loop-test .taken) (some .before .word .ensures .0) (some .if1 .left) ∙ rw (lt-leb _ _ (c .if2 .taken)))
+returns-2 c = sym (stepped (c .before) ∙ rw (lt-leb _ _ (c .if2 .taken)))
 
 returns-3 : tie.Need-returns-3 Inv-loop μ-loop
-returns-3 c =
-    let low = c .before in
-    let some = low .before in
-    let l = some .before .before in
-    sym (sym (l .before .loop .inv .1) ∙ index-step _ _ _ _ (l .loop-test .taken) (some .before .word .ensures .0) (some .if1 .left) ∙ rw (le-leb _ _ (low .if2 .left), le-ltb _ _ (c .if3 .taken)))
+returns-3 c = let low = c .before in sym (stepped (low .before) ∙ rw (le-leb _ _ (low .if2 .left), le-ltb _ _ (c .if3 .taken)))
+
+-- two bytes are there
+inside : (c : tie.Else1 Inv-loop μ-loop) → let l = c .before .before in l .loop .at + 2 ≤ length (l .before .before .args .sector1 .now)
+inside c = c .before .number-at .ensures .inside (c .if1 .left)
 
 add-at : tie.Need-add-at Inv-loop μ-loop
-add-at c = search needs
+add-at c = omega (arith, inside (c .before .before))
 
 loop-less : tie.Need-loop-less Inv-loop μ-loop
-loop-less c = search needs
+loop-less c = omega (arith, inside (c .before .before))
 
 loop-again : tie.Need-loop-again Inv-loop μ-loop
 unfolding indexRest
-loop-again c =
-    let low = c .before in
-    let some = low .before in
-    let l = some .before .before in
-    (search needs, sym (sym (l .before .loop .inv .1) ∙ index-step _ _ _ _ (l .loop-test .taken) (some .before .word .ensures .0) (some .if1 .left) ∙ rw (le-leb _ _ (low .if2 .left), lt-ltb _ _ (c .if3 .left))))
-
-index-end-requires-2 : tie.Need-index-end-requires-2 Inv-loop μ-loop
-index-end-requires-2 c κs = search needs
-
-returns-4 : tie.Need-returns-4 Inv-loop μ-loop
-returns-4 c = c .index-end2 .ensures ∙ sym (sym (c .before .before .loop .inv .1) ∙ index-past _ _ _ (c .before .loop-test .left))
+loop-again c = let low = c .before in (inside (low .before), sym (stepped (low .before) ∙ rw (le-leb _ _ (low .if2 .left), lt-ltb _ _ (c .if3 .left))))
 
 pub index-rule-spec : {M : Type 1} → statement M
 index-rule-spec =
@@ -74,14 +70,11 @@ index-rule-spec =
     Inv-loop
     μ-loop
     loop-holds
-    add-loop
-    word-requires
+    number-at-requires
     index-end-requires
     returns
     returns-2
     returns-3
     add-at
     loop-less
-    loop-again
-    index-end-requires-2
-    returns-4)
+    loop-again)

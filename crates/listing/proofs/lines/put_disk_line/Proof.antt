@@ -1,49 +1,65 @@
--- `listing::lines::put_disk_line` meets its contract: three fields, each with what ends it. Assumes nothing.
+-- `listing::lines::put_disk_line` meets its contract: three fields laid one behind the other, each with what ends it. Assumes nothing.
+use mathlib.Core.Path.{_≡_}
+use mathlib.Core.List.{List, [], _∷_, _++_, append-assoc}
+use Prim.Native.Nat.{ℕ, _≤_}
 use native.Mathlib.Omega.{arith}
-use mathlib.Core.List.{append-assoc}
 use lib.ListN.{length-take}
-use Rattle.rules.specs.Calls.Listing.{diskLine}
+use Rattle.rules.specs.Bytes.{part}
+use Rattle.rules.specs.Sectors.{sectorOf, sectorCount}
+use Rattle.rules.specs.Map.{freeCount}
+use Rattle.rules.specs.Calls.Listing.{unpadded, decimal, diskLine}
 use Rattle.listing.proofs.LaidLaws.{laid-as, laid-then}
 use borrow.Author.Needs.{needs}
 use Rattle.listing.proofs.lines.put_disk_line.Statement.{statement}
 use Rattle.listing.proofs.lines.put_disk_line.Tie as tie
 
-sector-of-requires : tie.Need-sector-of-requires
-sector-of-requires c κs = search needs
+-- the three fields
+line-is : (image sector0 name : List ℕ) (free : ℕ) → sector0 ≡ sectorOf image 0 → name ≡ part sector0 0 10 → free ≡ freeCount sector0
+    → (unpadded name ++ (32 ∷ [])) ++ ((decimal (sectorCount image) ++ (32 ∷ [])) ++ (decimal free ++ (10 ∷ []))) ≡ diskLine image
+unfolding diskLine
+line-is image sector0 name free s n f = rw (n, f, s) (simp append-assoc)
 
-part-requires : tie.Need-part-requires
-part-requires c κs = search needs
+-- the first two fields, each found from the one behind it, and how far they come
+abbrev named : tie.After-put-number → tie.After-put-name
+named c = c .before .before .before .before
+
+abbrev counted : tie.After-put-number2 → tie.After-put-number
+counted c = c .before .before .before .before .before
+
+near-name : (c : tie.After-put-name) → c .put-name .result ≤ 11
+near-name c = omega (arith, c .put-name .ensures .ends, c .put-name .ensures .short)
+
+near-number : (c : tie.After-put-number) → c .put-number .result ≤ 32
+near-number c = omega (arith, near-name (named c), c .put-number .ensures .ends, c .put-number .ensures .short)
 
 put-name-requires : tie.Need-put-name-requires
 put-name-requires c κs = (search needs, rw (c .part .ensures, length-take) (omega arith))
 
 put-number-requires : tie.Need-put-number-requires
-put-number-requires c κs = omega (arith, c .before .before .before .put-name .ensures .ends, c .before .before .before .put-name .ensures .short)
-
-free-count-of-requires : tie.Need-free-count-of-requires
-free-count-of-requires c κs = search needs
+put-number-requires c κs = omega (arith, near-name (c .before .before .before))
 
 put-number-requires-2 : tie.Need-put-number-requires-2
-put-number-requires-2 c κs = omega (arith, c .before .before .before .before .before .before .before .before .put-name .ensures .ends, c .before .before .before .before .before .before .before .before .put-name .ensures .short, c .before .before .before .before .put-number .ensures .ends, c .before .before .before .before .put-number .ensures .short)
-
-same-length : tie.Need-same-length
-same-length c = search needs
+put-number-requires-2 c κs = omega (arith, near-number (c .before .before .before .before))
 
 returns : tie.Need-returns
-unfolding diskLine
 returns c =
-    let line = laid-then (c .before .before .before .before .before .before .before .before .before .before .before .put-name .ensures) (laid-then (c .before .before .before .before .before .before .before .put-number .ensures) (c .before .before .put-number2 .ensures)) in
-    laid-as (rw (c .before .before .before .before .before .before .before .before .before .before .before .before .part .ensures, c .before .before .before .free-count-of .ensures .0, c .before .before .before .before .before .before .before .before .before .before .before .before .before .before .sector-of .ensures) (simp append-assoc)) (line .short) line
+    let third = c .before .before in
+    let second = counted third in
+    let first = named second in
+    let p = first .before in
+    let sector0 = p .before .before .sector-of .ensures in
+    let line = laid-then (first .put-name .ensures) (laid-then (second .put-number .ensures) (third .put-number2 .ensures)) in
+    laid-as (line-is _ _ _ _ sector0 (p .part .ensures) (third .before .free-count-of .ensures .0)) (line .short) line
 
 pub put-disk-line-spec : {M : Type 1} → statement M
 put-disk-line-spec =
     tie.close
     (tie.spec
-    sector-of-requires
-    part-requires
+    (λ c κs. search needs)
+    (λ c κs. search needs)
     put-name-requires
     put-number-requires
-    free-count-of-requires
+    (λ c κs. search needs)
     put-number-requires-2
-    same-length
+    (λ c. search needs)
     returns)

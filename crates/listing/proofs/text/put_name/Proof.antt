@@ -1,45 +1,41 @@
--- `listing::text::put_name` meets its contract. Assumes nothing.
-use mathlib.Core.Path.{ap}
+-- `listing::text::put_name` meets its contract: two pieces laid one behind the other, of which the first has at most ten bytes. Assumes nothing.
+use Prim.Native.Nat.{_≤_}
 use native.Mathlib.Omega.{arith}
 use lib.ListN.{length}
-use Rattle.rules.specs.Calls.Listing.{unpadded}
 use Rattle.rules.proofs.Listing.{unpadded-short}
 use Rattle.listing.proofs.LaidLaws.{laid-as, laid-then}
 use borrow.Author.Needs.{needs}
 use Rattle.listing.proofs.text.put_name.Statement.{statement}
 use Rattle.listing.proofs.text.put_name.Tie as tie
 
-unpadded-requires : tie.Need-unpadded-requires
-unpadded-requires c κs = search needs
+-- the call's start, and that what stands in front of the padding has at most ten bytes
+abbrev start : tie.After-unpadded → tie.Start
+start c = c .before .before .before .before
+
+few : (c : tie.After-unpadded) → length (c .unpadded .result .now) ≤ 10
+few c = rw (c .unpadded .ensures) (omega (arith, unpadded-short (start c .args .name .now), start c .pre .1))
 
 put-requires : tie.Need-put-requires
-put-requires c κs = (search needs, rw (c .unpadded .ensures) (omega (arith, unpadded-short (c .before .before .before .before .args .name .now), c .before .before .before .before .pre .1)))
-
-slice-aggregate-put : tie.Need-slice-aggregate-put
-slice-aggregate-put c = search needs
+put-requires c κs = (search needs, omega (arith, few c))
 
 put-requires-2 : tie.Need-put-requires-2
 put-requires-2 c κs =
-    let few = unpadded-short (c .before .before .before .before .before .before .before .before .before .args .name .now) in
-    let long = ap length (c .before .before .before .before .before .unpadded .ensures) in
-    (omega (arith, few, long, c .before .before .before .before .before .before .before .before .before .pre .0, c .before .before .before .before .before .before .before .before .before .pre .1, c .before .before .before .before .put .ensures .ends), search needs)
-
-same-length : tie.Need-same-length
-same-length c = search needs
+    let p = c .before .before .before .before in
+    (omega (arith, few (p .before), start (p .before) .pre .0, p .put .ensures .ends), search needs)
 
 returns : tie.Need-returns
 returns c =
-    let few = unpadded-short (c .before .before .before .before .before .before .before .before .before .before .before .before .args .name .now) in
-    let first = laid-as {k = 10} (c .before .before .before .before .before .before .before .before .unpadded .ensures) (rw (c .before .before .before .before .before .before .before .before .unpadded .ensures) (omega (arith, few, c .before .before .before .before .before .before .before .before .before .before .before .before .pre .1))) (c .before .before .before .before .before .before .before .put .ensures) in
-    laid-then first (c .before .before .put2 .ensures)
+    let second = c .before .before in
+    let first = second .before .before .before .before .before in
+    laid-then (laid-as {k = 10} (first .before .unpadded .ensures) (few (first .before)) (first .put .ensures)) (second .put2 .ensures)
 
 pub put-name-spec : {M : Type 1} → statement M
 put-name-spec =
     tie.close
     (tie.spec
-    unpadded-requires
+    (λ c κs. search needs)
     put-requires
-    slice-aggregate-put
+    (λ c. search needs)
     put-requires-2
-    same-length
+    (λ c. search needs)
     returns)

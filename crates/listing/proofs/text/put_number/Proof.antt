@@ -20,26 +20,14 @@ Inv-loop text at number mark figures₀ left₀ first₀ figures left first = (l
 abbrev μ-loop : tie.MeasureT-loop
 μ-loop text at number mark figures₀ left₀ first₀ figures left first = left
 
-array-write-figures : tie.Need-array-write-figures Inv-loop μ-loop
-array-write-figures c = search needs
-
 loop-holds : tie.Need-loop-holds Inv-loop μ-loop
 unfolding decimal
 loop-holds c = (refl, omega arith, omega (arith, c .before .fits .number), refl)
-
-digit-requires : tie.Need-digit-requires Inv-loop μ-loop
-digit-requires c κs = search needs
-
-array-write-figures-2 : tie.Need-array-write-figures-2 Inv-loop μ-loop
-array-write-figures-2 c = search needs
 
 sub-first : tie.Need-sub-first Inv-loop μ-loop
 sub-first c =
     let l = c .before .before .loop in
     second-digit (l .first) (l .left) (c .before .loop-test .taken) (l .inv .2)
-
-loop-less : tie.Need-loop-less Inv-loop μ-loop
-loop-less c = search needs
 
 loop-again : tie.Need-loop-again Inv-loop μ-loop
 loop-again c =
@@ -55,32 +43,22 @@ loop-again c =
           ∙ l .inv .3,
     )
 
-digit-requires-2 : tie.Need-digit-requires-2 Inv-loop μ-loop
-digit-requires-2 c κs = search needs
-
-array-write-figures-3 : tie.Need-array-write-figures-3 Inv-loop μ-loop
-array-write-figures-3 c = search needs
-
 slice-aggregate-part : tie.Need-slice-aggregate-part Inv-loop μ-loop
 slice-aggregate-part c = simp length-set (sym (c .before .before .before .before .loop .inv .0))
-
-part-requires : tie.Need-part-requires Inv-loop μ-loop
-part-requires c κs = search needs
 
 put-requires : tie.Need-put-requires Inv-loop μ-loop
 put-requires c κs = (search needs, rw (c .part .ensures) (rw length-take (omega arith)))
 
-same-length : tie.Need-same-length Inv-loop μ-loop
-same-length c = search needs
-
 returns : tie.Need-returns Inv-loop μ-loop
 returns c =
-    let l = c .before .before .before .before .before .before .before .before .loop in
-    let figures = set (l .figures) (l .first) (c .before .before .before .before .before .before .digit2 .result) in
+    let p = c .before .before in
+    let d = p .before .before .before .before in
+    let l = d .before .before .loop in
+    let figures = set (l .figures) (l .first) (d .digit2 .result) in
     let few : length (drop (l .first) figures) ≤ 21 = simp (length-drop, length-set) (omega (arith, l .inv .0)) in
-    let all = c .before .before .before .part .ensures ∙ take-all 21 (drop (l .first) figures) few in
-    let last = digit-last (l .figures) (l .first) (l .left) (c .before .before .before .before .before .before .digit2 .result) (omega (arith, l .inv .0, l .inv .1)) (c .before .before .before .before .before .before .before .loop-test .left) (c .before .before .before .before .before .before .digit2 .ensures) in
-    laid-as (all ∙ last ∙ l .inv .3) (rw all few) (c .before .before .put .ensures)
+    let all = p .before .part .ensures ∙ take-all 21 (drop (l .first) figures) few in
+    let last = digit-last (l .figures) (l .first) (l .left) (d .digit2 .result) (omega (arith, l .inv .0, l .inv .1)) (d .before .loop-test .left) (d .digit2 .ensures) in
+    laid-as (all ∙ last ∙ l .inv .3) (rw all few) (p .put .ensures)
 
 pub put-number-spec : {M : Type 1} → statement M
 put-number-spec =
@@ -88,17 +66,17 @@ put-number-spec =
     (tie.spec
     Inv-loop
     μ-loop
-    array-write-figures
+    (λ c. search needs)
     loop-holds
-    digit-requires
-    array-write-figures-2
+    (λ c κs. search needs)
+    (λ c. search needs)
     sub-first
-    loop-less
+    (λ c. search needs)
     loop-again
-    digit-requires-2
-    array-write-figures-3
+    (λ c κs. search needs)
+    (λ c. search needs)
     slice-aggregate-part
-    part-requires
+    (λ c κs. search needs)
     put-requires
-    same-length
+    (λ c. search needs)
     returns)

@@ -1,4 +1,4 @@
--- `map::bits::clear_file` meets its contract. The loop's invariant: clearing what is ahead of the cursor gives what clearing all the places gives.
+-- `map::bits::clear_file` meets its contract: the descriptor's bit, then those of the chain. The loop's invariant: clearing what is ahead of the cursor gives what clearing all the places gives.
 -- The measure is the number of places ahead. Assumes nothing.
 use mathlib.Core.Path.{_≡_, refl, sym, ap, subst, _∙_}
 use mathlib.Core.List.{List, []}
@@ -9,7 +9,6 @@ use Rattle.rules.specs.Map.{markedAll}
 use Rattle.rules.specs.Chain.{places}
 use Rattle.rules.proofs.Marking.{marked-length}
 use Rattle.descriptor.specs.Cursor.{ahead, Steady, Stepped}
-use Rattle.descriptor.specs.declared.chain.Step.{Step}
 use Rattle.descriptor.specs.declared.chain.Step.the-variants.{Place}
 use Rattle.descriptor.proofs.Ahead.{at-first}
 use borrow.Author.Needs.{needs}
@@ -22,22 +21,40 @@ Inv-loop sector0₀ k chain cursor₀ sector0 cursor = (length sector0 ≡ lengt
 abbrev μ-loop : tie.MeasureT-loop
 μ-loop sector0₀ k chain cursor₀ sector0 cursor = length (ahead chain cursor)
 
--- at the end of the chain, and at a place of it
-ended : (c : tie.After-enum-told Inv-loop μ-loop) → ahead (c .before .before .before .before .before .before .before .before .before .before .before .args .chain .now) (c .before .before .before .loop .cursor) ≡ []
+-- the ways back: the first bit made, the chain; the test at a place of it, and at its end
+abbrev made : tie.After-first Inv-loop μ-loop → tie.After-mark-as Inv-loop μ-loop
+made c = c .before .before .before
+
+abbrev start : tie.After-mark-as Inv-loop μ-loop → tie.Start Inv-loop μ-loop
+start c = c .before .before .before .before
+
+abbrev chain : tie.At-loop Inv-loop μ-loop → List ℕ
+chain c = start (made (c .before)) .args .chain .now
+
+abbrev at-place : tie.After-place Inv-loop μ-loop → tie.At-loop Inv-loop μ-loop
+at-place c = c .before .before .before
+
+abbrev at-end : tie.After-enum-told Inv-loop μ-loop → tie.At-loop Inv-loop μ-loop
+at-end c = c .before .before .before
+
+abbrev place : tie.After-slice-known3 Inv-loop μ-loop → tie.After-place Inv-loop μ-loop
+place c = c .before .before .before .before .before
+
+ended : (c : tie.After-enum-told Inv-loop μ-loop) → ahead (chain (at-end c)) (at-end c .loop .cursor) ≡ []
 unfolding Stepped
-ended c = subst (λ (s : Step). Stepped (c .before .before .before .before .before .before .before .before .before .before .before .args .chain .now) (c .before .before .before .loop .cursor) s) (c .enum-told .given .1) (c .before .before .step .ensures)
+ended c = subst (Stepped (chain (at-end c)) (at-end c .loop .cursor)) (c .enum-told .given .1) (c .before .before .step .ensures)
 
-stepped : (c : tie.After-place Inv-loop μ-loop) → Stepped (c .before .before .before .before .before .before .before .before .before .before .before .args .chain .now) (c .before .before .before .loop .cursor) (Place (c .place .given .0 .0) (c .place .given .0 .1 .0))
-stepped c = subst (λ (s : Step). Stepped (c .before .before .before .before .before .before .before .before .before .before .before .args .chain .now) (c .before .before .before .loop .cursor) s) (c .place .given .1) (c .before .before .step .ensures)
+stepped : (c : tie.After-place Inv-loop μ-loop) → Stepped (chain (at-place c)) (at-place c .loop .cursor) (Place (c .place .given .0 .0) (c .place .given .0 .1 .0))
+stepped c = subst (Stepped (chain (at-place c)) (at-place c .loop .cursor)) (c .place .given .1) (c .before .before .step .ensures)
 
-clear-requires : tie.Need-clear-requires Inv-loop μ-loop
-clear-requires c κs = search needs
+mark-as-requires : tie.Need-mark-as-requires Inv-loop μ-loop
+mark-as-requires c κs = search needs
 
 first-requires : tie.Need-first-requires Inv-loop μ-loop
 first-requires c κs = search needs
 
 loop-holds : tie.Need-loop-holds Inv-loop μ-loop
-loop-holds c = (refl, rw (c .first .ensures) (record { inside = omega arith; small = omega arith }), rw (c .first .ensures, at-first (c .before .before .before .before .before .before .before .args .chain .now)))
+loop-holds c = (refl, rw (c .first .ensures) (record { inside = omega arith; small = omega arith }), rw (c .first .ensures, at-first (start (made c) .args .chain .now)))
 
 step-requires : tie.Need-step-requires Inv-loop μ-loop
 step-requires c κs = c .loop .inv .1
@@ -45,34 +62,37 @@ step-requires c κs = c .loop .inv .1
 enum-known-place : tie.Need-enum-known-place Inv-loop μ-loop
 enum-known-place c = search needs
 
-clear-requires-2 : tie.Need-clear-requires-2 Inv-loop μ-loop
-clear-requires-2 c κs = search needs
+mark-as-requires-2 : tie.Need-mark-as-requires-2 Inv-loop μ-loop
+mark-as-requires-2 c κs = search needs
 
 loop-less : tie.Need-loop-less Inv-loop μ-loop
 unfolding Stepped
-loop-less c = omega (arith, ap length (stepped (c .before .before .before .before .before) .0))
+loop-less c = omega (arith, ap length (stepped (place c) .0))
 
 loop-again : tie.Need-loop-again Inv-loop μ-loop
 unfolding Stepped markedAll
 loop-again c =
-    let l = c .before .before .before .before .before .before .before .before .loop in
-    let e = stepped (c .before .before .before .before .before) in (
-      ap length (c .before .before .clear2 .ensures) ∙ marked-length 0 (l .sector0) _ ∙ l .inv .0,
+    let l = at-place (place c) .loop in
+    let e = stepped (place c) in
+    let bit = c .before .before .mark-as2 .ensures in (
+      ap length bit ∙ marked-length 0 (l .sector0) _ ∙ l .inv .0,
       e .1,
-      rw (c .before .before .clear2 .ensures) (sym (ap (markedAll 0 (l .sector0)) (e .0)) ∙ l .inv .2),
+      rw bit (sym (ap (markedAll 0 (l .sector0)) (e .0)) ∙ l .inv .2),
     )
 
 enum-told : tie.Need-enum-told Inv-loop μ-loop
 enum-told c = search needs
 
 same-length : tie.Need-same-length Inv-loop μ-loop
-same-length c = c .before .before .before .loop .inv .0 ∙ ap length (c .before .before .before .before .before .before .before .clear .ensures) ∙ marked-length 0 (c .before .before .before .before .before .before .before .before .before .before .before .args .sector0 .now) _
+same-length c =
+    let m = made (at-end c .before) in
+    at-end c .loop .inv .0 ∙ ap length (m .mark-as .ensures) ∙ marked-length 0 (start m .args .sector0 .now) _
 
 returns : tie.Need-returns Inv-loop μ-loop
 unfolding markedAll
 returns c =
-    let l = c .before .before .before .loop in
-    sym (ap (markedAll 0 (l .sector0)) (ended c)) ∙ l .inv .2 ∙ ap (λ (s : List ℕ). markedAll 0 s (places (c .before .before .before .before .before .before .before .before .before .before .before .args .chain .now))) (c .before .before .before .before .before .before .before .clear .ensures)
+    let l = at-end c in
+    sym (ap (markedAll 0 (l .loop .sector0)) (ended c)) ∙ l .loop .inv .2 ∙ ap (λ (s : List ℕ). markedAll 0 s (places (chain l))) (made (l .before) .mark-as .ensures)
 
 pub clear-file-spec : {M : Type 1} → statement M
 clear-file-spec =
@@ -80,12 +100,12 @@ clear-file-spec =
     (tie.spec
     Inv-loop
     μ-loop
-    clear-requires
+    mark-as-requires
     first-requires
     loop-holds
     step-requires
     enum-known-place
-    clear-requires-2
+    mark-as-requires-2
     loop-less
     loop-again
     enum-told

@@ -18,19 +18,23 @@ Inv-loop source sector1 files₀ used₀ at₀ files used at = Counted source se
 abbrev μ-loop : tie.MeasureT-loop
 μ-loop source sector1 files₀ used₀ at₀ files used at = length sector1 - at
 
+-- the start of the call, and a turn of the loop
+abbrev start : tie.At-loop Inv-loop μ-loop → tie.Start Inv-loop μ-loop
+start c = c .before .before .before
+
+abbrev turn : tie.After-word Inv-loop μ-loop → tie.At-loop Inv-loop μ-loop
+turn c = c .before .before
+
+-- a file more
 stepped : (c : tie.After-word2 Inv-loop μ-loop) →
-    let l = c .before .before .before .before .before in
-    let s = l .before in
-    Counted (s .before .before .args .source .now) (s .sector-of .result .now) (l .loop .at + 2) (l .loop .files + 1) (l .loop .used + (1 + c .word2 .result))
+    let l = turn (c .before .before .before) in
+    Counted (start l .args .source .now) (l .before .sector-of .result .now) (l .loop .at + 2) (l .loop .files + 1) (l .loop .used + (1 + c .word2 .result))
 stepped c =
     let d = c .before in
     let e = d .before in
     let w = e .before in
-    let read = rest-read (w .before .before .loop .inv .rest) (w .before .loop-test .taken) (w .word .ensures .0) (e .if1 .left) in
-    counted-step (w .before .before .loop .inv) read (c .word2 .ensures .0 ∙ ap (λ (s : List ℕ). wordAt s 14) (d .sector-of2 .ensures))
-
-sector-of-requires : tie.Need-sector-of-requires Inv-loop μ-loop
-sector-of-requires c κs = search needs
+    let is = turn w .loop .inv in
+    counted-step is (rest-read (is .rest) (w .before .loop-test .taken) (w .word .ensures .0) (e .if1 .left)) (c .word2 .ensures .0 ∙ ap (λ (s : List ℕ). wordAt s 14) (d .sector-of2 .ensures))
 
 loop-holds : tie.Need-loop-holds Inv-loop μ-loop
 loop-holds c = counted-start _ _ (c .before .before .pre) (c .sector-of .ensures)
@@ -38,32 +42,20 @@ loop-holds c = counted-start _ _ (c .before .before .pre) (c .sector-of .ensures
 add-loop : tie.Need-add-loop Inv-loop μ-loop
 add-loop c = omega (arith, c .loop .inv .rest .inside, c .loop .inv .rest .short)
 
-word-requires : tie.Need-word-requires Inv-loop μ-loop
-word-requires c κs = search needs
-
 returns : tie.Need-returns Inv-loop μ-loop
-returns c = counted-end (c .before .before .before .loop .inv) (numbers-end _ _ (c .before .before .loop-test .taken) (sym (c .before .word .ensures .0) ∙ c .if1 .taken))
+returns c =
+    let w = c .before in
+    counted-end (turn w .loop .inv) (numbers-end _ _ (w .before .loop-test .taken) (sym (w .word .ensures .0) ∙ c .if1 .taken))
 
 add-files : tie.Need-add-files Inv-loop μ-loop
-add-files c = omega (arith, c .before .before .before .loop .inv .few, c .before .before .before .loop .inv .rest .inside, c .before .before .before .loop .inv .rest .short)
-
-sector-of-requires-2 : tie.Need-sector-of-requires-2 Inv-loop μ-loop
-sector-of-requires-2 c κs = search needs
-
-word-requires-2 : tie.Need-word-requires-2 Inv-loop μ-loop
-word-requires-2 c κs = search needs
-
-add-used : tie.Need-add-used Inv-loop μ-loop
-add-used c = search needs
+add-files c =
+    let is = turn (c .before) .loop .inv in
+    omega (arith, is .few, is .rest .inside, is .rest .short)
 
 add-used-2 : tie.Need-add-used-2 Inv-loop μ-loop
-add-used-2 c = omega (arith, stepped c .used-is, used-inside _ (c .before .before .before .before .before .before .before .before .pre), c .before .before .before .before .before .before .before .before .pre .size)
-
-add-at : tie.Need-add-at Inv-loop μ-loop
-add-at c = search needs
-
-loop-less : tie.Need-loop-less Inv-loop μ-loop
-loop-less c = search needs
+add-used-2 c =
+    let is = start (turn (c .before .before .before)) .pre in
+    omega (arith, stepped c .used-is, used-inside _ is, is .size)
 
 loop-again : tie.Need-loop-again Inv-loop μ-loop
 loop-again c = stepped c
@@ -77,17 +69,17 @@ extent-of-spec =
     (tie.spec
     Inv-loop
     μ-loop
-    sector-of-requires
+    (λ c κs. search needs)
     loop-holds
     add-loop
-    word-requires
+    (λ c κs. search needs)
     returns
     add-files
-    sector-of-requires-2
-    word-requires-2
-    add-used
+    (λ c κs. search needs)
+    (λ c κs. search needs)
+    (λ c. search needs)
     add-used-2
-    add-at
-    loop-less
+    (λ c. search needs)
+    (λ c. search needs)
     loop-again
     returns-2)

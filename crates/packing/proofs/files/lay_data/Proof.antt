@@ -1,10 +1,13 @@
 -- `packing::files::lay_data` meets its contract. The loop's invariant: the data of the files from byte `at` of sector 1 on, laid from `to` on, gives what all data gives (`Joined`). The measure is what is left of sector 1. Assumes nothing.
-use mathlib.Core.Path.{sym, ap, _∙_}
-use mathlib.Core.List.{List}
+use mathlib.Core.Path.{_≡_, sym, ap, _∙_}
+use mathlib.Core.List.{List, map}
 use Prim.Native.Nat.{ℕ, _+_, _*_, _-_}
 use native.Mathlib.Omega.{arith}
 use lib.ListN.{length}
 use Rattle.rules.specs.Bytes.{splice}
+use Rattle.rules.specs.Sectors.{sectorOf}
+use Rattle.rules.specs.Chain.{places}
+use Rattle.rules.specs.Volume.{fileIn}
 use Rattle.rules.specs.Calls.Load.{joined}
 use Rattle.rules.proofs.Index.{numbers-end, numbers-short}
 use Rattle.rules.proofs.Packing.{used-inside}
@@ -20,17 +23,28 @@ Inv-loop source target₀ many sector1 to₀ at₀ target to at = Joined source 
 abbrev μ-loop : tie.MeasureT-loop
 μ-loop source target₀ many sector1 to₀ at₀ target to at = length sector1 - at
 
--- the number that was read
+-- the start of the call, and a turn of the loop
+abbrev start : tie.At-loop Inv-loop μ-loop → tie.Start Inv-loop μ-loop
+start c = c .before .before .before .before
+
+abbrev turn : tie.After-word Inv-loop μ-loop → tie.At-loop Inv-loop μ-loop
+turn c = c .before .before
+
+-- the number that was read, and the contents of its file
 read : (c : tie.Else1 Inv-loop μ-loop) →
-    let w = c .before in
-    let s = w .before .before .before in
-    Read (s .before .before .before .args .source .now) (s .sector-of .result .now) (w .before .before .loop .at) (w .word .result)
+    let l = turn (c .before) in
+    Read (start l .args .source .now) (l .before .sector-of .result .now) (l .loop .at) (c .before .word .result)
 read c =
     let w = c .before in
-    rest-read (w .before .before .loop .inv .rest) (w .before .loop-test .taken) (w .word .ensures .0) (c .if1 .left)
+    rest-read (turn w .loop .inv .rest) (w .before .loop-test .taken) (w .word .ensures .0) (c .if1 .left)
 
-sector-of-requires : tie.Need-sector-of-requires Inv-loop μ-loop
-sector-of-requires c κs = search needs
+contents : (c : tie.After-part Inv-loop μ-loop) →
+    let w = c .before .before .before in
+    let source = start (turn w) .args .source .now in
+    joined (map (sectorOf source) (places (c .part .result .now))) ≡ joined (fileIn source (w .word .result) .contents)
+contents c =
+    let d = c .before in
+    ap joined (contents-read (start (turn (d .before .before)) .args .source .now) _ _ (d .sector-of2 .ensures) _ (c .part .ensures))
 
 mul-to : tie.Need-mul-to Inv-loop μ-loop
 mul-to c = omega (arith, c .before .before .before .pre .1, files-few _ (c .before .before .before .pre .0))
@@ -44,50 +58,33 @@ loop-holds c = joined-start _ _ _ _ (c .before .before .before .pre .0) (c .sect
 add-loop : tie.Need-add-loop Inv-loop μ-loop
 add-loop c = omega (arith, c .loop .inv .rest .inside, c .loop .inv .rest .short)
 
-word-requires : tie.Need-word-requires Inv-loop μ-loop
-word-requires c κs = search needs
-
 same-length : tie.Need-same-length Inv-loop μ-loop
-same-length c = c .before .before .before .loop .inv .kept
+same-length c = turn (c .before) .loop .inv .pieces .kept
 
 returns : tie.Need-returns Inv-loop μ-loop
-returns c = joined-end (c .before .before .before .loop .inv) (numbers-end _ _ (c .before .before .loop-test .taken) (sym (c .before .word .ensures .0) ∙ c .if1 .taken))
-
-sector-of-requires-2 : tie.Need-sector-of-requires-2 Inv-loop μ-loop
-sector-of-requires-2 c κs = search needs
-
-part-requires : tie.Need-part-requires Inv-loop μ-loop
-part-requires c κs = search needs
+returns c =
+    let w = c .before in
+    joined-end (turn w .loop .inv) (numbers-end _ _ (w .before .loop-test .taken) (sym (w .word .ensures .0) ∙ c .if1 .taken))
 
 lay-sectors-requires : tie.Need-lay-sectors-requires Inv-loop μ-loop
 lay-sectors-requires c κs =
-    let d = c .before .before in
-    let e = d .before in
-    let l = e .before .before .before in
-    let start = l .before .before .before .before in
-    let contents = contents-read (start .args .source .now) _ _ (d .sector-of2 .ensures) _ (c .before .part .ensures) in
-    let here = ap (λ (sectors : List (List ℕ)). length (joined sectors)) contents in
-    let is = start .pre .0 in
-    omega (arith, joined-ahead (l .loop .inv) (read e), here, start .pre .1, data-ends _ is, used-inside _ is, is .size)
-
-add-at : tie.Need-add-at Inv-loop μ-loop
-add-at c = search needs
-
-loop-less : tie.Need-loop-less Inv-loop μ-loop
-loop-less c = search needs
+    let p = c .before in
+    let e = p .before .before in
+    let l = turn (e .before) in
+    let is = start l .pre .0 in
+    omega (arith, joined-ahead (read e) (l .loop .inv), ap length (contents p), start l .pre .1, data-ends _ is, used-inside _ is, is .size)
 
 loop-again : tie.Need-loop-again Inv-loop μ-loop
 loop-again c =
     let y = c .before .before in
-    let d = y .before .before .before in
-    let e = d .before in
-    let l = e .before .before .before in
-    let contents = ap joined (contents-read (l .before .before .before .before .args .source .now) _ _ (d .sector-of2 .ensures) _ (y .before .before .part .ensures)) in
+    let p = y .before .before in
+    let e = p .before .before in
+    let l = turn (e .before) .loop in
     let laid = y .lay-sectors .ensures in
-    joined-step (l .loop .inv) (read e) (laid .0 ∙ ap (λ (bytes : List ℕ). l .loop .to + length bytes) contents) (laid .1 ∙ ap (splice (l .loop .target) (l .loop .to)) contents)
+    joined-step (read e) (l .inv) (laid .0 ∙ ap (λ (bytes : List ℕ). l .to + length bytes) (contents p)) (laid .1 ∙ ap (splice (l .target) (l .to)) (contents p))
 
 same-length-2 : tie.Need-same-length-2 Inv-loop μ-loop
-same-length-2 c = c .before .loop .inv .kept
+same-length-2 c = c .before .loop .inv .pieces .kept
 
 returns-2 : tie.Need-returns-2 Inv-loop μ-loop
 returns-2 c = joined-end (c .before .loop .inv) (numbers-short _ _ (c .loop-test .left))
@@ -98,19 +95,19 @@ lay-data-spec =
     (tie.spec
     Inv-loop
     μ-loop
-    sector-of-requires
+    (λ c κs. search needs)
     mul-to
     add-to
     loop-holds
     add-loop
-    word-requires
+    (λ c κs. search needs)
     same-length
     returns
-    sector-of-requires-2
-    part-requires
+    (λ c κs. search needs)
+    (λ c κs. search needs)
     lay-sectors-requires
-    add-at
-    loop-less
+    (λ c. search needs)
+    (λ c. search needs)
     loop-again
     same-length-2
     returns-2)

@@ -7,6 +7,7 @@ use lib.ListN.{length}
 use Rattle.rules.specs.Bytes.{wordAt}
 use Rattle.rules.specs.Sectors.{sectorOf}
 use Rattle.rules.specs.Descriptor.{sectorsOf}
+use Rattle.rules.specs.Volume.{headerIn}
 use Rattle.rules.proofs.Index.{numbers-end, numbers-short}
 use Rattle.rules.proofs.Packing.{header-length, used-inside}
 use Rattle.packing.proofs.FileLaws.{header-read, contents-count, descriptor-packed, files-few}
@@ -21,105 +22,94 @@ Inv-loop source target₀ files sector1 start₀ to₀ at₀ target start to at 
 abbrev μ-loop : tie.MeasureT-loop
 μ-loop source target₀ files sector1 start₀ to₀ at₀ target start to at = length sector1 - at
 
--- the number that was read, and its file's sectors
-read : (c : tie.After-word2 Inv-loop μ-loop) →
-    let w = c .before .before .before in
-    let s = w .before .before .before in
-    Read (s .before .before .before .args .source .now) (s .sector-of .result .now) (w .before .before .loop .at) (w .word .result)
-read c =
-    let e = c .before .before in
-    let w = e .before in
-    rest-read (w .before .before .loop .inv .rest) (w .before .loop-test .taken) (w .word .ensures .0) (e .if1 .left)
+-- the start of the call, a turn of the loop, the number that was read, and the descriptor made, each found from what is behind it
+abbrev start : tie.At-loop Inv-loop μ-loop → tie.Start Inv-loop μ-loop
+start c = c .before .before .before .before
 
-count : (c : tie.After-word2 Inv-loop μ-loop) →
-    let w = c .before .before .before in
-    c .word2 .result ≡ sectorsOf (sectorOf (w .before .before .before .before .before .before .args .source .now) (w .word .result))
+abbrev turn : tie.After-word Inv-loop μ-loop → tie.At-loop Inv-loop μ-loop
+turn c = c .before .before
+
+abbrev number : tie.After-word2 Inv-loop μ-loop → tie.After-word Inv-loop μ-loop
+number c = c .before .before .before
+
+abbrev sized : tie.After-part Inv-loop μ-loop → tie.After-word2 Inv-loop μ-loop
+sized c = c .before .before
+
+abbrev made : tie.After-lay Inv-loop μ-loop → tie.After-packed-descriptor Inv-loop μ-loop
+made c = c .before .before .before .before
+
+abbrev source : tie.After-word2 Inv-loop μ-loop → List ℕ
+source c = start (turn (number c)) .args .source .now
+
+-- it is of a file; its sectors, which end inside the volume, and its header
+read : (c : tie.After-word2 Inv-loop μ-loop) →
+    let w = number c in
+    Read (source c) (turn w .before .sector-of .result .now) (turn w .loop .at) (w .word .result)
+read c =
+    let w = number c in
+    rest-read (turn w .loop .inv .rest) (w .before .loop-test .taken) (w .word .ensures .0) (c .before .before .if1 .left)
+
+count : (c : tie.After-word2 Inv-loop μ-loop) → c .word2 .result ≡ sectorsOf (sectorOf (source c) (number c .word .result))
 count c = c .word2 .ensures .0 ∙ ap (λ (s : List ℕ). wordAt s 14) (c .before .sector-of2 .ensures)
 
--- they end inside the volume
-few : (c : tie.After-word2 Inv-loop μ-loop) → c .before .before .before .before .before .loop .start + c .word2 .result ≤ 1600
+few : (c : tie.After-word2 Inv-loop μ-loop) → turn (number c) .loop .start + c .word2 .result ≤ 1600
 few c =
-    let l = c .before .before .before .before .before in
-    let start = l .before .before .before .before in
-    omega (arith, described-ahead (l .loop .inv) (read c) (count c), used-inside _ (start .pre .0), start .pre .0 .size)
+    let l = turn (number c) in
+    let is = start l .pre .0 in
+    omega (arith, described-ahead (l .loop .inv) (read c) (count c), used-inside _ is, is .size)
 
-sector-of-requires : tie.Need-sector-of-requires Inv-loop μ-loop
-sector-of-requires c κs = search needs
+header : (c : tie.After-part Inv-loop μ-loop) → c .part .result .now ≡ headerIn (source (sized c)) (number (sized c) .word .result)
+header c = header-read (source (sized c)) _ _ (sized c .before .sector-of2 .ensures) _ (c .part .ensures)
 
 add-start : tie.Need-add-start Inv-loop μ-loop
 add-start c = omega (arith, c .before .before .before .pre .1, files-few _ (c .before .before .before .pre .0))
 
 loop-holds : tie.Need-loop-holds Inv-loop μ-loop
-loop-holds c = described-start _ _ _ _ (c .before .before .before .pre .0) (c .sector-of .ensures) (omega (arith, c .before .before .before .pre .1))
+loop-holds c =
+    let pre = c .before .before .before .pre in
+    described-start _ _ _ _ (pre .0) (c .sector-of .ensures) (omega (arith, pre .1))
 
 add-loop : tie.Need-add-loop Inv-loop μ-loop
 add-loop c = omega (arith, c .loop .inv .rest .inside, c .loop .inv .rest .short)
 
-word-requires : tie.Need-word-requires Inv-loop μ-loop
-word-requires c κs = search needs
-
 same-length : tie.Need-same-length Inv-loop μ-loop
-same-length c = c .before .before .before .loop .inv .kept
+same-length c = turn (c .before) .loop .inv .pieces .kept
 
 returns : tie.Need-returns Inv-loop μ-loop
-returns c = rw (c .before .before .before .before .before .before .before .pre .1) (described-end (c .before .before .before .loop .inv) (numbers-end _ _ (c .before .before .loop-test .taken) (sym (c .before .word .ensures .0) ∙ c .if1 .taken)))
-
-sector-of-requires-2 : tie.Need-sector-of-requires-2 Inv-loop μ-loop
-sector-of-requires-2 c κs = search needs
-
-word-requires-2 : tie.Need-word-requires-2 Inv-loop μ-loop
-word-requires-2 c κs = search needs
-
-slice-aggregate-packed-descriptor : tie.Need-slice-aggregate-packed-descriptor Inv-loop μ-loop
-slice-aggregate-packed-descriptor c = search needs
-
-part-requires : tie.Need-part-requires Inv-loop μ-loop
-part-requires c κs = search needs
+returns c =
+    let w = c .before in
+    let l = turn w in
+    rw (start l .pre .1) (described-end (l .loop .inv) (numbers-end _ _ (w .before .loop-test .taken) (sym (w .word .ensures .0) ∙ c .if1 .taken)))
 
 packed-descriptor-requires : tie.Need-packed-descriptor-requires Inv-loop μ-loop
 packed-descriptor-requires c κs =
-    let w = c .before .before in
-    let start = w .before .before .before .before .before .before .before .before .before in
-    let header = header-read (start .args .source .now) _ _ (w .before .sector-of2 .ensures) _ (c .part .ensures) in
-    (refl, ap length header ∙ header-length _ _ (start .pre .0 .whole) _ (read w .inside), omega (arith, few w), omega (arith, few w))
-
-slice-aggregate-lay : tie.Need-slice-aggregate-lay Inv-loop μ-loop
-slice-aggregate-lay c = search needs
-
-lay-requires : tie.Need-lay-requires Inv-loop μ-loop
-lay-requires c κs = search needs
+    let w = sized c in
+    (refl, ap length (header c) ∙ header-length _ _ (start (turn (number w)) .pre .0 .whole) _ (read w .inside), omega (arith, few w), omega (arith, few w))
 
 add-start-2 : tie.Need-add-start-2 Inv-loop μ-loop
-add-start-2 c = omega (arith, few (c .before .before .before .before .before .before .before .before .before))
+add-start-2 c = omega (arith, few (sized (made (c .before .before) .before)))
 
 add-to : tie.Need-add-to Inv-loop μ-loop
 add-to c =
-    let l = c .before .before .before .before .before .before .before .before .before .before .before .before .before .before .loop in
-    omega (arith, l .inv .to-is, l .inv .rest .inside, l .inv .rest .short)
-
-add-at : tie.Need-add-at Inv-loop μ-loop
-add-at c = search needs
-
-loop-less : tie.Need-loop-less Inv-loop μ-loop
-loop-less c = search needs
+    let is = turn (number (sized (made (c .before .before) .before))) .loop .inv in
+    omega (arith, is .to-is, is .rest .inside, is .rest .short)
 
 loop-again : tie.Need-loop-again Inv-loop μ-loop
 loop-again c =
     let y = c .before .before in
-    let p = y .before .before .before .before in
-    let w = p .before .before .before in
-    let l = w .before .before .before .before .before in
-    let start = l .before .before .before .before in
-    let header = header-read (start .args .source .now) _ _ (w .before .sector-of2 .ensures) _ (p .before .part .ensures) in
-    let held = contents-count (start .args .source .now) _ (read w .descriptor) ∙ sym (count w) in
-    let packed = p .packed-descriptor .ensures ∙ descriptor-packed (start .args .source .now) _ _ _ _ header held in
-    described-step (start .pre .0 .whole) (l .loop .inv) (read w) (count w) packed (y .lay .ensures)
+    let d = made y in
+    let p = d .before in
+    let w = sized p in
+    let l = turn (number w) in
+    let held = contents-count (source w) _ (read w .descriptor) ∙ sym (count w) in
+    let packed = d .packed-descriptor .ensures ∙ descriptor-packed (source w) _ _ _ _ (header p) held in
+    described-step (start l .pre .0 .whole) (l .loop .inv) (read w) (count w) packed (y .lay .ensures)
 
 same-length-2 : tie.Need-same-length-2 Inv-loop μ-loop
-same-length-2 c = c .before .loop .inv .kept
+same-length-2 c = c .before .loop .inv .pieces .kept
 
 returns-2 : tie.Need-returns-2 Inv-loop μ-loop
-returns-2 c = rw (c .before .before .before .before .before .pre .1) (described-end (c .before .loop .inv) (numbers-short _ _ (c .loop-test .left)))
+returns-2 c = rw (start (c .before) .pre .1) (described-end (c .before .loop .inv) (numbers-short _ _ (c .loop-test .left)))
 
 pub lay-descriptors-spec : {M : Type 1} → statement M
 lay-descriptors-spec =
@@ -127,24 +117,24 @@ lay-descriptors-spec =
     (tie.spec
     Inv-loop
     μ-loop
-    sector-of-requires
+    (λ c κs. search needs)
     add-start
     loop-holds
     add-loop
-    word-requires
+    (λ c κs. search needs)
     same-length
     returns
-    sector-of-requires-2
-    word-requires-2
-    slice-aggregate-packed-descriptor
-    part-requires
+    (λ c κs. search needs)
+    (λ c κs. search needs)
+    (λ c. search needs)
+    (λ c κs. search needs)
     packed-descriptor-requires
-    slice-aggregate-lay
-    lay-requires
+    (λ c. search needs)
+    (λ c κs. search needs)
     add-start-2
     add-to
-    add-at
-    loop-less
+    (λ c. search needs)
+    (λ c. search needs)
     loop-again
     same-length-2
     returns-2)

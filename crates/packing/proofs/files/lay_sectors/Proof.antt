@@ -1,124 +1,106 @@
--- `packing::files::lay_sectors` meets its contract. The loop's invariant: laying what is ahead of the cursor from `to` on gives what the whole gives, and ends where it ends.
+-- `packing::files::lay_sectors` meets its contract. The loop's invariant: the sectors of the places ahead of the cursor are left, and go to `to` (`Pieces`).
 -- The measure is the number of places ahead. Assumes nothing.
-use mathlib.Core.Path.{_≡_, refl, sym, ap, subst, _∙_}
-use mathlib.Core.List.{List, [], _∷_, map}
+use mathlib.Core.Path.{_≡_, ap}
+use mathlib.Core.List.{List, [], _∷_, _++_, map}
 use Prim.Native.Nat.{ℕ, _+_}
 use native.Mathlib.Omega.{arith}
-use lib.ListN.{length, length-append}
-use Rattle.rules.specs.Bytes.{splice}
+use lib.ListN.{length}
 use Rattle.rules.specs.Sectors.{sectorOf}
 use Rattle.rules.specs.Chain.{places}
 use Rattle.rules.specs.Calls.Load.{joined}
-use Rattle.rules.proofs.Splice.{splice-length, splice-none, splice-append}
+use Rattle.rules.proofs.Pieces.{Pieces, pieces-first, pieces-next, pieces-last}
 use Rattle.descriptor.specs.Cursor.{ahead, Steady, Stepped}
-use Rattle.descriptor.specs.declared.chain.Step.{Step}
 use Rattle.descriptor.specs.declared.chain.Step.the-variants.{Place}
 use Rattle.descriptor.proofs.Ahead.{at-first}
 use borrow.Author.Needs.{needs}
 use Rattle.packing.proofs.files.lay_sectors.Statement.{statement}
 use Rattle.packing.proofs.files.lay_sectors.Tie as tie
 
+-- the bytes of the sectors at these places
+abbrev sectors : List ℕ → List ℕ → List ℕ
+sectors source ps = joined (map (sectorOf source) ps)
+
 abbrev Inv-loop : tie.InvT-loop
-Inv-loop source chain target₀ at cursor₀ to₀ target cursor to =
-    (length target ≡ length target₀) × Steady chain cursor
-    × (to + length (joined (map (sectorOf source) (ahead chain cursor))) ≡ at + length (joined (map (sectorOf source) (places chain))))
-    × (splice target to (joined (map (sectorOf source) (ahead chain cursor))) ≡ splice target₀ at (joined (map (sectorOf source) (places chain))))
+Inv-loop source chain target₀ at cursor₀ to₀ target cursor to = Steady chain cursor × Pieces (sectors source (places chain)) target₀ at (sectors source (ahead chain cursor)) target to
 
 abbrev μ-loop : tie.MeasureT-loop
 μ-loop source chain target₀ at cursor₀ to₀ target cursor to = length (ahead chain cursor)
 
--- a sector laid, and those ahead of it behind it
-laid-sector : (sector : ℕ → List ℕ) (p : ℕ) (ps all target later bytes : List ℕ) (to : ℕ) → all ≡ p ∷ ps → bytes ≡ sector p → later ≡ splice target to bytes
-    → (to + length bytes + length (joined (map sector ps)) ≡ to + length (joined (map sector all)))
-    × (splice later (to + length bytes) (joined (map sector ps)) ≡ splice target to (joined (map sector all)))
-unfolding joined
-laid-sector sector p ps all target later bytes to e f laid =
-    (rw (e, f) (omega (arith, length-append (sector p) (joined (map sector ps)))), rw (e, laid, f) (splice-append target to (sector p) (joined (map sector ps))))
+-- the start of the call, the cursor's step, the place that it gave, and its sector, each found from what is behind it
+abbrev start : tie.At-loop Inv-loop μ-loop → tie.Start Inv-loop μ-loop
+start c = c .before .before .before .before .before
 
--- at the end of the chain, and at a place of it
-ended : (c : tie.After-enum-told Inv-loop μ-loop) →
-    let l = c .before .before .before in
-    ahead (l .before .before .before .before .before .args .chain .now) (l .loop .cursor) ≡ []
+abbrev chain : tie.After-step Inv-loop μ-loop → List ℕ
+chain c = start (c .before) .args .chain .now
+
+abbrev placed : tie.After-sector-of Inv-loop μ-loop → tie.After-place Inv-loop μ-loop
+placed c = c .before .before
+
+abbrev taken : tie.After-lay Inv-loop μ-loop → tie.After-sector-of Inv-loop μ-loop
+taken c = c .before .before
+
+-- at a place of the chain, and at its end
+stepped : (c : tie.After-place Inv-loop μ-loop) → let s = c .before .before in Stepped (chain s) (s .before .loop .cursor) (Place (c .place .given .0 .0) (c .place .given .0 .1 .0))
+stepped c = rw (c .place .given .1) at (c .before .before .step .ensures)
+
+ended : (c : tie.After-enum-told Inv-loop μ-loop) → let s = c .before .before in ahead (chain s) (s .before .loop .cursor) ≡ []
 unfolding Stepped
-ended c =
-    let l = c .before .before .before in
-    subst (λ (s : Step). Stepped (l .before .before .before .before .before .args .chain .now) (l .loop .cursor) s) (c .enum-told .given .1) (c .before .before .step .ensures)
+ended c = rw (c .enum-told .given .1) at (c .before .before .step .ensures)
 
-stepped : (c : tie.After-place Inv-loop μ-loop) →
-    let l = c .before .before .before in
-    Stepped (l .before .before .before .before .before .args .chain .now) (l .loop .cursor) (Place (c .place .given .0 .0) (c .place .given .0 .1 .0))
-stepped c =
-    let l = c .before .before .before in
-    subst (λ (s : Step). Stepped (l .before .before .before .before .before .args .chain .now) (l .loop .cursor) s) (c .place .given .1) (c .before .before .step .ensures)
+-- the first of the sectors, and the others
+first-sector : (source : List ℕ) {all ps bytes : List ℕ} {p : ℕ} → all ≡ p ∷ ps → bytes ≡ sectorOf source p → sectors source all ≡ bytes ++ sectors source ps
+unfolding joined
+first-sector source all-is bytes-is = rw (all-is, bytes-is)
 
-first-requires : tie.Need-first-requires Inv-loop μ-loop
-first-requires c κs = search needs
+further : (c : tie.After-lay Inv-loop μ-loop) →
+    let e = placed (taken c) in
+    let s = e .before .before in
+    let l = s .before in
+    let source = start l .args .source .now in
+    Pieces (sectors source (places (chain s))) (start l .args .target .now) (start l .args .at) (sectors source (ahead (chain s) (e .place .given .0 .1 .0))) (c .lay .last .0) (l .loop .to + length (taken c .sector-of .result .now))
+unfolding Stepped
+further c =
+    let s = taken c in
+    let e = placed s in
+    let l = e .before .before .before in
+    pieces-next (l .loop .inv .1) (s .sector-of .result .now) (first-sector (start l .args .source .now) (stepped e .0) (s .sector-of .ensures)) (c .lay .ensures) (omega arith)
 
 loop-holds : tie.Need-loop-holds Inv-loop μ-loop
 loop-holds c =
-    let all = at-first (c .before .before .before .before .args .chain .now) in
-    (refl, rw (c .first .ensures) (record { inside = omega arith; small = omega arith }), rw (c .first .ensures, all), rw (c .first .ensures, all))
+    let s = c .before .before .before .before in
+    let e = c .first .ensures in
+    (rw e (record { inside = omega arith; small = omega arith }), rw (e, at-first (s .args .chain .now)) (pieces-first _ (s .args .target .now) (s .args .at)))
 
 step-requires : tie.Need-step-requires Inv-loop μ-loop
-step-requires c κs = c .loop .inv .1
-
-enum-known-place : tie.Need-enum-known-place Inv-loop μ-loop
-enum-known-place c = search needs
+step-requires c κs = c .loop .inv .0
 
 sector-of-requires : tie.Need-sector-of-requires Inv-loop μ-loop
 unfolding Stepped
 sector-of-requires c κs = omega (arith, stepped (c .before) .2)
 
-lay-requires : tie.Need-lay-requires Inv-loop μ-loop
-lay-requires c κs = search needs
-
--- the place after the sector, and what is laid from there on
-further : (c : tie.After-lay Inv-loop μ-loop) →
-    let s = c .before .before in
-    let e = s .before .before in
-    let l = e .before .before .before in
-    let a = l .before .before .before .before .before .args in
-    let ps = ahead (a .chain .now) (e .place .given .0 .1 .0) in
-    let bytes = s .sector-of .result .now in
-    let after = l .loop .to + length bytes in
-    (after + length (joined (map (sectorOf (a .source .now)) ps)) ≡ a .at + length (joined (map (sectorOf (a .source .now)) (places (a .chain .now)))))
-    × (splice (c .lay .last .0) after (joined (map (sectorOf (a .source .now)) ps)) ≡ splice (a .target .now) (a .at) (joined (map (sectorOf (a .source .now)) (places (a .chain .now)))))
-unfolding Stepped
-further c =
-    let s = c .before .before in
-    let e = s .before .before in
-    let l = e .before .before .before in
-    let here = laid-sector (sectorOf (l .before .before .before .before .before .args .source .now)) _ _ _ (l .loop .target) _ _ (l .loop .to) (stepped e .0) (s .sector-of .ensures) (c .lay .ensures) in
-    (here .0 ∙ l .loop .inv .2, here .1 ∙ l .loop .inv .3)
-
 add-to : tie.Need-add-to Inv-loop μ-loop
-add-to c = omega (arith, further (c .before .before) .0, c .before .before .before .before .before .before .before .before .before .before .before .before .before .before .pre)
+add-to c =
+    let y = c .before .before in
+    omega (arith, further y .ends, start (placed (taken y) .before .before .before) .pre)
 
 loop-less : tie.Need-loop-less Inv-loop μ-loop
 unfolding Stepped
-loop-less c = omega (arith, ap length (stepped (c .before .before .before .before .before .before) .0))
+loop-less c = omega (arith, ap length (stepped (placed (taken (c .before .before))) .0))
 
 loop-again : tie.Need-loop-again Inv-loop μ-loop
 unfolding Stepped
 loop-again c =
     let y = c .before .before in
-    let e = y .before .before .before .before in
-    let l = e .before .before .before .loop in
-    (ap length (y .lay .ensures) ∙ splice-length (l .target) (l .to) _ ∙ l .inv .0, stepped e .1, further y .0, further y .1)
-
-enum-told : tie.Need-enum-told Inv-loop μ-loop
-enum-told c = search needs
+    (stepped (placed (taken y)) .1, further y)
 
 same-length : tie.Need-same-length Inv-loop μ-loop
-same-length c = c .before .before .before .loop .inv .0
+same-length c = c .before .before .before .loop .inv .1 .kept
 
 returns : tie.Need-returns Inv-loop μ-loop
 unfolding joined
 returns c =
-    let l = c .before .before .before .loop in
-    let ends = rw (ended c) at (l .inv .2) in
-    let same = rw (ended c) at (l .inv .3) in
-    (omega (arith, ends), sym (splice-none (l .target) (l .to)) ∙ same)
+    let all = pieces-last (c .before .before .before .loop .inv .1) (rw (ended c)) in
+    (all .1, all .0)
 
 pub lay-sectors-spec : {M : Type 1} → statement M
 lay-sectors-spec =
@@ -126,15 +108,15 @@ lay-sectors-spec =
     (tie.spec
     Inv-loop
     μ-loop
-    first-requires
+    (λ c κs. search needs)
     loop-holds
     step-requires
-    enum-known-place
+    (λ c. search needs)
     sector-of-requires
-    lay-requires
+    (λ c κs. search needs)
     add-to
     loop-less
     loop-again
-    enum-told
+    (λ c. search needs)
     same-length
     returns)

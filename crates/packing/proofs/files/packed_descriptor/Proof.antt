@@ -1,7 +1,7 @@
 -- `packing::files::packed_descriptor` meets its contract: header and block laid one behind the other over zeros. Assumes nothing.
 use mathlib.Core.Path.{_≡_, sym, ap, _∙_}
 use mathlib.Core.List.{List, _++_, append-assoc}
-use Prim.Native.Nat.{ℕ, suc, _+_, _-_}
+use Prim.Native.Nat.{ℕ, suc, _-_}
 use native.Mathlib.Omega.{arith}
 use lib.ListN.{length, drop, replicate, length-append}
 use Rattle.rules.specs.Bytes.{over, splice}
@@ -30,75 +30,44 @@ one header start sectors long some =
     ∙ append-assoc header block (replicate 225 0)
     ∙ ap (λ (m : ℕ). header ++ over (replicate 228 0) (blocksBytes (oneBlock start m))) (sym e)
 
-lay-requires : tie.Need-lay-requires
-lay-requires c κs = search needs
+-- the start of the call, and the header laid in front of zeros
+abbrev start : tie.After-lay → tie.Start
+start c = c .before .before .before .before
 
--- the header, in front of zeros
-headed : (c : tie.After-lay) →
-    let a = c .before .before .before .before .args in
-    c .lay .last .0 ≡ splice (replicate 256 0) 0 (a .header .now)
-headed c =
-    let start = c .before .before .before .before in
-    c .lay .ensures ∙ ap (λ (d : List ℕ). splice d 0 (start .args .header .now)) (start .pre .0)
-
-same-length : tie.Need-same-length
-same-length c = search needs
+headed : (c : tie.After-lay) → c .lay .last .0 ≡ splice (replicate 256 0) 0 (start c .args .header .now)
+headed c = c .lay .ensures ∙ ap (λ (d : List ℕ). splice d 0 (start c .args .header .now)) (start c .pre .0)
 
 returns : tie.Need-returns
 returns c =
-    let start = c .before .before .before .before .before .before .before in
-    rw (c .if1 .taken) (headed (c .before .before .before) ∙ empty (start .args .header .now) (start .args .start) (start .pre .1))
-
-sub-last : tie.Need-sub-last
-sub-last c = search needs
-
-cast-low : tie.Need-cast-low
-cast-low c = search needs
-
-mul-middle : tie.Need-mul-middle
-mul-middle c = search needs
-
-add-middle : tie.Need-add-middle
-add-middle c = search needs
-
-cast-middle : tie.Need-cast-middle
-cast-middle c = search needs
-
-cast-high : tie.Need-cast-high
-cast-high c = search needs
-
-slice-aggregate-lay : tie.Need-slice-aggregate-lay
-slice-aggregate-lay c = search needs
-
-lay-requires-2 : tie.Need-lay-requires-2
-lay-requires-2 c κs = search needs
-
-same-length-2 : tie.Need-same-length-2
-same-length-2 c = search needs
+    let y = c .before .before .before in
+    let a = start y .args in
+    rw (c .if1 .taken) (headed y ∙ empty (a .header .now) (a .start) (start y .pre .1))
 
 returns-2 : tie.Need-returns-2
 unfolding blockBytes
 returns-2 c =
-    let start = c .before .before .before .before .before .before .before .before .before .before .before .before in
-    let a = start .args in
-    c .before .before .lay2 .ensures
-    ∙ ap (λ (d : List ℕ). splice d 28 (blockBytes (record { start = a .start; last = a .sectors - 1 }))) (headed (c .before .before .before .before .before .before .before .before))
-    ∙ one (a .header .now) (a .start) (a .sectors) (start .pre .1) (c .before .before .before .before .before .if1 .left)
+    let z = c .before .before in
+    let e = z .before .before .before in
+    let y = e .before .before .before in
+    let a = start y .args in
+    z .lay2 .ensures
+    ∙ ap (λ (d : List ℕ). splice d 28 (blockBytes (record { start = a .start; last = a .sectors - 1 }))) (headed y)
+    ∙ one (a .header .now) (a .start) (a .sectors) (start y .pre .1) (e .if1 .left)
 
 pub packed-descriptor-spec : {M : Type 1} → statement M
 packed-descriptor-spec =
     tie.close
     (tie.spec
-    lay-requires
-    same-length
+    (λ c κs. search needs)
+    (λ c. search needs)
     returns
-    sub-last
-    cast-low
-    mul-middle
-    add-middle
-    cast-middle
-    cast-high
-    slice-aggregate-lay
-    lay-requires-2
-    same-length-2
+    (λ c. search needs)
+    (λ c. search needs)
+    (λ c. search needs)
+    (λ c. search needs)
+    (λ c. search needs)
+    (λ c. search needs)
+    (λ c. search needs)
+    (λ c κs. search needs)
+    (λ c. search needs)
     returns-2)

@@ -21,36 +21,6 @@ behind target first second third label map index long many e f g =
     ∙ laid-next target (label ++ map) index 256 both
     ∙ ap (splice target 0) (append-assoc label map index)
 
-new-map-requires : tie.Need-new-map-requires
-new-map-requires c κs = search needs
-
-new-index-requires : tie.Need-new-index-requires
-new-index-requires c κs = search needs
-
-sector-of-requires : tie.Need-sector-of-requires
-sector-of-requires c κs = search needs
-
-part-requires : tie.Need-part-requires
-part-requires c κs = search needs
-
-lay-requires : tie.Need-lay-requires
-lay-requires c κs = search needs
-
-slice-aggregate-lay : tie.Need-slice-aggregate-lay
-slice-aggregate-lay c = search needs
-
-lay-requires-2 : tie.Need-lay-requires-2
-lay-requires-2 c κs = search needs
-
-slice-aggregate-lay-2 : tie.Need-slice-aggregate-lay-2
-slice-aggregate-lay-2 c = search needs
-
-lay-requires-3 : tie.Need-lay-requires-3
-lay-requires-3 c κs = search needs
-
-same-length : tie.Need-same-length
-same-length c = search needs
-
 returns : tie.Need-returns
 unfolding labelArea
 returns c =
@@ -70,14 +40,14 @@ pub lay-system-spec : {M : Type 1} → statement M
 lay-system-spec =
     tie.close
     (tie.spec
-    new-map-requires
-    new-index-requires
-    sector-of-requires
-    part-requires
-    lay-requires
-    slice-aggregate-lay
-    lay-requires-2
-    slice-aggregate-lay-2
-    lay-requires-3
-    same-length
+    (λ c κs. search needs)
+    (λ c κs. search needs)
+    (λ c κs. search needs)
+    (λ c κs. search needs)
+    (λ c κs. search needs)
+    (λ c. search needs)
+    (λ c κs. search needs)
+    (λ c. search needs)
+    (λ c κs. search needs)
+    (λ c. search needs)
     returns)

@@ -1,82 +1,67 @@
--- `packing::system::new_index` meets its contract. The loop's invariant: the numbers from the p-th on, laid from byte 2 × p on, give what all give. The measure is the number of files left. Assumes nothing.
-use mathlib.Core.Path.{_≡_, refl, sym, ap, _∙_}
-use mathlib.Core.List.{List, [], _∷_}
+-- `packing::system::new_index` meets its contract. The loop's invariant: the numbers from the p-th on are left, and go to byte 2 × p (`Pieces`). The measure is the number of files left. Assumes nothing.
+use mathlib.Core.Path.{_≡_, ap, _∙_}
+use mathlib.Core.List.{List, [], _∷_, _++_}
 use Prim.Native.Nat.{ℕ, _+_, _*_, _/_, _%_, _≤_, _<_, _-_}
 use native.Mathlib.Omega.{arith}
-use lib.ListN.{length, replicate}
-use Rattle.rules.specs.Bytes.{wordBytes, splice}
+use lib.ListN.{replicate}
 use Rattle.rules.specs.Chain.{run}
-use Rattle.rules.specs.Index.{numbersBytes, indexOf}
-use Rattle.rules.proofs.Splice.{splice-length}
-use Rattle.rules.proofs.Chain.{run-none}
-use Rattle.rules.proofs.Indexed.{laid-none, laid-number, laid-index}
-use Rattle.packing.proofs.RunLaws.{run-first}
+use Rattle.rules.specs.Index.{numbersBytes}
+use Rattle.rules.proofs.Pieces.{Pieces, pieces-first, pieces-next, pieces-last}
+use Rattle.rules.proofs.Chain.{run-none, run-step}
+use Rattle.rules.proofs.Indexed.{laid-index}
 use borrow.Author.Needs.{needs}
 use Rattle.packing.proofs.system.new_index.Statement.{statement}
 use Rattle.packing.proofs.system.new_index.Tie as tie
 
+-- a run that is not over begins with its first number
+run-first : (s many : ℕ) → 0 < many → run s many ≡ s ∷ run (s + 1) (many - 1)
+run-first s many h =
+    let e : many ≡ many - 1 + 1 = omega arith in
+    ap (run s) e ∙ run-step s (many - 1)
+
+-- the numbers of the files from the p-th on
+abbrev left : ℕ → ℕ → List ℕ
+left files p = numbersBytes (run (p + 2) (files - p))
+
 abbrev Inv-loop : tie.InvT-loop
-Inv-loop files index₀ p₀ index p = (length index ≡ 256) × (p ≤ files) × (splice index (2 * p) (numbersBytes (run (p + 2) (files - p))) ≡ indexOf (run 2 files))
+Inv-loop files index₀ p₀ index p = (p ≤ files) × Pieces (numbersBytes (run 2 files)) (replicate 256 0) 0 (left files p) index (2 * p)
 
 abbrev μ-loop : tie.MeasureT-loop
 μ-loop files index₀ p₀ index p = files - p
 
-begun : (files : ℕ) → splice (replicate 256 0) (2 * 0) (numbersBytes (run (0 + 2) (files - 0))) ≡ indexOf (run 2 files)
-begun files =
-    let z : files - 0 ≡ files = omega arith in
-    rw z (laid-index (run 2 files))
+-- at the start all, then the first of them and the others, at the end none
+all-left : (files : ℕ) → left files 0 ≡ numbersBytes (run 2 files)
+all-left files = ap (λ (many : ℕ). numbersBytes (run 2 many)) (omega arith)
 
-further : (files p : ℕ) (index laid : List ℕ) → files ≤ 127 → p < files → laid ≡ splice index (2 * p) (0 ∷ ((p + 2) ∷ []))
-    → splice laid (2 * (p + 1)) (numbersBytes (run (p + 1 + 2) (files - (p + 1)))) ≡ splice index (2 * p) (numbersBytes (run (p + 2) (files - p)))
-further files p index laid few here e =
+number-left : (files p : ℕ) → files ≤ 127 → p < files → left files p ≡ (0 ∷ ((p + 2) ∷ [])) ++ left files (p + 1)
+unfolding numbersBytes
+number-left files p few here =
     let high : (p + 2) / 256 ≡ 0 = omega arith in
     let low : (p + 2) % 256 ≡ p + 2 = omega arith in
-    let bytes : laid ≡ splice index (2 * p) (wordBytes (p + 2)) = rw (high, low) e in
-    let at : 2 * (p + 1) ≡ 2 * p + 2 = omega arith in
     let next : p + 1 + 2 ≡ p + 2 + 1 = omega arith in
-    let left : files - (p + 1) ≡ files - p - 1 = omega arith in
-    rw (at, next, left) (laid-number index (2 * p) (run (p + 2) (files - p)) (p + 2) (run (p + 2 + 1) (files - p - 1)) laid (run-first (p + 2) (files - p) (omega arith)) bytes)
+    let others : files - (p + 1) ≡ files - p - 1 = omega arith in
+    rw (run-first (p + 2) (files - p) (omega arith), high, low, next, others)
+
+none-left : (files p : ℕ) → files ≤ p → left files p ≡ []
+unfolding numbersBytes
+none-left files p past =
+    let none : files - p ≡ 0 = omega arith in
+    rw (none, run-none (p + 2))
 
 loop-holds : tie.Need-loop-holds Inv-loop μ-loop
-loop-holds c = (refl, omega arith, begun (c .args .files))
-
-add-t6 : tie.Need-add-t6 Inv-loop μ-loop
-add-t6 c = search needs
-
-cast-t7 : tie.Need-cast-t7 Inv-loop μ-loop
-cast-t7 c = search needs
-
-slice-aggregate-lay : tie.Need-slice-aggregate-lay Inv-loop μ-loop
-slice-aggregate-lay c = search needs
-
-mul-lay : tie.Need-mul-lay Inv-loop μ-loop
-mul-lay c = search needs
-
-slice-aggregate-lay-2 : tie.Need-slice-aggregate-lay-2 Inv-loop μ-loop
-slice-aggregate-lay-2 c = search needs
-
-lay-requires : tie.Need-lay-requires Inv-loop μ-loop
-lay-requires c κs = search needs
-
-add-p : tie.Need-add-p Inv-loop μ-loop
-add-p c = search needs
-
-loop-less : tie.Need-loop-less Inv-loop μ-loop
-loop-less c = search needs
+loop-holds c = (omega arith, rw (all-left (c .args .files)) (pieces-first _ _ _))
 
 loop-again : tie.Need-loop-again Inv-loop μ-loop
 loop-again c =
-    let a = c .before .before .before .before .before .before .args in
-    let l = c .before .before .before .before .before .loop in
-    let laid = c .before .lay .ensures in
-    (ap length laid ∙ splice-length (l .index) (2 * l .p) _ ∙ l .inv .0, omega arith, further (a .files) (l .p) (l .index) _ (c .before .before .before .before .before .before .pre) (c .before .before .before .before .loop-test .taken) laid ∙ l .inv .2)
+    let y = c .before in
+    let l = y .before .before .before .before in
+    let s = l .before in
+    (omega arith, pieces-next (l .loop .inv .1) (0 ∷ ((l .loop .p + 2) ∷ [])) (number-left (s .args .files) (l .loop .p) (s .pre) (y .before .before .before .loop-test .taken)) (y .lay .ensures) (omega arith))
 
 returns : tie.Need-returns Inv-loop μ-loop
 returns c =
-    let a = c .before .before .args in
-    let l = c .before .loop in
-    let z : a .files - l .p ≡ 0 = omega (arith, c .loop-test .left) in
-    sym (laid-none (l .index) (2 * l .p) (run (l .p + 2) (a .files - l .p)) (ap (run (l .p + 2)) z ∙ run-none (l .p + 2))) ∙ l .inv .2
+    let l = c .before in
+    pieces-last (l .loop .inv .1) (none-left (l .before .args .files) (l .loop .p) (c .loop-test .left)) .0 ∙ laid-index _
 
 pub new-index-spec : {M : Type 1} → statement M
 new-index-spec =
@@ -85,13 +70,13 @@ new-index-spec =
     Inv-loop
     μ-loop
     loop-holds
-    add-t6
-    cast-t7
-    slice-aggregate-lay
-    mul-lay
-    slice-aggregate-lay-2
-    lay-requires
-    add-p
-    loop-less
+    (λ c. search needs)
+    (λ c. search needs)
+    (λ c. search needs)
+    (λ c. search needs)
+    (λ c. search needs)
+    (λ c κs. search needs)
+    (λ c. search needs)
+    (λ c. search needs)
     loop-again
     returns)

@@ -1,17 +1,18 @@
--- `descriptor::chain::Cursor::step` meets its contract. Assumes nothing.
-use mathlib.Core.Path.{sym, _∙_}
+-- `descriptor::chain::Cursor::step` meets its contract: the next place of the present block, the first of the block met, or the end, by the law of what is ahead for each. Assumes nothing.
 use native.Mathlib.Omega.{arith}
+use Rattle.descriptor.specs.Walk.{BlockHere}
 use Rattle.descriptor.specs.Cursor.{Stepped}
-use Rattle.descriptor.proofs.Ahead.{in-block, next-block, no-block, short-chain}
+use Rattle.descriptor.proofs.Walk.{found, ended}
+use Rattle.descriptor.proofs.Ahead.{in-block, next-block, no-block}
 use borrow.Author.Needs.{needs}
 use Rattle.descriptor.proofs.chain.Cursor.step.Statement.{statement}
 use Rattle.descriptor.proofs.chain.Cursor.step.Tie as tie
 
-add-t14 : tie.Need-add-t14
-add-t14 c = search needs
+add-t11 : tie.Need-add-t11
+add-t11 c = search needs
 
-sub-t15 : tie.Need-sub-t15
-sub-t15 c = search needs
+sub-t12 : tie.Need-sub-t12
+sub-t12 c = search needs
 
 returns : tie.Need-returns
 unfolding Stepped
@@ -19,81 +20,60 @@ returns c =
     let a = c .before .before .args in
     (in-block (a .chain .now) (a .self) (c .if1 .taken), record { inside = search needs; small = search needs }, search needs)
 
-add-if2 : tie.Need-add-if2
-add-if2 c = search needs
+block-at-requires : tie.Need-block-at-requires
+block-at-requires c κs = search needs
+
+enum-known-block : tie.Need-enum-known-block
+enum-known-block c = search needs
+
+enum-told : tie.Need-enum-told
+enum-told c = search needs
 
 returns-2 : tie.Need-returns-2
 unfolding Stepped
-returns-2 c = short-chain _ _ (c .before .if1 .left) (c .if2 .taken)
+returns-2 c = let m = c .before .before in no-block _ _ (m .before .if1 .left) (ended _ _ _ (m .block-at .ensures) (c .enum-told .given .1))
 
-shared-slice-read-a : tie.Need-shared-slice-read-a
-shared-slice-read-a c = search needs
+-- the block met
+met : (c : tie.After-known-told) →
+    let a = c .before .before .before .before .before .before .args in
+    BlockHere (a .chain .now) (a .self .at) (c .before .block .given .0 .0)
+met c = found _ (c .before .before .before .block-at .ensures) (c .before .block .given .1)
 
-add-b : tie.Need-add-b
-add-b c = search needs
+add-t15 : tie.Need-add-t15
+add-t15 c = search needs
 
-shared-slice-read-b : tie.Need-shared-slice-read-b
-shared-slice-read-b c = search needs
-
-add-c : tie.Need-add-c
-add-c c = search needs
-
-shared-slice-read-c : tie.Need-shared-slice-read-c
-shared-slice-read-c c = search needs
-
-ends-chain-requires : tie.Need-ends-chain-requires
-ends-chain-requires c κs = search needs
-
-returns-3 : tie.Need-returns-3
-unfolding Stepped
-returns-3 c =
-    let e = c .before .before .before .before .before in
-    no-block _ _ (e .before .if1 .left) (e .if2 .left) (sym (c .before .ends-chain .ensures) ∙ c .if3 .taken)
-
-block-of-requires : tie.Need-block-of-requires
-block-of-requires c κs = search needs
+add-t16 : tie.Need-add-t16
+add-t16 c = omega (arith, met c)
 
 add-t17 : tie.Need-add-t17
-add-t17 c = search needs
-
-add-t18 : tie.Need-add-t18
-add-t18 c = search needs
-
-add-t24 : tie.Need-add-t24
-add-t24 c = search needs
+add-t17 c = omega (arith, met c)
 
 less-requires : tie.Need-less-requires
 less-requires c κs = search needs
 
-returns-4 : tie.Need-returns-4
+returns-3 : tie.Need-returns-3
 unfolding Stepped
-returns-4 c =
-    let e = c .before .before .before .before .before .before .before in
-    let block = c .before .block-of in (
-      rw (c .less .ensures) (next-block _ _ (e .before .if1 .left) (e .if2 .left) (sym (c .before .before .before .ends-chain .ensures) ∙ c .before .before .if3 .left) (block .result) (block .ensures .0)),
-      record { inside = search needs; small = omega (arith, block .ensures .1, block .ensures .2, c .less .ensures) },
-      omega (arith, block .ensures .1),
+returns-3 c =
+    let b = met (c .before) in
+    let between = c .before .before .before .before .before in (
+      rw (c .less .ensures) (next-block _ _ (between .if1 .left) _ (b .is)),
+      record { inside = b .inside; small = omega (arith, c .less .ensures) },
+      omega arith,
     )
 
 pub step-spec : {M : Type 1} → statement M
 step-spec =
     tie.close
     (tie.spec
-    add-t14
-    sub-t15
+    add-t11
+    sub-t12
     returns
-    add-if2
+    block-at-requires
+    enum-known-block
+    enum-told
     returns-2
-    shared-slice-read-a
-    add-b
-    shared-slice-read-b
-    add-c
-    shared-slice-read-c
-    ends-chain-requires
-    returns-3
-    block-of-requires
+    add-t15
+    add-t16
     add-t17
-    add-t18
-    add-t24
     less-requires
-    returns-4)
+    returns-3)

@@ -1,0 +1,77 @@
+-- `cataloguing::row::row_of` meets its contract. Assumes nothing.
+use mathlib.Core.Path.{_≡_, ap, _∙_}
+use mathlib.Core.Bool.{Bool}
+use mathlib.Core.List.{List}
+use Prim.Native.Nat.{ℕ, _/_, _%_}
+use native.Mathlib.Omega.{arith}
+use lib.Dec.{eqb}
+use lib.ListN.{replicate}
+use Rattle.rules.specs.Bytes.{part, splice}
+use Rattle.rules.specs.Descriptor.{nameOf, fileKind}
+use Rattle.rules.specs.Calls.Entry.{rowOf}
+use Rattle.rules.specs.declared.Kind.{Kind}
+use Rattle.rules.specs.declared.Row.{Row}
+use Rattle.rules.proofs.Bytes.{part-length}
+use Rattle.rules.proofs.Splice.{splice-whole}
+use borrow.Author.Needs.{needs}
+use Rattle.cataloguing.proofs.row.row_of.Statement.{statement}
+use Rattle.cataloguing.proofs.row.row_of.Tie as tie
+
+slice-aggregate-lay : tie.Need-slice-aggregate-lay
+slice-aggregate-lay c = search needs
+
+part-requires : tie.Need-part-requires
+part-requires c κs = search needs
+
+lay-requires : tie.Need-lay-requires
+lay-requires c κs = search needs
+
+byte-requires : tie.Need-byte-requires
+byte-requires c κs = search needs
+
+word-requires : tie.Need-word-requires
+word-requires c κs = search needs
+
+byte-requires-2 : tie.Need-byte-requires-2
+byte-requires-2 c κs = search needs
+
+byte-requires-3 : tie.Need-byte-requires-3
+byte-requires-3 c κs = search needs
+
+kind-of-requires : tie.Need-kind-of-requires
+kind-of-requires c κs = search needs
+
+same-row : {name name′ : List ℕ} {kind kind′ : Kind} {sectors sectors′ : ℕ} {protected protected′ : Bool} → name ≡ name′ → kind ≡ kind′ → sectors ≡ sectors′ → protected ≡ protected′
+    → _≡_ {A = Row} (record { name = name; kind = kind; sectors = sectors; protected = protected }) (record { name = name′; kind = kind′; sectors = sectors′; protected = protected′ })
+same-row a b c d = rw (a, b, c, d)
+
+returns : tie.Need-returns
+unfolding rowOf nameOf fileKind
+returns c =
+    let b3 = c .before in
+    let b2 = b3 .before in
+    let w = b2 .before in
+    let b = w .before in
+    let l = b .before .before in
+    let start = l .before .before .before .before in
+    let d = start .args .descriptor .now in
+    let long = part-length d 0 10 (omega (arith, start .pre)) in
+    same-row
+    (l .lay .ensures ∙ ap (splice (replicate 10 0) 0) (l .before .part .ensures) ∙ splice-whole (replicate 10 0) (part d 0 10) long)
+    (c .kind-of .ensures ∙ rw (b .byte .ensures .0, w .word .ensures .0, b2 .byte2 .ensures .0, b3 .byte3 .ensures .0))
+    (w .word .ensures .0)
+    (ap (λ (s : ℕ). eqb (s / 8 % 2) 1) (b .byte .ensures .0))
+
+pub row-of-spec : {M : Type 1} → statement M
+row-of-spec =
+    tie.close
+    (tie.spec
+    slice-aggregate-lay
+    part-requires
+    lay-requires
+    byte-requires
+    word-requires
+    byte-requires-2
+    byte-requires-3
+    kind-of-requires
+    returns)

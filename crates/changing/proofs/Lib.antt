@@ -1,2 +1,0 @@
--- The laws that the proofs share: which test of overwriting gives which number.
-mod OverwriteLaws

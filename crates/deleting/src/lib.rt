@@ -1,0 +1,58 @@
+// Deleting: the file's number leaves sector 1, and its sectors are free; they keep their bytes. The call takes any image and any arguments,
+// answers with its number, and leaves the image with the writes of the rules' definition laid over it; a refusal has none.
+ghost use mathlib.Core.Path.{_≡_};
+ghost use mathlib.Core.List.{_∷_};
+ghost use lib.ListN.{length};
+ghost use Rattle.rules.specs.Sectors.{sectorOf};
+ghost use Rattle.rules.specs.Map.{markedAll};
+ghost use Rattle.rules.specs.Volume.{placesIn};
+ghost use Rattle.rules.specs.Sound.{IsFile};
+ghost use Rattle.rules.specs.Outcome.{Meets};
+ghost use Rattle.rules.specs.Calls.Delete.{deleting, deleteOf};
+use index::index_without;
+use map::bits::clear_file;
+use opening::find;
+use rules::Answer;
+use rules::Opened;
+use sector::buffer::copy;
+use sector::buffer::write_sector;
+use sector::bytes::byte;
+use sector::bytes::part;
+use sector::bytes::sector_of;
+
+// Sector 0 without the sectors of the file whose descriptor is in sector k.
+fn map_without(sector0: &mut [u8], image: &[u8], k: usize)
+    requires { ⌜ (length (now sector0) ≡ 256) × IsFile (now image) k ⌝ }
+    ensures { λ _. ⌜ now (sector0 .exit) ≡ markedAll 0 (sectorOf (now (image .entry)) 0) (k ∷ placesIn (now (image .entry)) k) ⌝ }
+{
+    copy(sector0, sector_of(image, 0));
+    clear_file(sector0, k, part(sector_of(image, k), 28, 228));
+}
+
+// Of that file.
+fn delete_at(image: &mut [u8], k: usize) -> Answer
+    requires { ⌜ IsFile (now image) k ⌝ }
+    ensures { λ r. ⌜ Meets (deleting (now (image .entry)) k) r (now (image .entry)) (now (image .exit)) ⌝ }
+{
+    if byte(sector_of(image, k), 12) / 8 % 2 == 1 {
+        return Answer::Refused(10);
+    }
+    let mut index = [0u8; 256];
+    index_without(&mut index, sector_of(image, 1), k);
+    let mut sector0 = [0u8; 256];
+    map_without(&mut sector0, image, k);
+    write_sector(image, 1, &index);
+    write_sector(image, 0, &sector0);
+    Answer::Done
+}
+
+pub fn delete(image: &mut [u8], name: &[u8]) -> Answer
+    ensures { λ r. ⌜ Meets (deleteOf (now (image .entry)) (now (name .entry))) r (now (image .entry)) (now (image .exit)) ⌝ }
+{
+    let opened = find(image, name);
+    match opened {
+        Opened::Refused(number) => Answer::Refused(number),
+        Opened::Absent => Answer::Refused(8),
+        Opened::At(_, k) => delete_at(image, k),
+    }
+}

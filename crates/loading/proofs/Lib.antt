@@ -1,0 +1,3 @@
+-- The laws of a load.
+mod LoadLaws
+mod Pieces

@@ -1,0 +1,122 @@
+-- `loading::load_at` meets its contract: a case of the kind is a case of the definition. Assumes nothing.
+use mathlib.Core.Path.{_≡_, sym, ap, _∙_}
+use Prim.Native.Nat.{ℕ}
+use native.Mathlib.Omega.{arith}
+use lib.ListN.{length}
+use Rattle.rules.specs.Bytes.{splice}
+use Rattle.rules.specs.Sectors.{sectorOf}
+use Rattle.rules.specs.Descriptor.{chainOf, fileKind}
+use Rattle.rules.specs.Volume.{placesIn, contentsIn}
+use Rattle.rules.specs.Calls.Load.{programIn}
+use Rattle.rules.proofs.Outcome.{amount-refused, amount-given}
+use Rattle.loading.proofs.LoadLaws.{fixed-apart, variable-apart, load-data, load-size, load-short, load-given}
+use borrow.Author.Needs.{needs}
+use Rattle.loading.proofs.load_at.Statement.{statement}
+use Rattle.loading.proofs.load_at.Tie as tie
+
+sector-of-requires : tie.Need-sector-of-requires
+sector-of-requires c κs = search needs
+
+byte-requires : tie.Need-byte-requires
+byte-requires c κs = search needs
+
+word-requires : tie.Need-word-requires
+word-requires c κs = search needs
+
+byte-requires-2 : tie.Need-byte-requires-2
+byte-requires-2 c κs = search needs
+
+byte-requires-3 : tie.Need-byte-requires-3
+byte-requires-3 c κs = search needs
+
+kind-of-requires : tie.Need-kind-of-requires
+kind-of-requires c κs = search needs
+
+enum-known-kind : tie.Need-enum-known-kind
+enum-known-kind c = search needs
+
+kind-is : (c : tie.After-kind-of) →
+    let a = c .before .before .before .before .before .before .before .before .args in
+    fileKind (sectorOf (a .image .now) (a .k)) ≡ c .kind-of .result
+unfolding fileKind
+kind-is c =
+    let b3 = c .before in
+    let b2 = b3 .before in
+    let w = b2 .before in
+    let b = w .before in
+    sym (c .kind-of .ensures ∙ rw (b .byte .ensures .0, w .word .ensures .0, b2 .byte2 .ensures .0, b3 .byte3 .ensures .0, b .before .sector-of .ensures))
+
+returns : tie.Need-returns
+returns c =
+    let e = c .before .before in
+    let k = e .before .before in
+    let a = k .before .before .before .before .before .before .before .before .args in
+    amount-refused (a .out .now) _ 15 (λ z. omega (arith, z)) (load-short (a .image .now) (length (a .out .now)) (a .k) _ (kind-is k ∙ e .kind .given .1) (c .if1 .taken))
+
+part-requires : tie.Need-part-requires
+part-requires c κs = search needs
+
+join-requires : tie.Need-join-requires
+join-requires c κs = search needs
+
+enum-told : tie.Need-enum-told
+enum-told c = search needs
+
+enum-told-2 : tie.Need-enum-told-2
+enum-told-2 c = search needs
+
+same-length : tie.Need-same-length
+same-length c = search needs
+
+returns-2 : tie.Need-returns-2
+unfolding programIn contentsIn placesIn chainOf
+returns-2 c =
+    let j = c .before .before in
+    let p = j .before .before in
+    let f = p .before in
+    let e = f .before .before in
+    let k = e .before .before in
+    let s = k .before .before .before .before .before in
+    let a = s .before .before .before .args in
+    let is = kind-is k ∙ e .kind .given .1 in
+    let given = amount-given (a .out .now) _ _ _ (load-given (a .image .now) (length (a .out .now)) (a .k) _ is (f .if1 .left)) in
+    record {
+      said = given .said;
+      left =
+          j .join .ensures
+          ∙ ap (splice (a .out .now) 0) (rw (p .part .ensures, s .sector-of .ensures, load-size (a .image .now) (length (a .out .now)) (a .k) _ is))
+          ∙ given .left;
+    }
+
+returns-3 : tie.Need-returns-3
+returns-3 c =
+    let k = c .before .before in
+    let a = k .before .before .before .before .before .before .before .before .args in
+    amount-refused (a .out .now) _ 14 (λ z. omega (arith, z)) (load-data (a .image .now) (length (a .out .now)) (a .k) _ (kind-is k ∙ c .enum-told .given .1) (fixed-apart _ _))
+
+returns-4 : tie.Need-returns-4
+returns-4 c =
+    let k = c .before .before in
+    let a = k .before .before .before .before .before .before .before .before .args in
+    amount-refused (a .out .now) _ 14 (λ z. omega (arith, z)) (load-data (a .image .now) (length (a .out .now)) (a .k) _ (kind-is k ∙ c .enum-told2 .given .1) (variable-apart _ _))
+
+pub load-at-spec : {M : Type 1} → statement M
+load-at-spec =
+    tie.close
+    (tie.spec
+    sector-of-requires
+    byte-requires
+    word-requires
+    byte-requires-2
+    byte-requires-3
+    kind-of-requires
+    enum-known-kind
+    returns
+    part-requires
+    join-requires
+    enum-told
+    enum-told-2
+    same-length
+    returns-2
+    returns-3
+    returns-4)

@@ -1,0 +1,193 @@
+-- `overwriting::overwrite_at` meets its contract: each refusal gives the number of the first test that was met; a place of a sound file is inside the image. Assumes nothing.
+use mathlib.Core.Path.{_≡_, refl, sym, ap, _∙_}
+use mathlib.Core.Bool.{false}
+use mathlib.Core.List.{List, [], _∷_}
+use Prim.Native.Nat.{ℕ, _+_, _-_, _*_, _≤_, _<_}
+use native.Mathlib.Omega.{arith}
+use lib.ListN.{length, getD}
+use borrow.Author.Tests.{eq-eqb, ne-eqb, le-leb, lt-leb}
+use Rattle.rules.specs.Bytes.{byteAt, wordAt, part, splice}
+use Rattle.rules.specs.Sectors.{sectorOf, written}
+use Rattle.rules.specs.Kind.{isProgram, isProtected}
+use Rattle.rules.specs.Descriptor.{statusOf, sectorsOf, chainOf}
+use Rattle.rules.specs.Chain.{places}
+use Rattle.rules.specs.Volume.{placesIn}
+use Rattle.rules.specs.Tests.{firstOf, unlessMet}
+use Rattle.rules.specs.Outcome.{write}
+use Rattle.rules.specs.Calls.Overwrite.{overwriteTests, overwriting}
+use Rattle.rules.proofs.Bytes.{part-length}
+use Rattle.rules.proofs.Splice.{put-back}
+use Rattle.rules.proofs.Status.{protected, unprotected, program, no-program}
+use Rattle.rules.proofs.Outcome.{refusal-meets, done-meets}
+use Rattle.rules.proofs.Opening.{in-volume, place-in-image}
+use borrow.Author.Needs.{needs}
+use Rattle.overwriting.proofs.overwrite_at.Statement.{statement}
+use Rattle.overwriting.proofs.overwrite_at.Tie as tie
+
+-- the ways back: to the descriptor, and from each test that was passed
+abbrev start : tie.After-sector-of → tie.Start
+start c = c .before .before .before .before
+
+abbrev start₂ : tie.Else2 → tie.Start
+start₂ c = start (c .before .before .before)
+
+abbrev start₃ : tie.Else3 → tie.Start
+start₃ c = start₂ (c .before .before)
+
+abbrev tested : tie.After-place-at → tie.Else4
+tested c = c .before .before
+
+abbrev start₄ : tie.After-place-at → tie.Start
+start₄ c = start₃ (tested c .before)
+
+-- what the tests so far say of the file
+status-is : (c : tie.After-byte) → c .byte .result ≡ statusOf (sectorOf (start (c .before) .args .image .now) (start (c .before) .args .k))
+status-is c = c .byte .ensures .0 ∙ ap (λ (s : List ℕ). byteAt s 12) (c .before .sector-of .ensures)
+
+open-file : (c : tie.Else1) → isProtected (statusOf (sectorOf (start (c .before .before) .args .image .now) (start (c .before .before) .args .k))) ≡ false
+open-file c = let a = start (c .before .before) .args in unprotected (sectorOf (a .image .now) (a .k)) _ (status-is (c .before)) (c .if1 .left)
+
+is-data : (c : tie.Else2) → isProgram (statusOf (sectorOf (start₂ c .args .image .now) (start₂ c .args .k))) ≡ false
+is-data c = let a = start₂ c .args in no-program (sectorOf (a .image .now) (a .k)) _ (status-is (c .before .before)) (c .if2 .left)
+
+count-is : (c : tie.After-word) → c .word .result ≡ sectorsOf (sectorOf (start₂ (c .before) .args .image .now) (start₂ (c .before) .args .k))
+count-is c = c .word .ensures .0 ∙ ap (λ (s : List ℕ). wordAt s 14) (c .before .before .before .before .sector-of .ensures)
+
+inside : (c : tie.Else3) → start₃ c .args .offset < sectorsOf (sectorOf (start₃ c .args .image .now) (start₃ c .args .k))
+inside c = omega (arith, count-is (c .before), c .if3 .left)
+
+place-is : (c : tie.After-place-at) →
+    let a = start₄ c .args in
+    c .place-at .result ≡ getD (placesIn (a .image .now) (a .k)) (a .offset) 0
+unfolding placesIn chainOf
+place-is c =
+    let d = tested c .before .before .before .before .before .before in
+    c .place-at .ensures .0 ∙ ap (λ (s : List ℕ). getD (places s) (start₄ c .args .offset) 0) (c .before .part .ensures ∙ ap (λ (s : List ℕ). part s 28 228) (d .sector-of .ensures))
+
+reaches : (c : tie.After-place-at) → 256 * c .place-at .result + 256 ≤ length (start₄ c .args .image .now)
+reaches c = omega (arith, place-is c, place-in-image (start₄ c .args .image .now) (start₄ c .args .k) (start₄ c .pre) (start₄ c .args .offset) (inside (tested c .before)))
+
+sector-of-requires : tie.Need-sector-of-requires
+sector-of-requires c κs = let pre = c .before .before .before .pre in omega (arith, in-volume _ _ pre, pre .sound .size)
+
+byte-requires : tie.Need-byte-requires
+byte-requires c κs = search needs
+
+same-length : tie.Need-same-length
+same-length c = search needs
+
+returns : tie.Need-returns
+unfolding overwriting overwriteTests firstOf unlessMet
+returns c =
+    let a = start (c .before .before) .args in
+    rw (protected (sectorOf (a .image .now) (a .k)) _ (status-is (c .before)) (c .if1 .taken)) (refusal-meets (a .image .now) _ 10 (λ z. omega arith) refl)
+
+same-length-2 : tie.Need-same-length-2
+same-length-2 c = search needs
+
+returns-2 : tie.Need-returns-2
+unfolding overwriting overwriteTests firstOf unlessMet
+returns-2 c =
+    let e = c .before in
+    let a = start (e .before .before) .args in
+    rw (open-file e, program (sectorOf (a .image .now) (a .k)) _ (status-is (e .before)) (c .if2 .taken)) (refusal-meets (a .image .now) _ 14 (λ z. omega arith) refl)
+
+word-requires : tie.Need-word-requires
+word-requires c κs = search needs
+
+same-length-3 : tie.Need-same-length-3
+same-length-3 c = search needs
+
+returns-3 : tie.Need-returns-3
+unfolding overwriting overwriteTests firstOf unlessMet
+returns-3 c =
+    let w = c .before in
+    let e = w .before in
+    let a = start₂ e .args in
+    rw (open-file (e .before), is-data e, le-leb (sectorsOf (sectorOf (a .image .now) (a .k))) (a .offset) (omega (arith, count-is w, c .if3 .taken))) (refusal-meets (a .image .now) _ 15 (λ z. omega arith) refl)
+
+same-length-4 : tie.Need-same-length-4
+same-length-4 c = search needs
+
+returns-4 : tie.Need-returns-4
+unfolding overwriting overwriteTests firstOf unlessMet
+returns-4 c =
+    let i = c .before in
+    let e = i .before .before in
+    let a = start₃ i .args in
+    rw (open-file (e .before), is-data e, lt-leb (sectorsOf (sectorOf (a .image .now) (a .k))) (a .offset) (inside i), ne-eqb _ _ (c .if4 .taken)) (refusal-meets (a .image .now) _ 15 (λ z. omega arith) refl)
+
+part-requires : tie.Need-part-requires
+part-requires c κs = search needs
+
+place-at-requires : tie.Need-place-at-requires
+place-at-requires c κs = search needs
+
+mul-at : tie.Need-mul-at
+mul-at c = search needs
+
+add-end : tie.Need-add-end
+add-end c = search needs
+
+sub-copy : tie.Need-sub-copy
+sub-copy c = search needs
+
+part-copy-start : tie.Need-part-copy-start
+part-copy-start c = search needs
+
+part-copy-end : tie.Need-part-copy-end
+part-copy-end c = omega (arith, reaches c)
+
+copy-requires : tie.Need-copy-requires
+copy-requires c κs =
+    let p = c .before .place-at .result in
+    let e : 256 * p + 256 - 256 * p ≡ 256 = omega arith in
+    rw e (part-length (start₄ (c .before) .args .image .now) (256 * p) 256 (reaches (c .before)) ∙ sym (tested (c .before) .if4 .left))
+
+same-length-5 : tie.Need-same-length-5
+same-length-5 c = search needs
+
+returns-5 : tie.Need-returns-5
+unfolding overwriting overwriteTests firstOf unlessMet written
+returns-5 c =
+    let q = c .before .before .before .before in
+    let t = tested q in
+    let i = t .before in
+    let d = i .before .before in
+    let a = start₄ q .args in
+    let p = q .place-at .result in
+    let e : 256 * p + 256 - 256 * p ≡ 256 = omega arith in
+    let meets = done-meets (a .image .now) _ (write (getD (placesIn (a .image .now) (a .k)) (a .offset) 0) (a .bytes .now) ∷ []) refl in
+    rw (open-file (d .before), is-data d, lt-leb (sectorsOf (sectorOf (a .image .now) (a .k))) (a .offset) (inside i), eq-eqb _ _ (t .if4 .left))
+    (record {
+      said = meets .said;
+      left =
+          rw (e, c .before .before .copy .ensures)
+          (put-back (a .image .now) (a .bytes .now) (256 * p) 256 (t .if4 .left) (reaches q) ∙ ap (λ (m : ℕ). splice (a .image .now) (256 * m) (a .bytes .now)) (place-is q));
+    })
+
+pub overwrite-at-spec : {M : Type 1} → statement M
+overwrite-at-spec =
+    tie.close
+    (tie.spec
+    sector-of-requires
+    byte-requires
+    same-length
+    returns
+    same-length-2
+    returns-2
+    word-requires
+    same-length-3
+    returns-3
+    same-length-4
+    returns-4
+    part-requires
+    place-at-requires
+    mul-at
+    add-end
+    sub-copy
+    part-copy-start
+    part-copy-end
+    copy-requires
+    same-length-5
+    returns-5)

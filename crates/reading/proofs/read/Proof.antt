@@ -1,0 +1,118 @@
+-- `reading::read` meets its contract: a case for each thing that the opener can say; of a file that is there, the number of the first test that was met. Assumes nothing.
+use mathlib.Core.Path.{_≡_, refl, sym, ap, _∙_}
+use Prim.Native.Nat.{_<_}
+use native.Mathlib.Omega.{arith}
+use lib.ListN.{length, getD}
+use borrow.Author.Tests.{le-leb, lt-leb, lt-ltb, le-ltb}
+use Rattle.rules.specs.Bytes.{splice}
+use Rattle.rules.specs.Sectors.{sectorOf}
+use Rattle.rules.specs.Descriptor.{sectorsOf, chainOf}
+use Rattle.rules.specs.Volume.{placesIn}
+use Rattle.rules.specs.Tests.{firstOf, unlessMet}
+use Rattle.rules.specs.Opening.{openOf}
+use Rattle.rules.specs.Calls.Read.{readTests, reading, readOf, ReadSays}
+use Rattle.rules.specs.declared.Opened.the-variants.{At}
+use Rattle.rules.proofs.Outcome.{read-refused, read-done}
+use Rattle.rules.proofs.Opening.{opened-is, open-refused, file-refused, file-absent, on-found}
+use borrow.Author.Needs.{needs}
+use Rattle.reading.proofs.read.Statement.{statement}
+use Rattle.reading.proofs.read.Tie as tie
+
+-- the ways back: to the opening, to the file, and from the count of its sectors
+abbrev start : tie.After-find → tie.Start
+start c = c .before .before .before .before
+
+abbrev start₂ : tie.After-opened2 → tie.Start
+start₂ c = start (c .before .before)
+
+abbrev file : tie.After-word → tie.After-opened2
+file c = c .before .before .before
+
+found : (c : tie.After-opened2) → openOf (start₂ c .args .image .now) (start₂ c .args .name .now) ≡ At (c .opened2 .given .0 .0) (c .opened2 .given .0 .1 .0)
+found c = sym (c .before .before .find .ensures) ∙ c .opened2 .given .1
+
+count-is : (c : tie.After-word) → sectorsOf (sectorOf (start₂ (file c) .args .image .now) (file c .opened2 .given .0 .1 .0)) ≡ c .word .result
+count-is c = rw (← c .before .sector-of .ensures) (sym (c .word .ensures .0))
+
+inside : (c : tie.Else1) → start₂ (file (c .before)) .args .offset < sectorsOf (sectorOf (start₂ (file (c .before)) .args .image .now) (file (c .before) .opened2 .given .0 .1 .0))
+inside c = omega (arith, count-is (c .before), c .if1 .left)
+
+sector-of-requires : tie.Need-sector-of-requires
+sector-of-requires c κs =
+    let is = opened-is _ _ _ _ (found (c .before)) in
+    omega (arith, is .low, is .whole .size)
+
+returns : tie.Need-returns
+unfolding readOf reading readTests firstOf unlessMet
+returns c =
+    let w = c .before in
+    let o = file w in
+    let a = start₂ o .args in
+    on-found _ _ _ ReadSays _ _ (found o) _ _
+    (rw (le-leb (sectorsOf (sectorOf (a .image .now) (o .opened2 .given .0 .1 .0))) (a .offset) (omega (arith, count-is w, c .if1 .taken))) (read-refused (a .out .now) _ 15 (λ z. omega arith) refl))
+
+returns-2 : tie.Need-returns-2
+unfolding readOf reading readTests firstOf unlessMet
+returns-2 c =
+    let l = c .before in
+    let o = file (l .before) in
+    let a = start₂ o .args in
+    on-found _ _ _ ReadSays _ _ (found o) _ _
+    (rw (lt-leb (sectorsOf (sectorOf (a .image .now) (o .opened2 .given .0 .1 .0))) (a .offset) (inside l), lt-ltb (length (a .out .now)) 256 (c .if2 .taken)) (read-refused (a .out .now) _ 15 (λ z. omega arith) refl))
+
+returns-3 : tie.Need-returns-3
+unfolding readOf
+returns-3 c =
+    let o = c .before in
+    let f = o .before .before in
+    let e = sym (f .find .ensures) ∙ o .opened .given .1 in
+    file-refused (start f .args .out .now) _ _ _ e (open-refused _ _ _ e)
+
+returns-4 : tie.Need-returns-4
+unfolding readOf
+returns-4 c =
+    let f = c .before .before in
+    file-absent (start f .args .out .now) _ _ (sym (f .find .ensures) ∙ c .enum-told .given .1)
+
+returns-5 : tie.Need-returns-5
+unfolding readOf reading readTests firstOf unlessMet placesIn chainOf
+returns-5 c =
+    let y = c .before .before in
+    let s2 = y .before in
+    let p = s2 .before .before in
+    let t = p .before in
+    let r = t .before in
+    let l = r .before in
+    let w = l .before in
+    let s = w .before in
+    let o = file w in
+    let a = start₂ o .args in
+    let k = o .opened2 .given .0 .1 .0 in
+    let given = read-done (a .out .now) _ 0 (sectorOf (a .image .now) (getD (placesIn (a .image .now) k) (a .offset) 0)) refl in
+    on-found _ _ _ ReadSays _ _ (found o) _ _
+    (rw (lt-leb (sectorsOf (sectorOf (a .image .now) k)) (a .offset) (inside l), le-ltb (length (a .out .now)) 256 (r .if2 .left))
+    (record {
+      said = given .said;
+      left = y .lay .ensures ∙ ap (splice (a .out .now) 0) (s2 .sector-of2 .ensures ∙ rw (p .place-at .ensures .0, t .part .ensures, s .sector-of .ensures));
+    }))
+
+pub read-spec : {M : Type 1} → statement M
+read-spec =
+    tie.close
+    (tie.spec
+    (λ c κs. search needs)
+    (λ c. search needs)
+    (λ c. search needs)
+    (λ c. search needs)
+    sector-of-requires
+    (λ c κs. search needs)
+    returns
+    returns-2
+    (λ c κs. search needs)
+    (λ c κs. search needs)
+    (λ c κs. search needs)
+    (λ c κs. search needs)
+    returns-3
+    returns-4
+    (λ c. search needs)
+    returns-5)

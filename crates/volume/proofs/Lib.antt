@@ -1,3 +1,0 @@
--- The laws of the counts and of an entry.
-mod CountLaws
-mod EntryLaws
