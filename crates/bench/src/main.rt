@@ -6,8 +6,8 @@
 // answer is whether its lines could be written.
 use appending::append;
 use creating::create;
-use descriptor::chain::place_at;
 use deleting::delete;
+use descriptor::chain::place_at;
 use formatting::format::Geometry;
 use formatting::format::format;
 use judge::judge;

@@ -4,6 +4,7 @@ ghost use mathlib.Core.Path.{_≡_};
 ghost use lib.ListN.{length};
 ghost use Rattle.rules.specs.Outcome.{Gives};
 ghost use Rattle.rules.specs.Calls.Entry.{noRow, entryOf, entryRow, EntrySays};
+
 mod row;
 
 use row::no_row;

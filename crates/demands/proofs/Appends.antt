@@ -1,7 +1,6 @@
 -- Append: the sector taken was free, so it is nobody's, and the three writes are to different sectors. The descriptor with the longer chain keeps its rules, its places
 -- are the old ones and the new one behind them, and its header changes in the number of sectors alone.
 use mathlib.Core.Path.{_≡_, sym, ap, _∙_}
-use mathlib.Core.Bool.{false}
 use mathlib.Core.List.{List, [], _∷_, _++_, map, map-append}
 use Prim.Native.Nat.{ℕ, _+_, _-_, _≤_, _<_}
 use native.Mathlib.Omega.{arith}
@@ -11,22 +10,20 @@ use Rattle.rules.specs.Bytes.{wordBytes, splice}
 use Rattle.rules.specs.Sectors.{Write, sectorOf, sectorCount, written}
 use Rattle.rules.specs.Map.{count, freeCount, marked, markedAll}
 use Rattle.rules.specs.Chain.{places}
-use Rattle.rules.specs.Kind.{isProgram}
-use Rattle.rules.specs.Descriptor.{nameOf, statusOf, sectorsOf, chainOf, IsDescriptor}
+use Rattle.rules.specs.Descriptor.{nameOf, sectorsOf, chainOf, IsDescriptor}
 use Rattle.rules.specs.Volume.{files, nameIn, placesIn, fileHolders, holders, headerIn, contentsIn, fileIn, catalogue}
 use Rattle.rules.specs.Choice.{dataChoice}
-use Rattle.rules.specs.Outcome.{write, done}
+use Rattle.rules.specs.Outcome.{write}
 use Rattle.rules.specs.Tests.{Passed}
 use Rattle.rules.specs.Opening.{openOf}
-use Rattle.rules.specs.Calls.Append.{longerBlocks, appendTests, appending, appendOf}
+use Rattle.rules.specs.Calls.Append.{longerBlocks, appendTests, appendWrites, appending, appendOf}
 use Rattle.rules.proofs.Extended.{with-chain-length, sectors-few}
 use Rattle.rules.proofs.Map.{count-here, count-more, only-one, one-once}
 use Rattle.rules.proofs.Volume.{places-count}
 use Rattle.rules.proofs.Marking.{marked-length}
 use Rattle.rules.proofs.Longer.{longer-blocks, longer-descriptor, longer-name, longer-header, longer-places, longer-rules}
 use Rattle.rules.proofs.Choice.{Chosen, sound-fenced, data-choice-free}
-use Rattle.rules.proofs.Tests.{all-passed}
-use Rattle.rules.proofs.Outcome.{tested-done}
+use Rattle.rules.proofs.Tests.{all-passed, unless-passed}
 use Rattle.rules.proofs.Opening.{IsOpened, opened-is, open-refused, changed-done}
 use Rattle.rules.proofs.Written.{Whole, written-length, Apart, written-apart, written-at}
 use Rattle.rules.proofs.Listed.{label-long, sector-inside, held-inside, opened-listed}
@@ -37,35 +34,6 @@ use Rattle.demands.specs.Call.{append}
 use Rattle.demands.specs.Ours.{outcome}
 use Rattle.demands.specs.Effects.{effect, Done, longer, Does}
 use Rattle.demands.proofs.Replacing.{altered-done}
-
--- the sector that is taken, and the writes
-abbrev taken-sector : List ℕ → ℕ
-taken-sector image = dataChoice (sectorOf image 0)
-
-abbrev writes-of : List ℕ → List ℕ → ℕ → List Write
-writes-of image bytes k =
-    write (taken-sector image) bytes
-    ∷ (write 0 (marked 1 (sectorOf image 0) (taken-sector image)) ∷ (write k (longer-descriptor (sectorOf image k) (taken-sector image)) ∷ []))
-
--- number 0: which tests were passed
-record Appended (image bytes : List ℕ) (k : ℕ) : Type 0 where
-  records : isProgram (statusOf (sectorOf image k)) ≡ false
-  long : length bytes ≡ 256
-  room : 1 ≤ freeCount (sectorOf image 0)
-  few : length (longer-blocks (sectorOf image k) (taken-sector image)) ≤ 76
-  is : appending image bytes k ≡ done (writes-of image bytes k)
-
-append-facts : (image bytes : List ℕ) (k : ℕ) → appending image bytes k .number ≡ 0 → Appended image bytes k
-unfolding appending appendTests longerBlocks Passed
-append-facts image bytes k e =
-    let passed = all-passed (appendTests image bytes k) e in
-    record {
-      records = passed .1 .0;
-      long = eqb-true (length bytes) 256 (not-false _ (passed .1 .1 .0));
-      room = ltb-false (freeCount (sectorOf image 0)) 1 (passed .1 .1 .1 .0);
-      few = ltb-false 76 (length (longer-blocks (sectorOf image k) (taken-sector image))) (passed .1 .1 .1 .1 .0);
-      is = tested-done (appendTests image bytes k) (writes-of image bytes k) e;
-    }
 
 -- The three writes, with a free sector `new` and a descriptor `d` for the file at sector k.
 module _ (image name : List ℕ) (p k : ℕ) (o : IsOpened image name p k) (bytes : List ℕ) (long : length bytes ≡ 256)
@@ -169,26 +137,29 @@ module _ (image name : List ℕ) (p k : ℕ) (o : IsOpened image name p k) (byte
     unfolding longer fileIn headerIn
     appended-done header = altered-done image after name k (new ∷ []) altered (o .named) (longer bytes) (rw (many, descriptor-now, header, contents-now))
 
-appending-done : (image name bytes : List ℕ) (p k : ℕ) → IsOpened image name p k → Appended image bytes k
-    → Done image (written image (writes-of image bytes k)) name (effect (changed name (longer bytes) (catalogue image)) 1 0)
-unfolding nameIn placesIn
-appending-done image name bytes p k o a =
+appending-done : (image name bytes : List ℕ) (p k : ℕ) → IsOpened image name p k → Passed (appendTests image bytes k)
+    → Done image (written image (appendWrites image bytes k)) name (effect (changed name (longer bytes) (catalogue image)) 1 0)
+unfolding nameIn placesIn appendTests appendWrites longerBlocks Passed
+appending-done image name bytes p k o passed =
     let n = sectorCount image in
     let d = sectorOf image k in
-    let new = taken-sector image in
-    let chosen = data-choice-free n (sectorOf image 0) (sound-fenced image (o .whole)) (a .room) in
+    let new = dataChoice (sectorOf image 0) in
+    let chosen = data-choice-free n (sectorOf image 0) (sound-fenced image (o .whole)) (ltb-false (freeCount (sectorOf image 0)) 1 (passed .1 .1 .1 .0)) in
     let short : sectorsOf d ≤ 1600 = rw (o .is) at (sectors-few image p (o .whole) (o .inside)) in
     let small = o .whole .size .1 in
-    appended-done image name p k o bytes (a .long) new chosen (longer-descriptor d new)
+    let few = ltb-false 76 (length (longer-blocks d new)) (passed .1 .1 .1 .1 .0) in
+    appended-done image name p k o bytes (eqb-true (length bytes) 256 (not-false _ (passed .1 .1 .0))) new chosen (longer-descriptor d new)
     (with-chain-length d (sectorsOf d + 1) (longer-blocks d new) ∙ o .long)
-    (longer-rules n d new (o .long) (o .descriptor) small short (chosen .from) (chosen .inside) (a .records) (a .few))
+    (longer-rules n d new (o .long) (o .descriptor) small short (chosen .from) (chosen .inside) (passed .1 .0) few)
     (longer-name d new)
-    (longer-places n d new (o .long) (o .descriptor) small short (chosen .from) (chosen .inside) (a .records) (a .few))
+    (longer-places n d new (o .long) (o .descriptor) small short (chosen .from) (chosen .inside) (passed .1 .0) few)
     (longer-header d new)
 
 pub appends : (bytes : List ℕ) → Does (append bytes)
-unfolding outcome appendOf
+unfolding outcome appendOf appending
 appends bytes image name e =
     let c = changed-done (openOf image name) (appending image bytes) (open-refused image name) e in
-    let a = append-facts image bytes (c .sector) (c .number) in
-    rw (c .is, a .is) (appending-done image name bytes (c .place) (c .sector) (opened-is image name (c .place) (c .sector) (c .found-at)) a)
+    let k = c .sector in
+    let tests = appendTests image bytes k in
+    rw (c .is, unless-passed tests (appendWrites image bytes k) [] (c .number))
+    (appending-done image name bytes (c .place) k (opened-is image name (c .place) k (c .found-at)) (all-passed tests (c .number)))

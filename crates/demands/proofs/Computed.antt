@@ -26,7 +26,7 @@ use Rattle.rules.specs.Tests.{firstOf, unlessMet}
 use Rattle.rules.specs.Opening.{findIn, opening, nameTests, openOf, changing, adding}
 use Rattle.rules.specs.Calls.Format.{newLabel, formatted}
 use Rattle.rules.specs.Calls.Create.{createStatus, entered, createTests, creating, createOf}
-use Rattle.rules.specs.Calls.Append.{longerBlocks, appendTests, appending, appendOf}
+use Rattle.rules.specs.Calls.Append.{longerBlocks, appendTests, appendWrites, appending, appendOf}
 use Rattle.rules.specs.Calls.Store.{dataWrites, newSectors, newBlocks, storeTests, storing, storeOf}
 use Rattle.rules.specs.Calls.Listing.{digits, decimal, unpadded, kindWord, kindLength, diskLine, fileLine, fileLines, listingText}
 use Rattle.rules.proofs.Tests.{both}
@@ -77,7 +77,7 @@ passed m e =
     }
 
 all-pass : tests caseM ≡ true
-unfolding headerIn contentsIn fileIn catalogue joined labelArea oneBlock packedDescriptor packedDescriptors packedData dataSectors packedSectors packed same holds tableOf caseM over splice allAre withBit sectorOf written nameByte padded nameRule precedes labelRule mapBit count taken bitsRule mapRule byteOf bytesOf mapOf zeroBits freeCount marked markedAll blockBytes blockOf endsChain blocks blocksRule chainRule run placesFrom places extended extendedAll blocksBytes statusRule programLength kindOf kindRule nameOf chainOf fileKind descriptorRule newDescriptor withChain numbers rangeRule indexRule numbersBytes indexOf without files nameIn placesIn fileHolders holders placed sizeRule descriptorsRule heldTwice volumeTests verdict firstOf unlessMet lowestFree descriptorChoice dataChoice dataChoices findIn opening nameTests openOf changing adding newLabel formatted createStatus entered createTests creating createOf longerBlocks appendTests appending appendOf dataWrites newSectors newBlocks storeTests storing storeOf digits decimal unpadded kindWord kindLength diskLine fileLine fileLines listingText fileName named tests ready
+unfolding headerIn contentsIn fileIn catalogue joined labelArea oneBlock packedDescriptor packedDescriptors packedData dataSectors packedSectors packed same holds tableOf caseM over splice allAre withBit sectorOf written nameByte padded nameRule precedes labelRule mapBit count taken bitsRule mapRule byteOf bytesOf mapOf zeroBits freeCount marked markedAll blockBytes blockOf endsChain blocks blocksRule chainRule run placesFrom places extended extendedAll blocksBytes statusRule programLength kindOf kindRule nameOf chainOf fileKind descriptorRule newDescriptor withChain numbers rangeRule indexRule numbersBytes indexOf without files nameIn placesIn fileHolders holders placed sizeRule descriptorsRule heldTwice volumeTests verdict firstOf unlessMet lowestFree descriptorChoice dataChoice dataChoices findIn opening nameTests openOf changing adding newLabel formatted createStatus entered createTests creating createOf longerBlocks appendTests appendWrites appending appendOf dataWrites newSectors newBlocks storeTests storing storeOf digits decimal unpadded kindWord kindLength diskLine fileLine fileLines listingText fileName named tests ready
 all-pass = refl
 
 pub computed : Passed caseM

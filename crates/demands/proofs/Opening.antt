@@ -53,7 +53,7 @@ module _ (tests : List Test) (image name : List ℕ) (gs : List {1} Ground) (dec
       → (firstOf tests ≡ 0 → (o : Opened) → opening tests image name ≡ o → findIn image name 0 (files image) ≡ o → First (result o) (next ∷ more))
       → First (result (opening tests image name)) (gs ++ (next ∷ more))
   searched next search =
-      first-after tests gs (next ∷ more) (result (opening tests image name)) decided (λ some. rw (opening-met tests image name some) (refused (firstOf tests)))
+      first-after tests gs (next ∷ more) (result (opening tests image name)) decided (λ some. rw (opening-met tests image name (firstOf tests) refl some) (refused (firstOf tests)))
       (λ zero. search zero (opening tests image name) refl (sym (opening-passed tests image name zero)))
 
   -- 8: the name is not found

@@ -10,14 +10,13 @@ use Rattle.rules.specs.Sectors.{sectorOf, sectorCount, written}
 use Rattle.rules.specs.Map.{count}
 use Rattle.rules.specs.Descriptor.{nameOf, sectorsOf}
 use Rattle.rules.specs.Volume.{files, nameIn, placesIn, headerIn, contentsIn, fileIn, catalogue}
-use Rattle.rules.specs.Outcome.{write, done}
+use Rattle.rules.specs.Outcome.{write}
 use Rattle.rules.specs.Tests.{Passed}
 use Rattle.rules.specs.Opening.{openOf}
 use Rattle.rules.specs.Calls.Overwrite.{overwriteTests, overwriting, overwriteOf}
 use Rattle.rules.proofs.Map.{count-more, count-at}
 use Rattle.rules.proofs.Volume.{places-count}
-use Rattle.rules.proofs.Tests.{all-passed}
-use Rattle.rules.proofs.Outcome.{tested-done}
+use Rattle.rules.proofs.Tests.{all-passed, unless-passed}
 use Rattle.rules.proofs.Opening.{IsOpened, opened-is, open-refused, changed-done}
 use Rattle.rules.proofs.Kept.{places-kept, map-changed}
 use Rattle.rules.proofs.Written.{sector-other}
@@ -28,17 +27,6 @@ use Rattle.demands.specs.Call.{overwrite}
 use Rattle.demands.specs.Ours.{outcome}
 use Rattle.demands.specs.Effects.{effect, Done, overwritten, Does}
 use Rattle.demands.proofs.Replacing.{altered-done}
-
--- number 0: which tests were passed
-over-facts : (image bytes : List ℕ) (offset k : ℕ) → overwriting image offset bytes k .number ≡ 0
-    → (offset < sectorsOf (sectorOf image k)) × (length bytes ≡ 256) × (overwriting image offset bytes k ≡ done (write (getD (placesIn image k) offset 0) bytes ∷ []))
-unfolding overwriting overwriteTests Passed
-over-facts image bytes offset k e =
-    let passed = all-passed (overwriteTests image offset bytes k) e in (
-      leb-false (sectorsOf (sectorOf image k)) offset (passed .1 .1 .0),
-      eqb-true (length bytes) 256 (not-false _ (passed .1 .1 .1 .0)),
-      tested-done (overwriteTests image offset bytes k) _ e,
-    )
 
 -- the call on the file at sector k
 module _ (image name : List ℕ) (p k : ℕ) (o : IsOpened image name p k) (offset : ℕ) (bytes : List ℕ) (inside : offset < sectorsOf (sectorOf image k)) (long : length bytes ≡ 256) where
@@ -83,8 +71,12 @@ module _ (image name : List ℕ) (p k : ℕ) (o : IsOpened image name p k) (offs
       (o .named) (overwritten offset bytes) file-now
 
 pub overwrites : (offset : ℕ) (bytes : List ℕ) → Does (overwrite offset bytes)
-unfolding outcome overwriteOf written
+unfolding outcome overwriteOf overwriting overwriteTests Passed written
 overwrites offset bytes image name e =
     let c = changed-done (openOf image name) (overwriting image offset bytes) (open-refused image name) e in
-    let all = over-facts image bytes offset (c .sector) (c .number) in
-    rw (c .is, all .2) (overwritten-done image name (c .place) (c .sector) (opened-is image name (c .place) (c .sector) (c .found-at)) offset bytes (all .0) (all .1))
+    let k = c .sector in
+    let tests = overwriteTests image offset bytes k in
+    let passed = all-passed tests (c .number) in
+    rw (c .is, unless-passed tests (write (getD (placesIn image k) offset 0) bytes ∷ []) [] (c .number))
+    (overwritten-done image name (c .place) k (opened-is image name (c .place) k (c .found-at)) offset bytes (leb-false (sectorsOf (sectorOf image k)) offset (passed .1 .1 .0))
+    (eqb-true (length bytes) 256 (not-false _ (passed .1 .1 .1 .0))))

@@ -17,7 +17,7 @@ use Rattle.rules.specs.Descriptor.{nameOf, chainOf, IsDescriptor}
 use Rattle.rules.specs.Index.{indexOf, without}
 use Rattle.rules.specs.Volume.{files, nameIn, placesIn, placed, headerIn, contentsIn, fileIn, catalogue}
 use Rattle.rules.specs.Sound.{Sound}
-use Rattle.rules.specs.Tests.{refuse, firstOf, unlessMet, Passed}
+use Rattle.rules.specs.Tests.{refuse, firstOf, Passed}
 use Rattle.rules.specs.Outcome.{write, tested}
 use Rattle.rules.specs.Opening.{findIn, opening, nameTests, changing}
 use Rattle.rules.specs.Calls.Rename.{renameTests, renaming, namesTests, renameOf}
@@ -29,7 +29,7 @@ use Rattle.rules.proofs.Descriptor.{chain-same, front-changed}
 use Rattle.rules.proofs.Map.{count-here, count-more}
 use Rattle.rules.proofs.Indexed.{without-length, placed-length, index-length}
 use Rattle.rules.proofs.Kept.{map-agree}
-use Rattle.rules.proofs.Opening.{name-passed, opening-met, opened-by, refused-by, unfound, changed-done, added-done, place-many}
+use Rattle.rules.proofs.Opening.{name-passed, opening-met, find-looks, opened-by, refused-by, unfound, changed-done, added-done, place-many}
 use Rattle.rules.proofs.Written.{Whole, written-length, Apart, written-apart, written-at}
 use Rattle.rules.proofs.Listed.{sector-inside, listed-range, listed-descriptor, rest-apart, opened-listed}
 use Rattle.rules.proofs.Replaced.{at, Replaced, stayed, index-anew, same-mapped, own-inside, place-other}
@@ -145,7 +145,7 @@ names-passed image old new e =
 -- number 0: the old name is found and the new one is not, and the file is not protected
 ruled-done : (image old new : List ℕ) → firstOf (namesTests image old new) ≡ 0 → renameOf image old new .number ≡ 0
     → Done image (written image (renameOf image old new .writes)) old (effect (putIn (renamed new (named old (catalogue image))) (takenOut old (catalogue image))) 0 0)
-unfolding renameOf renaming opening unlessMet firstOf
+unfolding renameOf renaming
 ruled-done image old new ruled-by e =
     let tests = namesTests image old new in
     let ruled = names-passed image old new ruled-by in
@@ -153,7 +153,7 @@ ruled-done image old new ruled-by e =
     let k = was .sector in
     let opened = opened-by tests image old (λ z. ruled .0) (was .place) k (was .found-at) in
     let there = opened-listed image old (was .place) k opened in
-    let added = added-done (findIn image new 0 (files image)) (tested (renameTests image k) (renamings image new k)) (λ number found. refused-by [] image new number found .1) (was .number) in
+    let added = added-done (findIn image new 0 (files image)) (tested (renameTests image k) (renamings image new k)) (λ number found. absurd (find-looks image new 0 (files image) number found)) (was .number) in
     rw (was .is, added .is, unless-passed (renameTests image k) (renamings image new k) [] (added .number))
     (renamed-done image old new k (opened .whole) there (opened .named) (name-is new (ruled .1)) (unfound image new 0 (files image) (added .absent)))
 
@@ -162,5 +162,5 @@ unfolding outcome renameOf changing
 renames new image old e =
     elim (ℕ-discrete (firstOf (namesTests image old new)) 0) [
       | yes none ↦ ruled-done image old new none e
-      | no some ↦ absurd (some (rw (opening-met (namesTests image old new) image old some) at e))
+      | no some ↦ absurd (some (rw (opening-met (namesTests image old new) image old (firstOf (namesTests image old new)) refl some) at e))
     ]
