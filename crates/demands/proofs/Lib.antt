@@ -10,10 +10,9 @@ pub mod Protects
 pub mod Overwrites
 pub mod Appends
 mod NewFile
-mod Entered
+mod Pieces
 mod Entering
 pub mod Creates
-mod Pieces
 pub mod Stores
 pub mod Deletes
 pub mod Renames

@@ -21,7 +21,7 @@ use Rattle.rules.proofs.Opening.{IsOpened, opened-is, open-refused, changed-don
 use Rattle.rules.proofs.Kept.{places-kept, map-changed}
 use Rattle.rules.proofs.Written.{sector-other}
 use Rattle.rules.proofs.Listed.{opened-listed}
-use Rattle.rules.proofs.Replaced.{own-once, place-other, own-here, own-altered}
+use Rattle.rules.proofs.Altered.{own-once, place-other, own-here, own-altered}
 use Rattle.demands.specs.Catalogue.{changed}
 use Rattle.demands.specs.Call.{overwrite}
 use Rattle.demands.specs.Ours.{outcome}

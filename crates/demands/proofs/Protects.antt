@@ -25,7 +25,7 @@ use Rattle.demands.specs.Ours.{outcome}
 use Rattle.demands.specs.Effects.{effect, Done, withProtection, Does}
 use Rattle.rules.proofs.Written.{sector-other}
 use Rattle.rules.proofs.Listed.{opened-listed}
-use Rattle.rules.proofs.Replaced.{place-other, own-here, own-altered}
+use Rattle.rules.proofs.Altered.{place-other, own-here, own-altered}
 use Rattle.demands.proofs.Replacing.{altered-done}
 
 -- a status with that bit changed

@@ -32,7 +32,8 @@ use Rattle.rules.proofs.Kept.{map-agree}
 use Rattle.rules.proofs.Opening.{name-passed, opening-met, find-looks, opened-by, refused-by, unfound, changed-done, added-done, place-many}
 use Rattle.rules.proofs.Written.{Whole, written-length, Apart, written-apart, written-at}
 use Rattle.rules.proofs.Listed.{sector-inside, listed-range, listed-descriptor, rest-apart, opened-listed}
-use Rattle.rules.proofs.Replaced.{at, Replaced, stayed, index-anew, same-mapped, own-inside, place-other}
+use Rattle.rules.proofs.Replaced.{at, Replaced, stayed, index-anew, same-mapped}
+use Rattle.rules.proofs.Altered.{own-inside, place-other}
 use Rattle.demands.specs.Catalogue.{putIn, takenOut, named}
 use Rattle.demands.specs.Call.{rename}
 use Rattle.demands.specs.Ours.{outcome}

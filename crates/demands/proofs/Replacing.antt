@@ -11,7 +11,8 @@ use Rattle.rules.proofs.Map.{count-other, count-more}
 use Rattle.rules.proofs.Indexed.{without-count, placed-count}
 use Rattle.rules.proofs.Kept.{files-kept}
 use Rattle.rules.proofs.Listed.{listed-name}
-use Rattle.rules.proofs.Replaced.{Slot, none, at, staying, coming, held, IsListed, IsNew, Replaced, descriptor-stands, sector-stands, name-stands, file-stands, sound-after, free-after, Altered, files-same, altered}
+use Rattle.rules.proofs.Replaced.{Slot, none, at, staying, coming, held, IsListed, IsNew, Replaced, descriptor-stands, sector-stands, name-stands, file-stands, sound-after, free-after}
+use Rattle.rules.proofs.Altered.{Altered, files-same, altered}
 use Rattle.demands.specs.Catalogue.{putIn, takenOut, changed}
 use Rattle.demands.specs.Effects.{Kept, effect, Done}
 use Rattle.demands.proofs.Putting.{file-name, placed-files}

@@ -24,6 +24,7 @@ pub mod Longer
 pub mod Marking
 pub mod Choice
 pub mod Replaced
+pub mod Altered
 pub mod Outcome
 pub mod Opening
 pub mod Formatted
