@@ -16,7 +16,7 @@ use Rattle.rules.specs.declared.Opened.{Opened}
 use Rattle.rules.specs.declared.Opened.the-variants.{At, Absent, Refused}
 use Rattle.rules.proofs.Name.{name-is, is-name}
 use Rattle.rules.proofs.Opening.{IsOpened, opening-passed, opening-met, opened-by, refused-by, unfound}
-use Rattle.demands.specs.Grounds.{Ground, First, faults, Has, Present}
+use Rattle.demands.specs.Grounds.{Ground, ground, First, faults, Has, Present}
 use Rattle.rules.proofs.Listed.{listed-name, opened-listed}
 use Rattle.demands.proofs.Deciding.{Decides, Decide, first-after, decide-both, broken}
 use Rattle.demands.proofs.Faults.{faults-decided}
@@ -40,7 +40,7 @@ module _ (image name : List ℕ) (p k : ℕ) (o : IsOpened image name p k) (hold
 
 -- 7: of the name that a call takes
 abbrev pub unnamed : List ℕ → Ground
-unnamed name = record { number = 7; there = IsName name → ⊥ }
+unnamed name = ground 7 (IsName name → ⊥)
 
 pub name-decided : (image name : List ℕ) → Decide (nameTests image name) (faults image ++ (unnamed name ∷ []))
 unfolding nameTests Decide
@@ -58,11 +58,11 @@ module _ (tests : List Test) (image name : List ℕ) (gs : List {1} Ground) (dec
 
   -- 8: the name is not found
   pub absent-first : result Absent ≡ 8 → (firstOf tests ≡ 0 → (p k : ℕ) → IsOpened image name p k → First (result (At p k)) more)
-      → First (result (opening tests image name)) (gs ++ (record { number = 8; there = Present image name → ⊥ } ∷ more))
+      → First (result (opening tests image name)) (gs ++ (ground 8 (Present image name → ⊥) ∷ more))
   unfolding First
   absent-first eight found = searched _ go
     where
-      go : firstOf tests ≡ 0 → (o : Opened) → opening tests image name ≡ o → findIn image name 0 (files image) ≡ o → First (result o) (record { number = 8; there = Present image name → ⊥ } ∷ more)
+      go : firstOf tests ≡ 0 → (o : Opened) → opening tests image name ≡ o → findIn image name 0 (files image) ≡ o → First (result o) (ground 8 (Present image name → ⊥) ∷ more)
       go zero (At p k) e is =
           let o = opened-by tests image name ruled p k e in
           inr ((λ absent. absent (found-has image name p k o (λ j. Unit {0}) tt)), found zero p k o)
@@ -71,11 +71,11 @@ module _ (tests : List Test) (image name : List ℕ) (gs : List {1} Ground) (dec
 
   -- 9: the name is found
   pub present-first : ((p k : ℕ) → result (At p k) ≡ 9) → First (result Absent) more
-      → First (result (opening tests image name)) (gs ++ (record { number = 9; there = Present image name } ∷ more))
+      → First (result (opening tests image name)) (gs ++ (ground 9 (Present image name) ∷ more))
   unfolding First
   present-first nine absent = searched _ go
     where
-      go : firstOf tests ≡ 0 → (o : Opened) → opening tests image name ≡ o → findIn image name 0 (files image) ≡ o → First (result o) (record { number = 9; there = Present image name } ∷ more)
+      go : firstOf tests ≡ 0 → (o : Opened) → opening tests image name ≡ o → findIn image name 0 (files image) ≡ o → First (result o) (ground 9 (Present image name) ∷ more)
       go zero (At p k) e is =
           let o = opened-by tests image name ruled p k e in
           inl (found-has image name p k o (λ j. Unit {0}) tt, nine p k)

@@ -27,7 +27,7 @@ use Rattle.rules.proofs.Verdict.{passes}
 use Rattle.rules.proofs.Free.{free-holders}
 use Rattle.rules.proofs.Formatted.{label-length, formatted-sector0}
 use Rattle.rules.proofs.Outcome.{reported-given}
-use Rattle.demands.specs.Effects.{Kept, Does, Loads}
+use Rattle.demands.specs.Effects.{Kept, Does, LoadGives}
 use Rattle.demands.specs.Formatting.{EmptyVolume, FormatCall}
 use Rattle.demands.specs.Call as call
 use Rattle.demands.specs.Call.{Form, answerNumber, numberIn, Look, Change, Call, lent, numberOf, run}
@@ -152,7 +152,7 @@ means (call.format n name geometry) image is e = formats n name geometry image e
 
 loads : (name bytes image : List ℕ) → Sound image →
     let c = call.change name (call.store bytes) in
-    numberOf ours c image ≡ 0 → Loads (ours c image .image) name bytes
+    numberOf ours c image ≡ 0 → LoadGives (ours c image .image) name bytes
 unfolding ours outcome
 loads name bytes image is e = stored-loads image name bytes (sym (answer-number (outcome (call.store bytes) image name .number)) ∙ e)
 

@@ -30,7 +30,7 @@ use Rattle.rules.proofs.Opening.{IsOpened, name-passed}
 use Rattle.demands.specs.Call as call
 use Rattle.demands.specs.Call.{Form, numberIn, Look, Change, Call, numberOf}
 use Rattle.demands.specs.Ours.{seen, outcome, ours}
-use Rattle.demands.specs.Grounds.{Ground, First, faults, lookGrounds, changeGrounds, grounds, isProtected, Has, Present}
+use Rattle.demands.specs.Grounds.{Ground, ground, First, faults, lookGrounds, changeGrounds, grounds, isProtected, Has, Present}
 use Rattle.demands.proofs.Plain.{answer-number, amount-number, summary-number}
 use Rattle.demands.proofs.Deciding.{Decide, first-after, first-ground, decide-both, broken, equal, unequal, below, at-most}
 use Rattle.demands.proofs.Faults.{sized-is, is-sized, faults-decided}
@@ -46,23 +46,23 @@ volume-first image tests gs decided = first-ground (volumeTests image ++ tests) 
 module _ (image name : List ℕ) (more : List {1} Ground) where
   file-first : (result : Opened → ℕ) → ((number : ℕ) → result (Refused number) ≡ number) → result Absent ≡ 8
       → ((p k : ℕ) → IsOpened image name p k → First (result (At p k)) more)
-      → First (result (openOf image name)) (faults image ++ (unnamed name ∷ (record { number = 8; there = Present image name → ⊥ } ∷ more)))
+      → First (result (openOf image name)) (faults image ++ (unnamed name ∷ (ground 8 (Present image name → ⊥) ∷ more)))
   unfolding openOf faults
   file-first result refused eight found =
       absent-first (nameTests image name) image name _ (name-decided image name) (name-passed image name) result refused more eight (λ zero. found)
 
   changing-first : (act : ℕ → Outcome) → ((p k : ℕ) → IsOpened image name p k → First (act k .number) more)
-      → First (changing (openOf image name) act .number) (faults image ++ (unnamed name ∷ (record { number = 8; there = Present image name → ⊥ } ∷ more)))
+      → First (changing (openOf image name) act .number) (faults image ++ (unnamed name ∷ (ground 8 (Present image name → ⊥) ∷ more)))
   unfolding changing
   changing-first act = file-first (λ (o : Opened). changing o act .number) (λ number. refl) refl
 
   reading-first : (act : ℕ → Report) → ((p k : ℕ) → IsOpened image name p k → First (act k .number) more)
-      → First (onFile (openOf image name) act .number) (faults image ++ (unnamed name ∷ (record { number = 8; there = Present image name → ⊥ } ∷ more)))
+      → First (onFile (openOf image name) act .number) (faults image ++ (unnamed name ∷ (ground 8 (Present image name → ⊥) ∷ more)))
   unfolding onFile
   reading-first act = file-first (λ (o : Opened). onFile o act .number) (λ number. refl) refl
 
   adding-first : (addition : Outcome) → First (addition .number) more
-      → First (adding (openOf image name) addition .number) (faults image ++ (unnamed name ∷ (record { number = 9; there = Present image name } ∷ more)))
+      → First (adding (openOf image name) addition .number) (faults image ++ (unnamed name ∷ (ground 9 (Present image name) ∷ more)))
   unfolding openOf faults adding
   adding-first addition =
       present-first (nameTests image name) image name _ (name-decided image name) (name-passed image name) (λ (o : Opened). adding o addition .number) (λ number. refl) more (λ p k. refl)
@@ -96,7 +96,7 @@ unfolding First
 no-ground = refl
 
 protected-first : (image name : List ℕ) (p k : ℕ) → IsOpened image name p k
-    → First (firstOf (renameTests image k)) (record { number = 10; there = Has image name (isProtected image) } ∷ [])
+    → First (firstOf (renameTests image k)) (ground 10 (Has image name (isProtected image)) ∷ [])
 unfolding renameTests Decide
 protected-first image name p k o = first-ground (renameTests image k) _ (refl, of-file image name p k o _ equal, λ _. tt)
 

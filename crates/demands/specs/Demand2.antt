@@ -18,7 +18,7 @@ use Rattle.rules.specs.declared.Answer.the-variants as answer
 use Rattle.rules.specs.declared.Summary.{Summary}
 use Rattle.rules.specs.declared.Summary.the-variants as summary
 use Rattle.demands.specs.Catalogue.{named}
-use Rattle.demands.specs.Effects.{Kept, Changed, Loads}
+use Rattle.demands.specs.Effects.{Kept, Changed, LoadGives}
 use Rattle.demands.specs.Formatting.{EmptyVolume}
 use Rattle.demands.specs.Reading.{fileOf, lengthIs}
 use Rattle.demands.specs.Call as call
@@ -82,6 +82,6 @@ pub record Demand2 (version : Version) : Type 0 where
   -- what was stored is what a load gives
   pub stores : (name bytes image : List ℕ) → Sound image →
       let c = call.change name (call.store bytes) in
-      numberOf version c image ≡ 0 → Loads (version c image .image) name bytes
+      numberOf version c image ≡ 0 → LoadGives (version c image .image) name bytes
   -- progress: the number is that of the first ground that is there, and 0 exactly where none is
   pub progress : (c : Call) (image : List ℕ) → First (numberOf version c image) (grounds c image)

@@ -32,7 +32,7 @@ pub record Effect : Type 0 where
 abbrev pub effect : (expected : List File) (took gave : ℕ) → Effect
 effect expected took gave = record { expected = expected; took = took; gave = gave }
 
--- of a change of the file of that name
+-- what a change of the file of that name leaves where it was done
 pub record Done (image after name : List ℕ) (effect : Effect) : Type 0 where
   pub sound : Sound after
   pub size : length after ≡ length image
@@ -91,8 +91,8 @@ abbrev pub Does : Change → Type 0
 Does change = (image name : List ℕ) → outcome change image name .number ≡ 0 → Changed change image (written image (outcome change image name .writes)) name
 
 -- and a load of what was stored gives the bytes that were lent
-abbrev pub Loads : (after name bytes : List ℕ) → Type 0
-Loads after name bytes = loadOf after name (length bytes) ≡ gives (length bytes) bytes
+abbrev pub LoadGives : (after name bytes : List ℕ) → Type 0
+LoadGives after name bytes = loadOf after name (length bytes) ≡ gives (length bytes) bytes
 
 abbrev pub StoredLoads : Type 0
-StoredLoads = (image name bytes : List ℕ) → storeOf image name bytes .number ≡ 0 → Loads (written image (storeOf image name bytes .writes)) name bytes
+StoredLoads = (image name bytes : List ℕ) → storeOf image name bytes .number ≡ 0 → LoadGives (written image (storeOf image name bytes .writes)) name bytes

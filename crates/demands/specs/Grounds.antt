@@ -24,7 +24,7 @@ pub record Ground : Type 1 where
   pub number : ℕ
   pub there : Type 0
 
-abbrev ground : ℕ → Type 0 → Ground
+abbrev pub ground : ℕ → Type 0 → Ground
 ground number there = record { number = number; there = there }
 
 -- the number is that of the first ground that is there, and 0 where none is
