@@ -4,7 +4,7 @@ ghost use mathlib.Core.List.{[], _∷_, _++_};
 ghost use Prim.Native.Nat.{_*_, _≤_};
 ghost use lib.ListN.{length};
 ghost use Rattle.rules.specs.Map.{mapOf};
-ghost use Rattle.rules.specs.Outcome.{answerOf};
+ghost use Rattle.rules.specs.Outcome.{AnswerSays};
 ghost use Rattle.rules.specs.Calls.Format.{newLabel, formatted, formatNumber, afterFormat};
 ghost use Rattle.formatting.specs.Geometry.{geometryOf};
 use descriptor::name::name_rule;
@@ -73,7 +73,7 @@ fn write_volume(image: &mut [u8], n: usize, name: &[u8], geometry: Geometry)
 // Makes the image an empty volume of n sectors. Nothing of the image is read but its length: 1 where that is not n sectors,
 // n from 3 to 1,600, and 7 for a name that breaks the rule.
 pub fn format(image: &mut [u8], n: usize, name: &[u8], geometry: Geometry) -> Answer
-    ensures { λ r. ⌜ r ≡ answerOf (formatNumber (now (image .entry)) n (now (name .entry))) ⌝ }
+    ensures { λ r. ⌜ AnswerSays r (formatNumber (now (image .entry)) n (now (name .entry))) ⌝ }
     ensures { λ _. ⌜ now (image .exit) ≡ afterFormat (now (image .entry)) n (now (name .entry)) (geometryOf geometry) ⌝ }
 {
     if image.len() % 256 != 0 {

@@ -2,7 +2,7 @@
 ghost use mathlib.Core.Path.{_≡_};
 ghost use lib.ListN.{length};
 ghost use Rattle.rules.specs.Bytes.{splice};
-ghost use Rattle.rules.specs.Outcome.{amountOf};
+ghost use Rattle.rules.specs.Outcome.{AmountSays, Gives};
 ghost use Rattle.rules.specs.Calls.Listing.{listingOf, refusedLine};
 
 mod lines;
@@ -16,7 +16,7 @@ use text::put_number;
 
 // The text is laid down twice, first where there is no room, which gives its length: nothing is written where it does not fit.
 pub fn listing(image: &[u8], out: &mut [u8]) -> Amount
-    ensures { λ r. ⌜ (r ≡ amountOf (listingOf (now (image .entry)) (length (now (out .entry))))) × (now (out .exit) ≡ splice (now (out .entry)) 0 (listingOf (now (image .entry)) (length (now (out .entry))) .bytes)) ⌝ }
+    ensures { λ r. ⌜ Gives AmountSays (listingOf (now (image .entry)) (length (now (out .entry)))) r (now (out .entry)) (now (out .exit)) ⌝ }
 {
     let number = judge(image);
     if number != 0 {

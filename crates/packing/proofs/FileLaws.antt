@@ -10,7 +10,7 @@ use Rattle.rules.specs.Chain.{places, blocksBytes}
 use Rattle.rules.specs.Descriptor.{sectorsOf, chainOf, IsDescriptor}
 use Rattle.rules.specs.Volume.{files, placesIn, headerIn, contentsIn, fileIn, catalogue}
 use Rattle.rules.specs.Sound.{Sound}
-use Rattle.rules.specs.Packing.{oneBlock, packedDescriptor, packedData, packedSectors}
+use Rattle.rules.specs.Calls.Pack.{oneBlock, packedDescriptor, packedData, packedSectors}
 use Rattle.rules.proofs.Volume.{places-count}
 use Rattle.rules.proofs.Packing.{data-length, catalogue-whole}
 

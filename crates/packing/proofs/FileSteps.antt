@@ -11,7 +11,7 @@ use Rattle.rules.specs.Index.{numbers}
 use Rattle.rules.specs.Volume.{File, files, fileIn, catalogue}
 use Rattle.rules.specs.Sound.{Sound}
 use Rattle.rules.specs.Calls.Load.{joined}
-use Rattle.rules.specs.Packing.{packedDescriptor, packedDescriptors, packedData, dataSectors, packedSectors}
+use Rattle.rules.specs.Calls.Pack.{packedDescriptor, packedDescriptors, packedData, dataSectors, packedSectors}
 use Rattle.rules.proofs.Bytes.{part-short}
 use Rattle.rules.proofs.Pieces.{Pieces, pieces-first, pieces-next, pieces-last}
 use Rattle.rules.proofs.Indexed.{numbers-read}

@@ -1,8 +1,10 @@
--- The parts of the packed form laid one behind the other over a target of the source's length are the packed form; and what each number of the call means for answer and target.
+-- The parts of the packed form laid one behind the other over a target of the source's length are the packed form; and which test of the call gives which number.
 use mathlib.Core.Path.{_≡_, sym, ap, _∙_}
-use mathlib.Core.List.{List, _++_, append-assoc}
+use mathlib.Core.Bool.{not}
+use mathlib.Core.List.{List, [], _∷_, _++_, append-assoc}
 use Prim.Native.Nat.{ℕ, _+_, _-_, _*_, _≤_}
 use native.Mathlib.Omega.{arith}
+use lib.Dec.{eqb}
 use lib.ListN.{length, replicate, length-append, length-map, length-replicate}
 use borrow.Rule.Slice.PartMut.{putMid}
 use borrow.Author.Tests.{eq-eqb, ne-eqb}
@@ -12,15 +14,15 @@ use Rattle.rules.specs.Map.{mapOf}
 use Rattle.rules.specs.Chain.{run}
 use Rattle.rules.specs.Index.{indexOf}
 use Rattle.rules.specs.Volume.{files, fileIn, catalogue}
+use Rattle.rules.specs.Tests.{Test, refuse, firstOf}
 use Rattle.rules.specs.Verdict.{verdict}
 use Rattle.rules.specs.Sound.{Sound}
-use Rattle.rules.specs.Outcome.{answerOf}
-use Rattle.rules.specs.Packing.{labelArea, packed, packedDescriptors, packedData, packedSectors, packNumber, afterPack}
-use Rattle.rules.specs.declared.Answer.the-variants.{Done, Refused}
+use Rattle.rules.specs.Calls.Pack.{labelArea, packed, packedDescriptors, packedData, packedSectors, packTests, packNumber}
 use Rattle.rules.proofs.Bytes.{part-length}
 use Rattle.rules.proofs.Splice.{splice-length, splice-whole, put-back}
 use Rattle.rules.proofs.Formatted.{laid-next, map-length}
 use Rattle.rules.proofs.Indexed.{index-length}
+use Rattle.rules.proofs.Verdict.{unsound-first, sound-first}
 use Rattle.rules.proofs.Packing.{label-length, descriptors-length, catalogue-whole, used-inside}
 use Rattle.packing.proofs.FileLaws.{data-ends}
 
@@ -77,25 +79,19 @@ module _ (image : List ℕ) (is : Sound image) {many used : ℕ} (many-is : many
       ∙ splice-whole target (((front ++ descriptors) ++ bytes) ++ rest) all
       ∙ parts rest rest-same
 
--- what a number says of the answer and of the target
+-- which test of the call gives which number
 module _ (source target : List ℕ) where
-  pub refused : (number : ℕ) → (number ≡ 0 → ⊥) → packNumber source target ≡ number → (Refused number ≡ answerOf (packNumber source target)) × (target ≡ afterPack source target)
-  unfolding answerOf afterPack
-  refused number some e = (rw (e, ne-eqb number 0 some), rw (e, ne-eqb number 0 some))
+  abbrev fit : List Test
+  fit = refuse 15 (not (eqb (length target) (length source))) ∷ []
 
-  pub done : packNumber source target ≡ 0 → (Done ≡ answerOf (packNumber source target)) × (packed (sectorCount source) (labelArea source) (catalogue source) ≡ afterPack source target)
-  unfolding answerOf afterPack
-  done e = (rw e, rw e)
-
-  -- and which test gives which
   pub unsound : (verdict source ≡ 0 → ⊥) → packNumber source target ≡ verdict source
-  unfolding packNumber
-  unsound some = rw (ne-eqb (verdict source) 0 some)
+  unfolding packTests
+  unsound some = unsound-first source fit some
 
   pub misfit : verdict source ≡ 0 → (length target ≡ length source → ⊥) → packNumber source target ≡ 15
-  unfolding packNumber
-  misfit e other = rw (eq-eqb (verdict source) 0 e, ne-eqb (length target) (length source) other)
+  unfolding packTests firstOf
+  misfit e other = sound-first source fit e ∙ rw (ne-eqb (length target) (length source) other)
 
   pub fits : verdict source ≡ 0 → length target ≡ length source → packNumber source target ≡ 0
-  unfolding packNumber
-  fits e same = rw (eq-eqb (verdict source) 0 e, eq-eqb (length target) (length source) same)
+  unfolding packTests firstOf
+  fits e same = sound-first source fit e ∙ rw (eq-eqb (length target) (length source) same)

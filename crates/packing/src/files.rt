@@ -9,7 +9,7 @@ ghost use Rattle.rules.specs.Chain.{places, blocksBytes};
 ghost use Rattle.rules.specs.Volume.{files, catalogue};
 ghost use Rattle.rules.specs.Sound.{Sound};
 ghost use Rattle.rules.specs.Calls.Load.{joined};
-ghost use Rattle.rules.specs.Packing.{oneBlock, packedDescriptors, packedData, packedSectors};
+ghost use Rattle.rules.specs.Calls.Pack.{oneBlock, packedDescriptors, packedData, packedSectors};
 use descriptor::chain::Cursor;
 use descriptor::chain::Step;
 use sector::buffer::lay;

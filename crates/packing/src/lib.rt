@@ -5,8 +5,8 @@ ghost use lib.ListN.{length, replicate};
 ghost use Rattle.rules.specs.Sectors.{sectorCount};
 ghost use Rattle.rules.specs.Volume.{catalogue};
 ghost use Rattle.rules.specs.Sound.{Sound};
-ghost use Rattle.rules.specs.Outcome.{answerOf};
-ghost use Rattle.rules.specs.Packing.{labelArea, packed, packNumber, afterPack};
+ghost use Rattle.rules.specs.Outcome.{AnswerSays};
+ghost use Rattle.rules.specs.Calls.Pack.{labelArea, packed, packNumber, afterPack};
 
 mod files;
 mod system;
@@ -42,7 +42,7 @@ fn write_packed(source: &[u8], target: &mut [u8])
 
 // Writes the source's packed form over the target: 1 to 6 of the source, then 15 for a target of another length.
 pub fn pack(source: &[u8], target: &mut [u8]) -> Answer
-    ensures { λ r. ⌜ r ≡ answerOf (packNumber (now (source .entry)) (now (target .entry))) ⌝ }
+    ensures { λ r. ⌜ AnswerSays r (packNumber (now (source .entry)) (now (target .entry))) ⌝ }
     ensures { λ _. ⌜ now (target .exit) ≡ afterPack (now (source .entry)) (now (target .entry)) ⌝ }
 {
     let number = judge::judge(source);

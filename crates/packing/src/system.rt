@@ -8,7 +8,7 @@ ghost use Rattle.rules.specs.Sectors.{sectorCount};
 ghost use Rattle.rules.specs.Map.{mapOf};
 ghost use Rattle.rules.specs.Chain.{run};
 ghost use Rattle.rules.specs.Index.{indexOf};
-ghost use Rattle.rules.specs.Packing.{labelArea};
+ghost use Rattle.rules.specs.Calls.Pack.{labelArea};
 use mapping::new_map;
 use sector::buffer::lay;
 use sector::bytes::part;

@@ -24,7 +24,7 @@ ghost use Rattle.rules.specs.Calls.Protect.{protectOf, unprotectOf};
 ghost use Rattle.rules.specs.Calls.Store.{storeOf};
 ghost use Rattle.rules.specs.Calls.Delete.{deleteOf};
 ghost use Rattle.rules.specs.Calls.Rename.{renameOf};
-ghost use Rattle.rules.specs.Packing.{packNumber, afterPack};
+ghost use Rattle.rules.specs.Calls.Pack.{packNumber, afterPack};
 ghost use Rattle.pnoelithe.specs.Crossing.{kindNumber, flag};
 
 mod crossing;

@@ -69,6 +69,16 @@ module _ (image : List ℕ) (outcome : Outcome) where
   unfolding AnswerSays
   done-meets writes e = rw e (record { said = refl; left = refl })
 
+-- a call that makes a whole buffer anew, or leaves it
+module _ (tests : List Test) (whole before : List ℕ) where
+  pub made-refused : (number : ℕ) → (number ≡ 0 → ⊥) → firstOf tests ≡ number → AnswerSays (answer.Refused number) (firstOf tests) × (before ≡ unlessMet tests whole before)
+  unfolding AnswerSays
+  made-refused number some e = ((sym e, λ z. some (sym e ∙ z)), sym (unless-met tests whole before (λ z. some (sym e ∙ z))))
+
+  pub made-done : firstOf tests ≡ 0 → AnswerSays answer.Done (firstOf tests) × (whole ≡ unlessMet tests whole before)
+  unfolding AnswerSays
+  made-done e = (e, sym (unless-passed tests whole before e))
+
 -- a call that reads
 module _ (before : List ℕ) (report : Report) where
   pub amount-refused : (number : ℕ) → (number ≡ 0 → ⊥) → report ≡ refuses number → Gives AmountSays report (amount.Refused number) before before

@@ -9,70 +9,61 @@ use borrow.Author.Tests.{eq-eqb, ne-eqb, le-leb, lt-leb, not-true, not-false}
 use Rattle.rules.specs.Sectors.{sectorCount}
 use Rattle.rules.specs.Name.{nameRule}
 use Rattle.rules.specs.Verdict.{sizeRule}
-use Rattle.rules.specs.Outcome.{answerOf}
-use Rattle.rules.specs.Calls.Format.{Geometry, formatted, formatNumber, afterFormat}
-use Rattle.rules.specs.declared.Answer.the-variants.{Done, Refused}
+use Rattle.rules.specs.Tests.{firstOf}
+use Rattle.rules.specs.Calls.Format.{formatTests, formatNumber, afterFormat}
 use Rattle.rules.proofs.Name.{name-is}
+use Rattle.rules.proofs.Outcome.{made-refused, made-done}
 use borrow.Author.Needs.{needs}
 use Rattle.formatting.proofs.format.format.Statement.{statement}
 use Rattle.formatting.proofs.format.format.Tie as tie
 
--- what a number says of the answer and of the image
-module _ (image : List ℕ) (n : ℕ) (name : List ℕ) (g : Geometry) where
-  refused : (number : ℕ) → (number ≡ 0 → ⊥) → formatNumber image n name ≡ number
-      → (Refused number ≡ answerOf (formatNumber image n name)) × (image ≡ afterFormat image n name g)
-  unfolding answerOf afterFormat
-  refused number some e = (rw (e, ne-eqb number 0 some), rw (e, ne-eqb number 0 some))
-
-  done : formatNumber image n name ≡ 0 → (Done ≡ answerOf (formatNumber image n name)) × (formatted n name g ≡ afterFormat image n name g)
-  unfolding answerOf afterFormat
-  done e = (rw e, rw e)
-
--- and which test gives which
+-- which test gives which number
 module _ (image : List ℕ) (n : ℕ) (name : List ℕ) where
   missized : sizeRule image ≡ false → formatNumber image n name ≡ 1
-  unfolding formatNumber
+  unfolding formatTests firstOf
   missized e = rw e
 
   misasked : (n ≡ sectorCount image → ⊥) → sizeRule image ≡ true → formatNumber image n name ≡ 1
-  unfolding formatNumber
+  unfolding formatTests firstOf
   misasked other sized = rw (sized, ne-eqb n (sectorCount image) other)
 
   misnamed : n ≡ sectorCount image → sizeRule image ≡ true → nameRule name ≡ false → formatNumber image n name ≡ 7
-  unfolding formatNumber
+  unfolding formatTests firstOf
   misnamed asked sized ruled = rw (sized, eq-eqb n (sectorCount image) asked, ruled)
 
   passed : n ≡ sectorCount image → sizeRule image ≡ true → nameRule name ≡ true → formatNumber image n name ≡ 0
-  unfolding formatNumber
+  unfolding formatTests firstOf
   passed asked sized ruled = rw (sized, eq-eqb n (sectorCount image) asked, ruled)
 
 returns : tie.Need-returns
-unfolding sizeRule
-returns c = refused _ _ _ _ 1 (λ z. omega arith) (missized _ _ _ (rw (ne-eqb _ _ (c .if1 .taken))))
+unfolding sizeRule afterFormat
+returns c = made-refused _ _ _ 1 (λ z. omega arith) (missized _ _ _ (rw (ne-eqb _ _ (c .if1 .taken))))
 
 returns-2 : tie.Need-returns-2
-unfolding sizeRule
-returns-2 c = refused _ _ _ _ 1 (λ z. omega arith) (missized _ _ _ (rw (eq-eqb _ _ (c .before .if1 .left), lt-leb _ _ (c .if2 .taken))))
+unfolding sizeRule afterFormat
+returns-2 c = made-refused _ _ _ 1 (λ z. omega arith) (missized _ _ _ (rw (eq-eqb _ _ (c .before .if1 .left), lt-leb _ _ (c .if2 .taken))))
 
 returns-3 : tie.Need-returns-3
-unfolding sizeRule
+unfolding sizeRule afterFormat
 returns-3 c =
-    refused _ _ _ _ 1 (λ z. omega arith) (missized _ _ _ (rw (eq-eqb _ _ (c .before .before .if1 .left), le-leb _ _ (c .before .if2 .left), lt-leb _ _ (c .if3 .taken))))
+    made-refused _ _ _ 1 (λ z. omega arith) (missized _ _ _ (rw (eq-eqb _ _ (c .before .before .if1 .left), le-leb _ _ (c .before .if2 .left), lt-leb _ _ (c .if3 .taken))))
 
 sized : (c : tie.Else3) → sizeRule (c .before .before .before .before .before .args .image .now) ≡ true
 unfolding sizeRule
 sized c = rw (eq-eqb _ _ (c .before .before .if1 .left), le-leb _ _ (c .before .if2 .left), le-leb _ _ (c .if3 .left))
 
 returns-4 : tie.Need-returns-4
-returns-4 c = refused _ _ _ _ 1 (λ z. omega arith) (misasked _ _ _ (c .if4 .taken) (sized (c .before)))
+unfolding afterFormat
+returns-4 c = made-refused _ _ _ 1 (λ z. omega arith) (misasked _ _ _ (c .if4 .taken) (sized (c .before)))
 
 name-rule-requires : tie.Need-name-rule-requires
 name-rule-requires c κs = search needs
 
 returns-5 : tie.Need-returns-5
+unfolding afterFormat
 returns-5 c =
     let ruled = c .before in
-    refused _ _ _ _ 7 (λ z. omega arith) (misnamed _ _ _ (ruled .before .if4 .left) (sized (ruled .before .before)) (sym (ruled .name-rule .ensures) ∙ not-true (ruled .name-rule .result) (c .if5 .taken)))
+    made-refused _ _ _ 7 (λ z. omega arith) (misnamed _ _ _ (ruled .before .if4 .left) (sized (ruled .before .before)) (sym (ruled .name-rule .ensures) ∙ not-true (ruled .name-rule .result) (c .if5 .taken)))
 
 named : (c : tie.Else5) → nameRule (c .before .before .before .before .before .before .before .before .args .name .now) ≡ true
 named c = sym (c .before .name-rule .ensures) ∙ not-false (c .before .name-rule .result) (c .if5 .left)
@@ -84,11 +75,12 @@ same-length : tie.Need-same-length
 same-length c = search needs
 
 returns-6 : tie.Need-returns-6
+unfolding afterFormat
 returns-6 c =
     let written = c .before .before in
     let ruled = written .before .before in
     let asked = ruled .before .before in
-    let whole = done _ _ _ _ (passed _ _ _ (asked .if4 .left) (sized (asked .before)) (named ruled)) in
+    let whole = made-done _ _ _ (passed _ _ _ (asked .if4 .left) (sized (asked .before)) (named ruled)) in
     (whole .0, written .write-volume .ensures ∙ whole .1)
 
 pub format-spec : {M : Type 1} → statement M

@@ -6,7 +6,7 @@ use native.Mathlib.Omega.{arith}
 use lib.ListN.{length, drop, replicate, length-append}
 use Rattle.rules.specs.Bytes.{over, splice}
 use Rattle.rules.specs.Chain.{blockBytes, blocksBytes}
-use Rattle.rules.specs.Packing.{oneBlock}
+use Rattle.rules.specs.Calls.Pack.{oneBlock}
 use Rattle.rules.proofs.Formatted.{laid-front, laid-next}
 use borrow.Author.Needs.{needs}
 use Rattle.packing.proofs.files.packed_descriptor.Statement.{statement}

@@ -6,7 +6,7 @@ use native.Mathlib.Omega.{arith}
 use lib.ListN.{length, length-append}
 use Rattle.rules.specs.Bytes.{part, splice}
 use Rattle.rules.specs.Chain.{run}
-use Rattle.rules.specs.Packing.{labelArea}
+use Rattle.rules.specs.Calls.Pack.{labelArea}
 use Rattle.rules.proofs.Formatted.{laid-next, map-length}
 use borrow.Author.Needs.{needs}
 use Rattle.packing.proofs.system.lay_system.Statement.{statement}
