@@ -23,7 +23,7 @@ use Rattle.demands.specs.Catalogue.{takenOut, named, held}
 use Rattle.demands.specs.Call.{delete}
 use Rattle.demands.specs.Ours.{outcome}
 use Rattle.demands.specs.Effects.{effect, Done, Does}
-use Rattle.demands.proofs.TakingOut.{named-file}
+use Rattle.demands.proofs.Filed.{named-file}
 use Rattle.demands.proofs.Replacing.{catalogue-after, replaced-done}
 
 module _ (image name : List ℕ) (k : ℕ) (is : Sound image) (there : 1 ≤ count k (files image)) (is-named : name ≡ nameIn image k) where

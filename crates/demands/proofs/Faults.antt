@@ -6,18 +6,18 @@ use Prim.Native.Nat.{ℕ, _≤_, _<_}
 use native.Mathlib.Omega.{arith}
 use native.Mathlib.Decide.{decLt}
 use lib.Dec.{ltb}
+use lib.ListN.{getD}
 use borrow.Author.Tests.{not-false, ltb-true}
 use Rattle.rules.specs.Sectors.{sectorOf, sectorCount}
 use Rattle.rules.specs.Map.{mapBit, count, taken, mapRule}
-use Rattle.rules.specs.Volume.{holders}
-use Rattle.rules.specs.Verdict.{sizeRule, heldTwice, volumeTests}
+use Rattle.rules.specs.Volume.{holders, files, nameIn}
+use Rattle.rules.specs.Verdict.{sizeRule, heldTwice, volumeTests, descriptorsRule}
 use Rattle.rules.proofs.Tests.{absurd-test}
 use Rattle.rules.proofs.Label.{label-is, is-label}
 use Rattle.rules.proofs.Map.{count-here, count-more, taken-below, taken-past, map-at, at-map}
 use Rattle.rules.proofs.Index.{index-is, is-index}
-use Rattle.rules.proofs.Verdict.{size-is, is-size, held-once}
-use Rattle.demands.specs.Grounds.{IsSize, HeldTwice, HasMap, faults}
-use Rattle.demands.proofs.Described.{described-is, is-described}
+use Rattle.rules.proofs.Verdict.{size-is, is-size, held-once, descriptors-are, name-long, ascend, are-descriptors, precedes-none}
+use Rattle.demands.specs.Grounds.{IsSize, HeldTwice, HasMap, faults, HasDescriptors}
 use Rattle.demands.proofs.Deciding.{Decide, broken}
 
 -- the tests of the rules, as the grounds state them
@@ -26,6 +26,17 @@ sized-is image e = let size = size-is image e in record { whole = size .0; range
 
 pub is-sized : (image : List ℕ) → IsSize image → sizeRule image ≡ true
 is-sized image is = is-size image (is .whole) (is .range .0) (is .range .1)
+
+-- the descriptors and the order of their names
+module _ (image : List ℕ) where
+  described-is : descriptorsRule (sectorCount image) image [] (files image) ≡ true → HasDescriptors image
+  described-is e = record { descriptors = descriptors-are (sectorCount image) image [] (files image) e; ascending = ascend (sectorCount image) image [] (files image) e }
+
+  is-described : HasDescriptors image → descriptorsRule (sectorCount image) image [] (files image) ≡ true
+  is-described has =
+      are-descriptors (sectorCount image) image [] (files image) (has .descriptors)
+      (λ p h. precedes-none (nameIn image (getD (files image) p 0)) (name-long (sectorCount image) image (getD (files image) p 0) (has .descriptors p h)))
+      (has .ascending)
 
 record Twice (hs : List ℕ) : Type 0 where
   sector : ℕ

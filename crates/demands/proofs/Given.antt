@@ -28,7 +28,7 @@ use Rattle.rules.proofs.Opening.{IsOpened, opened-is, open-refused}
 use Rattle.demands.specs.Catalogue.{named}
 use Rattle.demands.specs.Reading.{fileOf, lengthIs}
 use Rattle.demands.proofs.Reading.{header-at, header-name, length-in, content-at, file-of}
-use Rattle.demands.proofs.TakingOut.{named-file}
+use Rattle.demands.proofs.Filed.{named-file}
 use Rattle.rules.proofs.Listed.{opened-listed}
 
 -- the header holds what a row shows

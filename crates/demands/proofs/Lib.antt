@@ -3,8 +3,7 @@ mod Computed
 pub mod Bench
 pub mod Formatting
 pub mod Reading
-mod TakingOut
-mod Putting
+mod Filed
 mod Replacing
 pub mod Protects
 pub mod Overwrites
@@ -16,7 +15,6 @@ pub mod Creates
 pub mod Stores
 pub mod Deletes
 pub mod Renames
-mod Described
 mod Deciding
 mod Faults
 mod Opening

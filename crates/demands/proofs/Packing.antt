@@ -27,7 +27,7 @@ use Rattle.rules.proofs.Packing.{descriptors-length, data-length, file-whole, l
 use Rattle.demands.specs.Catalogue.{fileName}
 use Rattle.demands.specs.Reading.{noFile}
 use Rattle.demands.proofs.Reading.{get-mapped}
-use Rattle.demands.proofs.Putting.{file-name}
+use Rattle.demands.proofs.Filed.{file-name}
 use Rattle.demands.proofs.Packed.{count-runs, sector-behind, IsListed, Each, each-whole, Laid, laid, laid-files, laid-descriptor, laid-holders}
 
 -- A file of a sound volume, as its catalogue lists it.

@@ -38,7 +38,7 @@ use Rattle.demands.specs.Catalogue.{putIn, takenOut, named}
 use Rattle.demands.specs.Call.{rename}
 use Rattle.demands.specs.Ours.{outcome}
 use Rattle.demands.specs.Effects.{effect, Done, renamed, Does}
-use Rattle.demands.proofs.TakingOut.{named-file}
+use Rattle.demands.proofs.Filed.{named-file}
 use Rattle.demands.proofs.Replacing.{catalogue-after, replaced-done}
 
 -- a descriptor with another name: all bytes from 10 on stand as they stood

@@ -15,8 +15,7 @@ use Rattle.rules.proofs.Replaced.{Slot, none, at, staying, coming, held, IsList
 use Rattle.rules.proofs.Altered.{Altered, files-same, altered}
 use Rattle.demands.specs.Catalogue.{putIn, takenOut, changed}
 use Rattle.demands.specs.Effects.{Kept, effect, Done}
-use Rattle.demands.proofs.Putting.{file-name, placed-files}
-use Rattle.demands.proofs.TakingOut.{taken-out, changed-files}
+use Rattle.demands.proofs.Filed.{file-name, placed-files, taken-out, changed-files}
 
 -- the file that goes has that name
 abbrev pub IsNamed : List ℕ → Slot → List ℕ → Type 0

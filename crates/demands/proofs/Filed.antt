@@ -1,23 +1,47 @@
--- The file of a name, in the catalogue and in sector 1: no other file has its name, so taking its number out of sector 1 takes that file out of the catalogue,
--- and the file that the catalogue has under that name is the one at that number.
-use mathlib.Core.Path.{_≡_, sym, ap, _∙_}
-use mathlib.Core.Bool.{true, false}
+-- The file of a name, in the catalogue and in sector 1. No other file has its name, so a number put in, taken out or found among the files is that file put in, taken out or found in the
+-- catalogue; and where one file is changed, the catalogue has that one changed.
+use mathlib.Core.Path.{_≡_, refl, ap, sym, _∙_}
+use mathlib.Core.Bool.{Bool, true, false, cond}
 use mathlib.Core.List.{List, [], _∷_, map}
 use Prim.Native.Nat.{ℕ, _≤_}
 use native.Mathlib.Omega.{arith}
 use native.Mathlib.Decide.{ℕ-discrete}
-use Rattle.rules.specs.Bytes.{same}
+use lib.Seq.{take-take}
+use Rattle.rules.specs.Sectors.{sectorOf}
+use Rattle.rules.specs.Name.{precedes}
 use Rattle.rules.specs.Map.{count}
+use Rattle.rules.specs.Descriptor.{nameOf}
+use Rattle.rules.specs.Volume.{File, nameIn, headerIn, fileIn, placed, files, catalogue}
+use Rattle.rules.specs.Bytes.{same}
 use Rattle.rules.specs.Index.{without}
-use Rattle.rules.specs.Volume.{File, files, nameIn, fileIn, catalogue}
 use Rattle.rules.specs.Sound.{Sound}
+use Rattle.rules.proofs.Map.{count-here, count-more, count-none, count-other}
 use Rattle.rules.proofs.Bytes.{is-same, not-same}
-use Rattle.rules.proofs.Map.{count-none, count-here, count-other, count-more}
 use Rattle.rules.proofs.Indexed.{without-none, without-here, without-later}
 use Rattle.rules.proofs.Kept.{files-kept}
 use Rattle.rules.proofs.Listed.{listed-name}
-use Rattle.demands.specs.Catalogue.{fileName, takenOut, changed, named}
-use Rattle.demands.proofs.Putting.{file-name}
+use Rattle.demands.specs.Catalogue.{fileName, putIn, takenOut, changed, named}
+
+-- the name in the catalogue is the descriptor's: both are its first ten bytes
+pub file-name : (image : List ℕ) (k : ℕ) → fileName (fileIn image k) ≡ nameIn image k
+unfolding fileName fileIn headerIn nameIn nameOf
+file-name image k = take-take 10 28 (sectorOf image k) (omega arith)
+
+-- the catalogue is read of the image afterwards, where k has the new name and the others have theirs
+module _ (image after name : List ℕ) (k : ℕ) (named : fileName (fileIn after k) ≡ name) where
+  pub placed-files : (ks : List ℕ) → ((j : ℕ) → 1 ≤ count j ks → fileName (fileIn after j) ≡ nameIn image j)
+      → map (fileIn after) (placed image name k ks) ≡ putIn (fileIn after k) (map (fileIn after) ks)
+  unfolding placed putIn
+  placed-files [] kept = refl
+  placed-files (j ∷ js) kept =
+      rw (named, kept j (omega (arith, count-here j js)))
+      (go (precedes name (nameIn image j)) (placed-files js (λ i h. kept i (omega (arith, h, count-more i j js)))))
+    where
+      go : (t : Bool) → map (fileIn after) (placed image name k js) ≡ putIn (fileIn after k) (map (fileIn after) js)
+          → map (fileIn after) (cond t (k ∷ (j ∷ js)) (j ∷ placed image name k js))
+          ≡ cond t (fileIn after k ∷ (fileIn after j ∷ map (fileIn after) js)) (fileIn after j ∷ putIn (fileIn after k) (map (fileIn after) js))
+      go true more = refl
+      go false more = ap (λ (l : List File). fileIn after j ∷ l) more
 
 -- the file at k has the name, and no other
 module _ (image name : List ℕ) (k : ℕ) (is : name ≡ nameIn image k) where
