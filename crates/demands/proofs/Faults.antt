@@ -2,19 +2,18 @@
 use mathlib.Core.Path.{_≡_, refl, sym, _∙_}
 use mathlib.Core.Bool.{Bool, true, false, _||_}
 use mathlib.Core.List.{List, [], _∷_}
-use Prim.Native.Nat.{ℕ, _≤_, _<_}
+use Prim.Native.Nat.{ℕ, _≤_}
 use native.Mathlib.Omega.{arith}
-use native.Mathlib.Decide.{decLt}
 use lib.Dec.{ltb}
 use lib.ListN.{getD}
 use borrow.Author.Tests.{not-false, ltb-true}
 use Rattle.rules.specs.Sectors.{sectorOf, sectorCount}
-use Rattle.rules.specs.Map.{mapBit, count, taken, mapRule}
+use Rattle.rules.specs.Map.{count, mapRule}
 use Rattle.rules.specs.Volume.{holders, files, nameIn}
 use Rattle.rules.specs.Verdict.{sizeRule, heldTwice, volumeTests, descriptorsRule}
 use Rattle.rules.proofs.Tests.{absurd-test}
 use Rattle.rules.proofs.Label.{label-is, is-label}
-use Rattle.rules.proofs.Map.{count-here, count-more, taken-below, taken-past, map-at, at-map}
+use Rattle.rules.proofs.Map.{count-here, count-more, taken-below, taken-past, bits-taken, map-at, at-map}
 use Rattle.rules.proofs.Index.{index-is, is-index}
 use Rattle.rules.proofs.Verdict.{size-is, is-size, held-once, descriptors-are, name-long, ascend, are-descriptors, precedes-none}
 use Rattle.demands.specs.Grounds.{IsSize, HeldTwice, HasMap, faults, HasDescriptors}
@@ -67,14 +66,8 @@ map-is image low e =
     }
 
 is-map : (image : List ℕ) → HasMap image → mapRule (sectorCount image) (holders image) (sectorOf image 0) ≡ true
-is-map image has = at-map (sectorCount image) (holders image) (sectorOf image 0) bits
-  where
-    bits : (k : ℕ) → k < 1600 → mapBit (sectorOf image 0) k ≡ taken (sectorCount image) (holders image) k
-    bits k low =
-        elim (decLt k (sectorCount image)) [
-          | yes below ↦ has .marked k below ∙ sym (taken-below (sectorCount image) (holders image) k below)
-          | no past ↦ has .filled k (omega arith) low ∙ sym (taken-past (sectorCount image) (holders image) k (omega arith))
-        ]
+is-map image has =
+    at-map (sectorCount image) (holders image) (sectorOf image 0) (bits-taken (sectorCount image) (holders image) (sectorOf image 0) (has .marked) (has .filled))
 
 pub faults-decided : (image : List ℕ) → Decide (volumeTests image) (faults image)
 unfolding Decide volumeTests faults

@@ -1,6 +1,6 @@
 -- The files that a sound volume lists, by their numbers: where their descriptors and places are, that no sector is held twice, and what is left of the holders
 -- where one file is taken out.
-use mathlib.Core.Path.{_≡_, sym, ap, _∙_}
+use mathlib.Core.Path.{_≡_, ap}
 use mathlib.Core.List.{List, [], _∷_}
 use Prim.Native.Nat.{ℕ, _+_, _*_, _≤_, _<_}
 use native.Mathlib.Omega.{arith}
@@ -14,7 +14,7 @@ use Rattle.rules.specs.Volume.{files, nameIn, placesIn, fileHolders, hol
 use Rattle.rules.specs.Sound.{Sound}
 use Rattle.rules.proofs.Sectors.{sector-length}
 use Rattle.rules.proofs.Name.{before-irrefl}
-use Rattle.rules.proofs.Map.{counted-all, count-here, count-at, count-append, taken-below, taken-past}
+use Rattle.rules.proofs.Map.{bits-taken, counted-all, count-here, count-at, count-append}
 use Rattle.rules.proofs.Volume.{file-holders-inside}
 use Rattle.rules.proofs.Kept.{holders-without, file-holds}
 use Rattle.rules.proofs.Opening.{IsOpened}
@@ -57,11 +57,7 @@ module _ (image : List ℕ) (is : Sound image) where
 
   -- every bit of the map
   pub map-is : (k : ℕ) → k < 1600 → mapBit (sectorOf image 0) k ≡ taken (sectorCount image) (holders image) k
-  map-is k low =
-      elim (decLt k (sectorCount image)) [
-        | yes below ↦ is .marked k below ∙ sym (taken-below (sectorCount image) (holders image) k below)
-        | no past ↦ is .filled k (omega arith) low ∙ sym (taken-past (sectorCount image) (holders image) k (omega arith))
-      ]
+  map-is = bits-taken (sectorCount image) (holders image) (sectorOf image 0) (is .marked) (is .filled)
 
   -- a file's descriptor
   pub listed-range : (k : ℕ) → 1 ≤ count k (files image) → (2 ≤ k) × (k < sectorCount image)

@@ -76,6 +76,15 @@ pub taken-past : (n : ℕ) (holders : List ℕ) (k : ℕ) → n ≤ k → taken 
 unfolding taken
 taken-past n holders k h = rw (le-ltb k n h)
 
+-- where it marks the holders below n, and all from there on
+pub bits-taken : (n : ℕ) (holders sector0 : List ℕ) → ((k : ℕ) → k < n → mapBit sector0 k ≡ count k holders) → ((k : ℕ) → n ≤ k → k < 1600 → mapBit sector0 k ≡ 1)
+    → (k : ℕ) → k < 1600 → mapBit sector0 k ≡ taken n holders k
+bits-taken n holders sector0 marked filled k low =
+    elim (decLt k n) [
+      | yes below ↦ marked k below ∙ sym (taken-below n holders k below)
+      | no past ↦ filled k (omega arith) low ∙ sym (taken-past n holders k (omega arith))
+    ]
+
 -- holders that count the same need the same map
 pub taken-same : (n : ℕ) (old new : List ℕ) → ((k : ℕ) → count k new ≡ count k old) → (k : ℕ) → taken n new k ≡ taken n old k
 taken-same n old new counts k =
