@@ -135,7 +135,7 @@ module _ (image name : List ℕ) (p k : ℕ) (o : IsOpened image name p k) (byte
     appended-done : take 28 d ≡ splice (take 28 (sectorOf image k)) 14 (wordBytes (sectorsOf (sectorOf image k) + 1))
         → Done image after name (effect (changed name (longer bytes) (catalogue image)) 1 0)
     unfolding longer fileIn headerIn
-    appended-done header = altered-done image after name k (new ∷ []) altered (o .named) (longer bytes) (rw (many, descriptor-now, header, contents-now))
+    appended-done header = altered-done altered name (o .named) (longer bytes) (rw (many, descriptor-now, header, contents-now))
 
 appending-done : (image name bytes : List ℕ) (p k : ℕ) → IsOpened image name p k → Passed (appendTests image bytes k)
     → Done image (written image (appendWrites image bytes k)) name (effect (changed name (longer bytes) (catalogue image)) 1 0)

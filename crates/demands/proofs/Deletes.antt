@@ -76,7 +76,7 @@ module _ (image name : List ℕ) (k : ℕ) (is : Sound image) (there : 1 ≤ cou
   was-held = rw (named-file image name k is there is-named, length-map (placesIn image k) (sectorOf image)) (omega arith)
 
   deleted : Done image after name (effect (takenOut name (catalogue image)) 0 (held (named name (catalogue image))))
-  deleted = replaced-done image after name name (at k) none replaced is-named _ 0 _ (catalogue-after image after name name (at k) none replaced is-named) (omega (arith, was-held))
+  deleted = replaced-done replaced name is-named _ 0 _ (catalogue-after replaced name is-named) (omega (arith, was-held))
 
 pub deletes : Does delete
 unfolding outcome deleteOf deleting

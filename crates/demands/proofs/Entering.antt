@@ -175,8 +175,8 @@ module _ (image name bytes : List ℕ) (k : ℕ) (ks descriptor : List ℕ) (abs
   unfolding entered
   entering =
       rw (← written-both image (dataWrites bytes ks) (first ∷ (second ∷ (third ∷ []))))
-      (replaced-done image after name name none (at k) replaced tt _ (1 + length ks) 0
-      (catalogue-after image after name name none (at k) replaced tt ∙ ap (λ (file : File). putIn file (catalogue image)) new-file)
+      (replaced-done replaced name tt _ (1 + length ks) 0
+      (catalogue-after replaced name tt ∙ ap (λ (file : File). putIn file (catalogue image)) new-file)
       (rw places-now (omega arith)))
 
 -- with the descriptor of a new file, its blocks those of ks

@@ -66,9 +66,9 @@ module _ (image name : List ℕ) (p k : ℕ) (o : IsOpened image name p k) (offs
   overwritten-done : Done image after name (effect (changed name (overwritten offset bytes) (catalogue image)) 0 0)
   unfolding nameIn
   overwritten-done =
-      altered-done image after name k []
+      altered-done
       (own-altered image k (o .whole) there at bytes long own (rw descriptor-kept (o .descriptor)) (ap nameOf descriptor-kept) (places-kept image after k descriptor-kept))
-      (o .named) (overwritten offset bytes) file-now
+      name (o .named) (overwritten offset bytes) file-now
 
 pub overwrites : (offset : ℕ) (bytes : List ℕ) → Does (overwrite offset bytes)
 unfolding outcome overwriteOf overwriting overwriteTests Passed written

@@ -105,10 +105,10 @@ module _ (bit : ℕ) (small : bit ≤ 1) where
     protected-done : Done image after name (effect (changed name (withProtection bit) (catalogue image)) 0 0)
     unfolding nameIn
     protected-done =
-        altered-done image after name k []
+        altered-done
         (own-altered image k (o .whole) there k new new-long own (rw descriptor-now (rules-kept (sectorOf image k) (o .long) (sectorCount image) (o .descriptor)))
         (ap nameOf descriptor-now ∙ name-kept (sectorOf image k) (o .long)) places-now)
-        (o .named) (withProtection bit) file-now
+        name (o .named) (withProtection bit) file-now
 
   protection-done : (image name : List ℕ) → setBitOf 3 bit image name .number ≡ 0
       → Done image (written image (setBitOf 3 bit image name .writes)) name (effect (changed name (withProtection bit) (catalogue image)) 0 0)

@@ -132,8 +132,8 @@ module _ (image old new : List ℕ) (k : ℕ) (is : Sound image) (there : 1 ≤ 
 
   renamed-done : Done image after old (effect (putIn (renamed new (named old (catalogue image))) (takenOut old (catalogue image))) 0 0)
   renamed-done =
-      replaced-done image after new old (at k) (at k) replaced is-named _ 0 0
-      (catalogue-after image after new old (at k) (at k) replaced is-named ∙ rw (file-now, named-file image old k is there is-named))
+      replaced-done replaced old is-named _ 0 0
+      (catalogue-after replaced old is-named ∙ rw (file-now, named-file image old k is there is-named))
       (rw places-now refl)
 
 -- numbers 1 to 7 passed: a sound volume, and both names keep the rule

@@ -54,7 +54,7 @@ won-files : (image after name : List ℕ) (comes : Slot) (ks : List ℕ) → IsN
 won-files image after name none ks new kept = refl
 won-files image after name (at k) ks new kept = placed-files image after name k (file-name after k ∙ new .named) ks (λ j there. file-name after j ∙ kept j there)
 
-module _ (image after name old : List ℕ) (goes comes : Slot) (r : Replaced image after name goes comes) (is : IsNamed image goes old) where
+module _ {image after name : List ℕ} {goes comes : Slot} (r : Replaced image after name goes comes) (old : List ℕ) (is : IsNamed image goes old) where
   stays : (j : ℕ) → 1 ≤ count j (files image) → (nameIn image j ≡ old → ⊥) → 1 ≤ count j (staying goes (files image))
   stays = other-stays image old goes (r .listed) is
 
@@ -63,37 +63,37 @@ module _ (image after name old : List ℕ) (goes comes : Slot) (r : Replaced ima
       record {
         label = r .mapped .label;
         listed = λ j there other. rw (r .numbered .files-are) (still-there image name comes j (staying goes (files image)) (stays j there other));
-        descriptor = λ j there other. descriptor-stands image after name goes comes r j (stays j there other);
-        contents = λ j p there other here. sector-stands image after name goes comes r j p (stays j there other) (omega (arith, here, count-more p j (placesIn image j)));
+        descriptor = λ j there other. descriptor-stands r j (stays j there other);
+        contents = λ j p there other here. sector-stands r j p (stays j there other) (omega (arith, here, count-more p j (placesIn image j)));
       }
 
   pub catalogue-after : catalogue after ≡ won after comes (lost goes old (catalogue image))
   unfolding catalogue
   catalogue-after =
       ap (map (fileIn after)) (r .numbered .files-are)
-      ∙ won-files image after name comes (staying goes (files image)) (r .new) (name-stands image after name goes comes r)
+      ∙ won-files image after name comes (staying goes (files image)) (r .new) (name-stands r)
       ∙ ap (won after comes)
-      (files-kept image after (staying goes (files image)) (file-stands image after name goes comes r)
+      (files-kept image after (staying goes (files image)) (file-stands r)
       ∙ lost-files image old goes is (λ k j e there same. listed-name image (r .sound) j k there (rw e at (r .listed)) same))
 
   pub replaced-done : (expected : List File) (took gave : ℕ) → catalogue after ≡ expected → length (held after comes) + gave ≡ length (held image goes) + took
       → Done image after old (effect expected took gave)
   replaced-done expected took gave e sizes =
       record {
-        sound = sound-after image after name goes comes r;
+        sound = sound-after r;
         size = r .size;
         kept = kept;
         catalogue-is = e;
-        free = omega (arith, sizes, free-after image after name goes comes r);
+        free = omega (arith, sizes, free-after r);
       }
 
 -- a file changed where it stands
-pub altered-done : (image after name : List ℕ) (k : ℕ) (fresh : List ℕ) → Altered image after k fresh → name ≡ nameIn image k
+pub altered-done : {image after : List ℕ} {k : ℕ} {fresh : List ℕ} → Altered image after k fresh → (name : List ℕ) → name ≡ nameIn image k
     → (change : File → File) → change (fileIn image k) ≡ fileIn after k → Done image after name (effect (changed name change (catalogue image)) (length fresh) 0)
 unfolding catalogue
-altered-done image after name k fresh a is change e =
-    let r = altered image after k fresh a in
-    replaced-done image after (nameIn image k) name (at k) (at k) r is _ (length fresh) 0
-    (ap (map (fileIn after)) (files-same image after k fresh a)
-    ∙ changed-files image name k is after change e (files image) (a .listed) (λ j there. listed-name image (a .sound) j k there (a .listed)) (file-stands image after (nameIn image k) (at k) (at k) r))
+altered-done {image} {after} {k} {fresh} a name is change e =
+    let r = altered a in
+    replaced-done r name is _ (length fresh) 0
+    (ap (map (fileIn after)) (files-same a)
+    ∙ changed-files image name k is after change e (files image) (a .listed) (λ j there. listed-name image (a .sound) j k there (a .listed)) (file-stands r))
     (omega (arith, ap length (a .places), length-append (placesIn image k) fresh))

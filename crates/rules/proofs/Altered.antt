@@ -33,7 +33,7 @@ pub record Altered (image after : List ℕ) (k : ℕ) (fresh : List ℕ) : Type 
   pub places : placesIn after k ≡ placesIn image k ++ fresh
   pub stands : (j : ℕ) → 1 ≤ count j (fileHolders image (files image)) → count j (k ∷ placesIn image k) ≡ 0 → sectorOf after j ≡ sectorOf image j
 
-module _ (image after : List ℕ) (k : ℕ) (fresh : List ℕ) (a : Altered image after k fresh) where
+module _ {image after : List ℕ} {k : ℕ} {fresh : List ℕ} (a : Altered image after k fresh) where
   pub files-same : files after ≡ files image
   unfolding files
   files-same = ap numbers (a .sector1)

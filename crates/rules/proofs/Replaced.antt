@@ -120,7 +120,7 @@ coming-ascending image after name none ks new up long kept = λ p q h l. rw (kep
 coming-ascending image after name (at k) ks new up long kept =
     placed-ascending image after name k (new .named) ks up (λ p h. long p h ∙ sym (rw (new .named) at (new .rules .name .ten))) (λ p h. new .alone (getD ks p 0) (count-at ks p h)) kept
 
-module _ (image after name : List ℕ) (goes comes : Slot) (r : Replaced image after name goes comes) where
+module _ {image after name : List ℕ} {goes comes : Slot} (r : Replaced image after name goes comes) where
   abbrev others : List ℕ
   others = staying goes (files image)
 
