@@ -1,5 +1,5 @@
 -- The places ahead of a cursor, a step at a time.
-use mathlib.Core.Path.{_≡_, ap, _∙_}
+use mathlib.Core.Path.{_≡_, ap, subst, _∙_}
 use mathlib.Core.List.{List, [], _∷_, _++_}
 use Prim.Native.Nat.{ℕ, _+_, _-_, _≤_, _<_}
 use native.Mathlib.Omega.{arith}
@@ -7,13 +7,25 @@ use lib.ListN.{drop}
 use Rattle.rules.specs.Chain.{blocks, run, placesFrom, places}
 use Rattle.rules.specs.declared.Block.{Block}
 use Rattle.rules.proofs.Chain.{run-none, run-step}
-use Rattle.descriptor.specs.Cursor.{ahead, first}
+use Rattle.descriptor.specs.Cursor.{ahead, Steady, first, Stepped}
 use Rattle.descriptor.specs.declared.chain.Cursor.{Cursor}
+use Rattle.descriptor.specs.declared.chain.Step.{Step}
+use Rattle.descriptor.specs.declared.chain.Step.the-variants.{Place, End}
 
 -- at the start all places of the file are ahead
 pub at-first : (chain : List ℕ) → ahead chain first ≡ places chain
 unfolding ahead places
 at-first chain = rw (run-none 0)
+
+-- a turn of a loop over a cursor's steps, by what the step gave
+module _ (chain : List ℕ) (cursor : Cursor) (step : Step) (is : Stepped chain cursor step) where
+  pub at-place : {place : ℕ} {next : Cursor} → step ≡ Place place next → (ahead chain cursor ≡ place ∷ ahead chain next) × Steady chain next × (place < 8192)
+  unfolding Stepped
+  at-place e = subst (Stepped chain cursor) e is
+
+  pub at-end : step ≡ End → ahead chain cursor ≡ []
+  unfolding Stepped
+  at-end e = subst (Stepped chain cursor) e is
 
 module _ (chain : List ℕ) (cursor : Cursor) where
   pub in-block : 0 < cursor .left

@@ -1,8 +1,8 @@
-// Blocks, the walk over those of a chain, and the cursor that goes through the places of a chain.
+// Blocks, the walk over those of a chain, and the cursor that goes through its places.
 ghost use mathlib.Core.Path.{_≡_};
 ghost use Prim.Native.Nat.{_-_, _≤_, _<_};
 ghost use lib.ListN.{length, getD};
-ghost use Rattle.rules.specs.Chain.{blockOf, endsChain, places};
+ghost use Rattle.rules.specs.Chain.{blockOf, blockBytes, endsChain, places};
 ghost use Rattle.descriptor.specs.Walk.{BlocksFrom};
 ghost use Rattle.descriptor.specs.Cursor.{Steady, first, Stepped};
 use rules::Block;
@@ -18,6 +18,17 @@ fn block_of(a: u8, b: u8, c: u8) -> Block
         start: low + 256 * (middle % 16),
         last: middle / 16 + 16 * high,
     }
+}
+
+// The three bytes of a block.
+pub fn block_bytes(start: usize, last: usize) -> [u8; 3]
+    requires { ⌜ (start < 4096) × (last < 4096) ⌝ }
+    ensures { λ r. ⌜ r ≡ blockBytes (record { start = start; last = last }) ⌝ }
+{
+    let low = (start % 256) as u8;
+    let middle = (start / 256 + 16 * (last % 16)) as u8;
+    let high = (last / 16) as u8;
+    [low, middle, high]
 }
 
 // Whether three bytes end the chain.

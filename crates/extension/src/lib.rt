@@ -2,11 +2,11 @@
 // otherwise into a block of its own.
 ghost use mathlib.Core.Path.{_≡_};
 ghost use Prim.Native.Nat.{_<_};
-ghost use Rattle.rules.specs.Chain.{blockBytes};
 ghost use Rattle.extension.specs.Tip.{isNext, tipWith, IsTip};
 ghost use Rattle.extension.specs.Built.{Extendable, Extends};
 use descriptor::chain::Met;
 use descriptor::chain::block_at;
+use descriptor::chain::block_bytes;
 use sector::buffer::lay;
 
 // How many blocks a chain has; where the last one starts, the first file sector that it covers, and the first file sector
@@ -78,16 +78,6 @@ pub fn tip_with(tip: Tip, k: usize) -> Tip
         first: tip.next,
         next: tip.next + 1,
     }
-}
-
-fn block_bytes(start: usize, last: usize) -> [u8; 3]
-    requires { ⌜ (start < 4096) × (last < 4096) ⌝ }
-    ensures { λ r. ⌜ r ≡ blockBytes (record { start = start; last = last }) ⌝ }
-{
-    let low = (start % 256) as u8;
-    let middle = (start / 256 + 16 * (last % 16)) as u8;
-    let high = (last / 16) as u8;
-    [low, middle, high]
 }
 
 // Writes the one block that changes, and gives the new tip.

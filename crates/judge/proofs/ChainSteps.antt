@@ -4,12 +4,11 @@ use mathlib.Core.Bool.{Bool, _&&_}
 use mathlib.Core.List.{List, [], _∷_}
 use Prim.Native.Nat.{ℕ, suc, _+_, _-_, _*_}
 use native.Mathlib.Omega.{arith}
-use lib.Dec.{leb, ltb}
+use lib.Dec.{eqb, leb, ltb}
 use lib.ListN.{length, drop}
 use Rattle.rules.specs.Bytes.{allAre}
 use Rattle.rules.specs.Chain.{blocks, blocksRule, chainRule}
 use Rattle.rules.specs.declared.Block.{Block}
-use Rattle.judge.specs.Rest.{chainEnd}
 
 -- the rule of what is left
 unfoldable pub chainRest : ℕ → ℕ → List ℕ → ℕ → ℕ → Bool
@@ -30,7 +29,7 @@ module _ (n c : ℕ) (chain : List ℕ) (at next : ℕ) where
       let z : at + 3 * suc (length more) ≡ at + 3 + 3 * length more = omega arith in
       rw (here, z)
 
-  pub chain-past : blocks (drop at chain) ≡ [] → chainRest n c chain at next ≡ chainEnd c chain at next
+  pub chain-past : blocks (drop at chain) ≡ [] → chainRest n c chain at next ≡ (eqb next c && allAre 0 (drop at chain))
   unfolding chainRest blocksRule
   chain-past none =
       let z : at + 3 * 0 ≡ at = omega arith in

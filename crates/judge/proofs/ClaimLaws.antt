@@ -90,30 +90,31 @@ system-count (suc zero) hs = inl (omega arith, count-other 1 0 (1 ∷ hs) (λ e.
 system-count (suc (suc k)) hs =
     inr (omega arith, count-other (suc (suc k)) 0 (1 ∷ hs) (λ e. omega (arith, e)) ∙ count-other (suc (suc k)) 1 hs (λ e. omega (arith, e)))
 
--- On marks that have zero for sectors 2 to n - 1 and one for all others, the files' holders, which are among the former, are claimed twice exactly
--- where a sector has two holders, and else leave the bits of the map.
-module _ (n : ℕ) (image marks : List ℕ) (large : 3 ≤ n) (small : n ≤ 1600) (long : length marks ≡ 1600)
+-- On marks that have zero for sectors 2 to n - 1 and one for all others, holders that are among the former are claimed twice exactly where, with the two
+-- system sectors, one is held twice, and else leave the bits of the map.
+module _ (n : ℕ) (hs marks : List ℕ) (large : 3 ≤ n) (small : n ≤ 1600) (long : length marks ≡ 1600)
     (free : (k : ℕ) → 2 ≤ k → k < n → markAt marks k ≡ 0) (held : (k : ℕ) → k < 1600 → (k < 2) ⊎ (n ≤ k) → markAt marks k ≡ 1)
-    (inside : (k : ℕ) → 1 ≤ count k (fileHolders image (files image)) → (2 ≤ k) × (k < n)) where
-  none-outside : (k : ℕ) → ((2 ≤ k) × (k < n) → ⊥) → count k (fileHolders image (files image)) ≡ 0
-  none-outside k out =
-      elim (decLt 0 (count k (fileHolders image (files image)))) [
-        | yes some ↦ absurd (out (inside k some))
+    (inside : (k : ℕ) → 1 ≤ count k hs → (2 ≤ k) × (k < n)) where
+  none-past : (k : ℕ) → n ≤ k → count k hs ≡ 0
+  none-past k past =
+      elim (decLt 0 (count k hs)) [
+        | yes some ↦ absurd (omega (arith, inside k some .1))
         | no none ↦ omega arith
       ]
 
-  below : (k : ℕ) → k < n → count k (holders image) ≡ markAt marks k + count k (fileHolders image (files image))
-  unfolding holders
-  below k h = go (system-count k (fileHolders image (files image)))
-    where
-      go : ((k < 2) × (count k (0 ∷ (1 ∷ fileHolders image (files image))) ≡ 1 + count k (fileHolders image (files image))))
-          ⊎ ((2 ≤ k) × (count k (0 ∷ (1 ∷ fileHolders image (files image))) ≡ count k (fileHolders image (files image))))
-          → count k (0 ∷ (1 ∷ fileHolders image (files image))) ≡ markAt marks k + count k (fileHolders image (files image))
-      go (inl low) = omega (arith, low .1, held k (omega arith) (inl (low .0)))
-      go (inr high) = omega (arith, high .1, free k (high .0) h)
+  below : (k : ℕ) → k < n → count k (0 ∷ (1 ∷ hs)) ≡ markAt marks k + count k hs
+  below k h =
+      elim (system-count k hs) [
+        | inl low ↦ omega (arith, low .1, held k (omega arith) (inl (low .0)))
+        | inr high ↦ omega (arith, high .1, free k (high .0) h)
+      ]
 
-  past : (k : ℕ) → n ≤ k → k < 1600 → (markAt marks k ≡ 1) × (count k (fileHolders image (files image)) ≡ 0)
-  past k h l = (held k l (inr h), none-outside k (λ both-in. omega (arith, both-in .1)))
+  outside : (k : ℕ) → n ≤ k → count k (0 ∷ (1 ∷ hs)) ≤ 1
+  outside k h =
+      elim (system-count k hs) [
+        | inl low ↦ absurd (omega (arith, low .0))
+        | inr high ↦ omega (arith, high .1, none-past k h)
+      ]
 
   mark-small : (k : ℕ) → k < 1600 → markAt marks k ≤ 1
   mark-small k l =
@@ -126,50 +127,39 @@ module _ (n : ℕ) (image marks : List ℕ) (large : 3 ≤ n) (small : n ≤ 160
         | no h ↦ omega (arith, held k l (inr (omega arith)))
       ]
 
-  outside : (k : ℕ) → n ≤ k → count k (holders image) ≤ 1
-  unfolding holders
-  outside k h = go (system-count k (fileHolders image (files image)))
-    where
-      go : ((k < 2) × (count k (0 ∷ (1 ∷ fileHolders image (files image))) ≡ 1 + count k (fileHolders image (files image))))
-          ⊎ ((2 ≤ k) × (count k (0 ∷ (1 ∷ fileHolders image (files image))) ≡ count k (fileHolders image (files image))))
-          → count k (0 ∷ (1 ∷ fileHolders image (files image))) ≤ 1
-      go (inl low) = absurd (omega (arith, low .0))
-      go (inr high) = omega (arith, high .1, none-outside k (λ both-in. omega (arith, both-in .1)))
-
-  clash : claim marks (fileHolders image (files image)) .twice ≡ false → heldTwice (holders image) ≡ false
+  clash : claim marks hs .twice ≡ false → heldTwice (0 ∷ (1 ∷ hs)) ≡ false
   clash e =
-      once-held (holders image)
+      once-held (0 ∷ (1 ∷ hs))
       (λ k.
       elim (decLt k n) [
-        | yes h ↦ omega (arith, below k h, claimed-once marks (fileHolders image (files image)) long e k (omega arith) (mark-small k (omega arith)) .1)
+        | yes h ↦ omega (arith, below k h, claimed-once marks hs long e k (omega arith) (mark-small k (omega arith)) .1)
         | no h ↦ omega (arith, outside k (omega arith))
       ])
 
-  no-clash : heldTwice (holders image) ≡ false → claim marks (fileHolders image (files image)) .twice ≡ false
+  no-clash : heldTwice (0 ∷ (1 ∷ hs)) ≡ false → claim marks hs .twice ≡ false
   no-clash e =
-      once-claimed marks (fileHolders image (files image)) long (λ k h. omega (arith, inside k h .1))
+      once-claimed marks hs long (λ k h. omega (arith, inside k h .1))
       (λ k l.
       elim (decLt k n) [
-        | yes h ↦ omega (arith, below k h, held-once (holders image) e k)
-        | no h ↦ let p = past k (omega arith) l in omega arith
+        | yes h ↦ omega (arith, below k h, held-once (0 ∷ (1 ∷ hs)) e k)
+        | no h ↦ omega (arith, mark-small k l, none-past k (omega arith))
       ])
 
-  pub twice-is : claim marks (fileHolders image (files image)) .twice ≡ heldTwice (holders image)
-  twice-is = go (claim marks (fileHolders image (files image)) .twice) (heldTwice (holders image)) refl refl
+  pub twice-is : claim marks hs .twice ≡ heldTwice (0 ∷ (1 ∷ hs))
+  twice-is = go (claim marks hs .twice) (heldTwice (0 ∷ (1 ∷ hs))) refl refl
     where
-      go : (s t : Bool) → claim marks (fileHolders image (files image)) .twice ≡ s → heldTwice (holders image) ≡ t → s ≡ t
+      go : (s t : Bool) → claim marks hs .twice ≡ s → heldTwice (0 ∷ (1 ∷ hs)) ≡ t → s ≡ t
       go true true e f = refl
       go false false e f = refl
       go true false e f = sym e ∙ no-clash f
       go false true e f = sym (clash e) ∙ f
 
-  pub marks-are : claim marks (fileHolders image (files image)) .twice ≡ false → (k : ℕ) → k < 1600
-      → markAt (claim marks (fileHolders image (files image)) .marks) k ≡ taken n (holders image) k
+  pub marks-are : claim marks hs .twice ≡ false → (k : ℕ) → k < 1600 → markAt (claim marks hs .marks) k ≡ taken n (0 ∷ (1 ∷ hs)) k
   marks-are e k l =
-      let grown = claimed-once marks (fileHolders image (files image)) long e k l (mark-small k l) .0 in
+      let grown = claimed-once marks hs long e k l (mark-small k l) .0 in
       elim (decLt k n) [
-        | yes h ↦ grown ∙ sym (taken-below n (holders image) k h ∙ below k h)
-        | no h ↦ let p = past k (omega arith) l in grown ∙ sym (taken-past n (holders image) k (omega arith) ∙ omega arith)
+        | yes h ↦ grown ∙ sym (taken-below n (0 ∷ (1 ∷ hs)) k h ∙ below k h)
+        | no h ↦ grown ∙ sym (taken-past n (0 ∷ (1 ∷ hs)) k (omega arith) ∙ omega (arith, held k l (inr (omega arith)), none-past k (omega arith)))
       ]
 
 -- claims leave as many marks as there were
@@ -206,16 +196,18 @@ module _ (image marks : List ℕ) (first : marks ≡ unmarked (replicate 1600 1)
   -- what the claims come to, and the marks that they leave
   module _ (twice : Bool) (after : List ℕ) (is : claimed twice after ≡ claim marks (fileHolders image (files image))) where
     pub judged-twice : heldTwice (holders image) ≡ twice
+    unfolding holders
     judged-twice =
         let size = size-is image (passed .sized) in
-        sym (ap (λ (r : Claimed). r .twice) is ∙ twice-is (sectorCount image) image marks (size .1) (size .2) long free held inside)
+        sym (ap (λ (r : Claimed). r .twice) is ∙ twice-is (sectorCount image) (fileHolders image (files image)) marks (size .1) (size .2) long free held inside)
 
     module _ (once : twice ≡ false) where
       marks-taken : (k : ℕ) → k < 1600 → markAt after k ≡ taken (sectorCount image) (holders image) k
+      unfolding holders
       marks-taken k l =
           let size = size-is image (passed .sized) in
           rw (ap (λ (r : Claimed). r .marks) is)
-          (marks-are (sectorCount image) image marks (size .1) (size .2) long free held inside (sym (ap (λ (r : Claimed). r .twice) is) ∙ once) k l)
+          (marks-are (sectorCount image) (fileHolders image (files image)) marks (size .1) (size .2) long free held inside (sym (ap (λ (r : Claimed). r .twice) is) ∙ once) k l)
 
       pub judged-small : (k : ℕ) → markAt after k ≤ 1
       judged-small k =

@@ -7,6 +7,7 @@ use native.Mathlib.Omega.{arith}
 use lib.Dec.{leb, ltb}
 use lib.ListN.{length, drop}
 use borrow.Author.Tests.{lt-ltb, ltb-true}
+use Rattle.rules.specs.Bytes.{allAre}
 use Rattle.rules.specs.Sectors.{sectorOf}
 use Rattle.rules.specs.Index.{numbers, rangeRule, indexRule}
 use Rattle.rules.specs.Name.{precedes}
@@ -14,9 +15,11 @@ use Rattle.rules.specs.Descriptor.{nameOf, descriptorRule}
 use Rattle.rules.specs.Volume.{nameIn}
 use Rattle.rules.specs.Verdict.{descriptorsRule}
 use Rattle.rules.proofs.Tests.{same-test}
-use Rattle.judge.specs.Rest.{indexEnd}
 
--- the rule of what is left
+-- what is tested where the numbers end, and the rule of what is left
+abbrev pub indexEnd : List ℕ → ℕ → Bool
+indexEnd sector1 at = ltb at 256 && allAre 0 (drop at sector1)
+
 unfoldable pub indexRest : ℕ → List ℕ → ℕ → Bool
 indexRest n sector1 at = rangeRule n (numbers (drop at sector1)) && indexEnd sector1 (at + 2 * length (numbers (drop at sector1)))
 

@@ -1,3 +1,2 @@
--- What the judge's loops have still to do.
-pub mod Rest
+-- The marks of the judge's loop over the holders.
 pub mod Claim

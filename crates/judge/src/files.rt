@@ -6,7 +6,6 @@ ghost use Rattle.rules.specs.Descriptor.{descriptorRule};
 ghost use Rattle.rules.specs.Kind.{kindRule};
 ghost use Rattle.rules.specs.Verdict.{descriptorsRule};
 ghost use Rattle.rules.specs.Volume.{files};
-ghost use Rattle.judge.specs.Rest.{chainEnd};
 use descriptor::chain::Met;
 use descriptor::chain::block_at;
 use descriptor::kind::kind_of;
@@ -21,17 +20,7 @@ use sector::bytes::sector_of;
 use sector::bytes::word;
 use sector::numbers::number_at;
 
-// Past the last block: c sectors are covered, and the rest is zero.
-fn chain_end(c: usize, chain: &[u8], at: usize, next: usize) -> bool
-    ensures { λ r. ⌜ r ≡ chainEnd c (now (chain .entry)) at next ⌝ }
-{
-    if next != c {
-        return false;
-    }
-    all_are(0, chain, at)
-}
-
-// The chain decoder: it receives the part of the descriptor that starts at byte 28.
+// The chain decoder: it receives the part of the descriptor that starts at byte 28. Past the last block c sectors are covered, and the rest is zero.
 fn chain_rule(n: usize, c: usize, chain: &[u8]) -> bool
     ensures { λ r. ⌜ r ≡ chainRule n c (now (chain .entry)) ⌝ }
 {
@@ -52,7 +41,10 @@ fn chain_rule(n: usize, c: usize, chain: &[u8]) -> bool
         at += 3;
         next = last + 1;
     }
-    chain_end(c, chain, at, next)
+    if next != c {
+        return false;
+    }
+    all_are(0, chain, at)
 }
 
 fn kind_rule(kind: Kind, c: usize) -> bool

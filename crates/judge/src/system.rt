@@ -2,7 +2,6 @@
 ghost use mathlib.Core.Path.{_≡_};
 ghost use Rattle.rules.specs.Label.{labelRule};
 ghost use Rattle.rules.specs.Index.{indexRule};
-ghost use Rattle.judge.specs.Rest.{indexEnd};
 use descriptor::name::name_rule;
 use sector::bytes::all_are;
 use sector::bytes::byte;
@@ -28,16 +27,7 @@ pub(crate) fn label_rule(n: usize, sector0: &[u8]) -> bool
     byte(sector0, 15) == 0x4B
 }
 
-// Past the last number: not all 128 are used, and the rest is zero.
-fn index_end(sector1: &[u8], at: usize) -> bool
-    ensures { λ r. ⌜ r ≡ indexEnd (now (sector1 .entry)) at ⌝ }
-{
-    if at >= 256 {
-        return false;
-    }
-    all_are(0, sector1, at)
-}
-
+// Past the last number not all 128 are used, and the rest is zero.
 pub(crate) fn index_rule(n: usize, sector1: &[u8]) -> bool
     ensures { λ r. ⌜ r ≡ indexRule n (now (sector1 .entry)) ⌝ }
 {
@@ -45,7 +35,10 @@ pub(crate) fn index_rule(n: usize, sector1: &[u8]) -> bool
     loop {
         let k = number_at(sector1, at);
         if k == 0 {
-            return index_end(sector1, at);
+            if at >= 256 {
+                return false;
+            }
+            return all_are(0, sector1, at);
         }
         if k < 2 {
             return false;

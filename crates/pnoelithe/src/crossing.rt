@@ -1,7 +1,6 @@
 // How answers cross to C, which has no enums and no bools: as numbers, and values behind pointers.
 ghost use mathlib.Core.Path.{_≡_};
-ghost use Rattle.rules.specs.Outcome.{answerNumber, amountNumber};
-ghost use Rattle.pnoelithe.specs.Crossing.{kindNumber, flag, amountBehind};
+ghost use Rattle.pnoelithe.specs.Crossing.{kindNumber, flag, answerNumber, amountNumber, amountBehind};
 use rules::Amount;
 use rules::Answer;
 use rules::Kind;

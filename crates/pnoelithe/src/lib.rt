@@ -2,8 +2,7 @@
 // Each gives its number, 0 where it was done; what a call gives beside it is written behind the pointers lent for it, with number 0 only.
 ghost use mathlib.Core.Path.{_≡_};
 ghost use lib.ListN.{length};
-ghost use Rattle.rules.specs.Bytes.{splice};
-ghost use Rattle.rules.specs.Sectors.{sectorOf, sectorCount, written};
+ghost use Rattle.rules.specs.Sectors.{sectorOf, sectorCount};
 ghost use Rattle.rules.specs.Descriptor.{statusOf, sectorsOf, fileKind};
 ghost use Rattle.rules.specs.Map.{freeCount};
 ghost use Rattle.rules.specs.Volume.{files};
@@ -11,9 +10,9 @@ ghost use Rattle.rules.specs.Sound.{fileAt};
 ghost use Rattle.rules.specs.Verdict.{verdict};
 ghost use Rattle.rules.specs.Outcome.{behind};
 ghost use Rattle.rules.specs.Calls.Format.{formatNumber, afterFormat};
-ghost use Rattle.rules.specs.Calls.Free.{freeCountOf, summaryName};
+ghost use Rattle.rules.specs.Calls.Summary.{freeCountOf, summaryOf};
 ghost use Rattle.rules.specs.Kind.{isProtected};
-ghost use Rattle.rules.specs.Calls.Catalogue.{entryOf};
+ghost use Rattle.rules.specs.Calls.Entry.{entryOf};
 ghost use Rattle.rules.specs.Calls.Read.{readOf};
 ghost use Rattle.rules.specs.Calls.Load.{loadOf};
 ghost use Rattle.rules.specs.Calls.Listing.{kindLength, listingOf};
@@ -25,7 +24,7 @@ ghost use Rattle.rules.specs.Calls.Store.{storeOf};
 ghost use Rattle.rules.specs.Calls.Delete.{deleteOf};
 ghost use Rattle.rules.specs.Calls.Rename.{renameOf};
 ghost use Rattle.rules.specs.Calls.Pack.{packNumber, afterPack};
-ghost use Rattle.pnoelithe.specs.Crossing.{kindNumber, flag};
+ghost use Rattle.pnoelithe.specs.Crossing.{kindNumber, flag, Crosses, ReportCrosses, AmountCrosses};
 
 mod crossing;
 
@@ -71,9 +70,9 @@ pub extern "C" fn pno_format(
 // The number of free sectors.
 #[no_mangle]
 pub extern "C" fn pno_free_count(image: &[u8], free: &mut usize) -> u32
-    ensures { λ r. ⌜ (r ≡ freeCountOf (now (image .entry)) .number) × (now (free .exit) ≡ behind r (freeCountOf (now (image .entry)) .value) (now (free .entry))) ⌝ }
+    ensures { λ r. ⌜ AmountCrosses (freeCountOf (now (image .entry))) r (now (free .entry)) (now (free .exit)) ⌝ }
 {
-    amount_number(volume::free_count(image), free)
+    amount_number(summarizing::free_count(image), free)
 }
 
 // Disk name, number of sectors, of files, and of free sectors.
@@ -85,13 +84,12 @@ pub extern "C" fn pno_summary(
     count: &mut usize,
     free: &mut usize,
 ) -> u32
-    ensures number { λ r. ⌜ r ≡ verdict (now (image .entry)) ⌝ }
-    ensures name { λ _. ⌜ now (name .exit) ≡ splice (now (name .entry)) 0 (summaryName (now (image .entry))) ⌝ }
+    ensures name { λ r. ⌜ ReportCrosses (summaryOf (now (image .entry))) r (now (name .entry)) (now (name .exit)) ⌝ }
     ensures sectors { λ r. ⌜ now (sectors .exit) ≡ behind r (sectorCount (now (image .entry))) (now (sectors .entry)) ⌝ }
     ensures count { λ r. ⌜ now (count .exit) ≡ behind r (length (files (now (image .entry)))) (now (count .entry)) ⌝ }
     ensures free { λ r. ⌜ now (free .exit) ≡ behind r (freeCount (sectorOf (now (image .entry)) 0)) (now (free .entry)) ⌝ }
 {
-    let summary = volume::summary(image, name);
+    let summary = summarizing::summary(image, name);
     match summary {
         Summary::Refused(number) => number,
         Summary::Given {
@@ -118,14 +116,13 @@ pub extern "C" fn pno_entry(
     sectors: &mut usize,
     is_protected: &mut usize,
 ) -> u32
-    ensures number { λ r. ⌜ r ≡ entryOf (now (image .entry)) place (length (now (header .entry))) .number ⌝ }
-    ensures header { λ _. ⌜ now (header .exit) ≡ splice (now (header .entry)) 0 (entryOf (now (image .entry)) place (length (now (header .entry))) .bytes) ⌝ }
+    ensures header { λ r. ⌜ ReportCrosses (entryOf (now (image .entry)) place (length (now (header .entry)))) r (now (header .entry)) (now (header .exit)) ⌝ }
     ensures kind { λ r. ⌜ now (kind .exit) ≡ behind r (kindNumber (fileKind (sectorOf (now (image .entry)) (fileAt (now (image .entry)) place)))) (now (kind .entry)) ⌝ }
     ensures size { λ r. ⌜ now (size .exit) ≡ behind r (kindLength (fileKind (sectorOf (now (image .entry)) (fileAt (now (image .entry)) place)))) (now (size .entry)) ⌝ }
     ensures sectors { λ r. ⌜ now (sectors .exit) ≡ behind r (sectorsOf (sectorOf (now (image .entry)) (fileAt (now (image .entry)) place))) (now (sectors .entry)) ⌝ }
     ensures protection { λ r. ⌜ now («is_protected» .exit) ≡ behind r (flag (isProtected (statusOf (sectorOf (now (image .entry)) (fileAt (now (image .entry)) place))))) (now («is_protected» .entry)) ⌝ }
 {
-    let entry = volume::entry(image, place, header);
+    let entry = cataloguing::entry(image, place, header);
     let answer = entry.answer;
     let row = entry.row;
     match answer {
@@ -144,7 +141,7 @@ pub extern "C" fn pno_entry(
 // A sector of a file.
 #[no_mangle]
 pub extern "C" fn pno_read(image: &[u8], name: &[u8], offset: usize, out: &mut [u8]) -> u32
-    ensures { λ r. ⌜ (r ≡ readOf (now (image .entry)) (now (name .entry)) offset (length (now (out .entry))) .number) × (now (out .exit) ≡ splice (now (out .entry)) 0 (readOf (now (image .entry)) (now (name .entry)) offset (length (now (out .entry))) .bytes)) ⌝ }
+    ensures { λ r. ⌜ ReportCrosses (readOf (now (image .entry)) (now (name .entry)) offset (length (now (out .entry)))) r (now (out .entry)) (now (out .exit)) ⌝ }
 {
     answer_number(reading::read(image, name, offset, out))
 }
@@ -152,15 +149,17 @@ pub extern "C" fn pno_read(image: &[u8], name: &[u8], offset: usize, out: &mut [
 // A program's bytes and their number.
 #[no_mangle]
 pub extern "C" fn pno_load(image: &[u8], name: &[u8], out: &mut [u8], size: &mut usize) -> u32
-    ensures { λ r. ⌜ (r ≡ loadOf (now (image .entry)) (now (name .entry)) (length (now (out .entry))) .number) × (now (out .exit) ≡ splice (now (out .entry)) 0 (loadOf (now (image .entry)) (now (name .entry)) (length (now (out .entry))) .bytes)) × (now (size .exit) ≡ behind r (loadOf (now (image .entry)) (now (name .entry)) (length (now (out .entry))) .value) (now (size .entry))) ⌝ }
+    ensures bytes { λ r. ⌜ ReportCrosses (loadOf (now (image .entry)) (now (name .entry)) (length (now (out .entry)))) r (now (out .entry)) (now (out .exit)) ⌝ }
+    ensures size { λ r. ⌜ AmountCrosses (loadOf (now (image .entry)) (now (name .entry)) (length (now (out .entry)))) r (now (size .entry)) (now (size .exit)) ⌝ }
 {
-    amount_number(reading::load(image, name, out), size)
+    amount_number(loading::load(image, name, out), size)
 }
 
 // The catalogue program's text and its length.
 #[no_mangle]
 pub extern "C" fn pno_listing(image: &[u8], out: &mut [u8], size: &mut usize) -> u32
-    ensures { λ r. ⌜ (r ≡ listingOf (now (image .entry)) (length (now (out .entry))) .number) × (now (out .exit) ≡ splice (now (out .entry)) 0 (listingOf (now (image .entry)) (length (now (out .entry))) .bytes)) × (now (size .exit) ≡ behind r (listingOf (now (image .entry)) (length (now (out .entry))) .value) (now (size .entry))) ⌝ }
+    ensures bytes { λ r. ⌜ ReportCrosses (listingOf (now (image .entry)) (length (now (out .entry)))) r (now (out .entry)) (now (out .exit)) ⌝ }
+    ensures size { λ r. ⌜ AmountCrosses (listingOf (now (image .entry)) (length (now (out .entry)))) r (now (size .entry)) (now (size .exit)) ⌝ }
 {
     amount_number(listing::listing(image, out), size)
 }
@@ -174,7 +173,7 @@ pub extern "C" fn pno_create(
     record_length: u8,
     records_per_sector: u8,
 ) -> u32
-    ensures { λ r. ⌜ (r ≡ createOf (now (image .entry)) (now (name .entry)) status «record_length» «records_per_sector» .number) × (now (image .exit) ≡ written (now (image .entry)) (createOf (now (image .entry)) (now (name .entry)) status «record_length» «records_per_sector» .writes)) ⌝ }
+    ensures { λ r. ⌜ Crosses (createOf (now (image .entry)) (now (name .entry)) status «record_length» «records_per_sector») r (now (image .entry)) (now (image .exit)) ⌝ }
 {
     answer_number(creating::create(image, name, status, record_length, records_per_sector))
 }
@@ -182,7 +181,7 @@ pub extern "C" fn pno_create(
 // One sector more of a file.
 #[no_mangle]
 pub extern "C" fn pno_append(image: &mut [u8], name: &[u8], bytes: &[u8]) -> u32
-    ensures { λ r. ⌜ (r ≡ appendOf (now (image .entry)) (now (name .entry)) (now (bytes .entry)) .number) × (now (image .exit) ≡ written (now (image .entry)) (appendOf (now (image .entry)) (now (name .entry)) (now (bytes .entry)) .writes)) ⌝ }
+    ensures { λ r. ⌜ Crosses (appendOf (now (image .entry)) (now (name .entry)) (now (bytes .entry))) r (now (image .entry)) (now (image .exit)) ⌝ }
 {
     answer_number(appending::append(image, name, bytes))
 }
@@ -190,31 +189,31 @@ pub extern "C" fn pno_append(image: &mut [u8], name: &[u8], bytes: &[u8]) -> u32
 // Another 256 bytes in a sector of a file.
 #[no_mangle]
 pub extern "C" fn pno_overwrite(image: &mut [u8], name: &[u8], offset: usize, bytes: &[u8]) -> u32
-    ensures { λ r. ⌜ (r ≡ overwriteOf (now (image .entry)) (now (name .entry)) offset (now (bytes .entry)) .number) × (now (image .exit) ≡ written (now (image .entry)) (overwriteOf (now (image .entry)) (now (name .entry)) offset (now (bytes .entry)) .writes)) ⌝ }
+    ensures { λ r. ⌜ Crosses (overwriteOf (now (image .entry)) (now (name .entry)) offset (now (bytes .entry))) r (now (image .entry)) (now (image .exit)) ⌝ }
 {
-    answer_number(changing::overwrite(image, name, offset, bytes))
+    answer_number(overwriting::overwrite(image, name, offset, bytes))
 }
 
 // The protection of a file.
 #[no_mangle]
 pub extern "C" fn pno_protect(image: &mut [u8], name: &[u8]) -> u32
-    ensures { λ r. ⌜ (r ≡ protectOf (now (image .entry)) (now (name .entry)) .number) × (now (image .exit) ≡ written (now (image .entry)) (protectOf (now (image .entry)) (now (name .entry)) .writes)) ⌝ }
+    ensures { λ r. ⌜ Crosses (protectOf (now (image .entry)) (now (name .entry))) r (now (image .entry)) (now (image .exit)) ⌝ }
 {
-    answer_number(changing::protect(image, name))
+    answer_number(protecting::protect(image, name))
 }
 
 // And its end.
 #[no_mangle]
 pub extern "C" fn pno_unprotect(image: &mut [u8], name: &[u8]) -> u32
-    ensures { λ r. ⌜ (r ≡ unprotectOf (now (image .entry)) (now (name .entry)) .number) × (now (image .exit) ≡ written (now (image .entry)) (unprotectOf (now (image .entry)) (now (name .entry)) .writes)) ⌝ }
+    ensures { λ r. ⌜ Crosses (unprotectOf (now (image .entry)) (now (name .entry))) r (now (image .entry)) (now (image .exit)) ⌝ }
 {
-    answer_number(changing::unprotect(image, name))
+    answer_number(protecting::unprotect(image, name))
 }
 
 // A program, of these bytes.
 #[no_mangle]
 pub extern "C" fn pno_store(image: &mut [u8], name: &[u8], bytes: &[u8]) -> u32
-    ensures { λ r. ⌜ (r ≡ storeOf (now (image .entry)) (now (name .entry)) (now (bytes .entry)) .number) × (now (image .exit) ≡ written (now (image .entry)) (storeOf (now (image .entry)) (now (name .entry)) (now (bytes .entry)) .writes)) ⌝ }
+    ensures { λ r. ⌜ Crosses (storeOf (now (image .entry)) (now (name .entry)) (now (bytes .entry))) r (now (image .entry)) (now (image .exit)) ⌝ }
 {
     answer_number(storing::store(image, name, bytes))
 }
@@ -222,17 +221,17 @@ pub extern "C" fn pno_store(image: &mut [u8], name: &[u8], bytes: &[u8]) -> u32
 // A file less.
 #[no_mangle]
 pub extern "C" fn pno_delete(image: &mut [u8], name: &[u8]) -> u32
-    ensures { λ r. ⌜ (r ≡ deleteOf (now (image .entry)) (now (name .entry)) .number) × (now (image .exit) ≡ written (now (image .entry)) (deleteOf (now (image .entry)) (now (name .entry)) .writes)) ⌝ }
+    ensures { λ r. ⌜ Crosses (deleteOf (now (image .entry)) (now (name .entry))) r (now (image .entry)) (now (image .exit)) ⌝ }
 {
-    answer_number(filing::delete(image, name))
+    answer_number(deleting::delete(image, name))
 }
 
 // A file under another name.
 #[no_mangle]
 pub extern "C" fn pno_rename(image: &mut [u8], old: &[u8], new: &[u8]) -> u32
-    ensures { λ r. ⌜ (r ≡ renameOf (now (image .entry)) (now (old .entry)) (now (new .entry)) .number) × (now (image .exit) ≡ written (now (image .entry)) (renameOf (now (image .entry)) (now (old .entry)) (now (new .entry)) .writes)) ⌝ }
+    ensures { λ r. ⌜ Crosses (renameOf (now (image .entry)) (now (old .entry)) (now (new .entry))) r (now (image .entry)) (now (image .exit)) ⌝ }
 {
-    answer_number(filing::rename(image, old, new))
+    answer_number(renaming::rename(image, old, new))
 }
 
 // The packed form of the source, in the target.

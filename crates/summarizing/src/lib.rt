@@ -11,7 +11,7 @@ use rules::Summary;
 use sector::buffer::lay;
 use sector::bytes::part;
 use sector::bytes::sector_of;
-use sector::bytes::word;
+use sector::numbers::number_at;
 
 pub fn free_count(image: &[u8]) -> Amount
     ensures { λ r. ⌜ AmountSays r (freeCountOf (now (image .entry))) ⌝ }
@@ -29,10 +29,7 @@ fn file_count(sector1: &[u8]) -> usize
 {
     let mut files = 0;
     let mut at = 0;
-    while at + 2 <= sector1.len() {
-        if word(sector1, at) == 0 {
-            return files;
-        }
+    while number_at(sector1, at) != 0 {
         files += 1;
         at += 2;
     }

@@ -1,4 +1,4 @@
--- `extension::is_next` meets its contract. Assumes nothing.
+-- `extension::is_next` meets its contract: k lies so many behind the block's start exactly where it is the start and so many more; a tip without blocks has no next. Assumes nothing.
 use mathlib.Core.Path.{_≡_}
 use Prim.Native.Nat.{ℕ, _+_, _-_, _≤_, _<_}
 use native.Mathlib.Omega.{arith}

@@ -1,4 +1,4 @@
--- `extension::tip_with` meets its contract. Assumes nothing.
+-- `extension::tip_with` meets its contract: the two ways out are the definition's cases, by what `is_next` answers. Assumes nothing.
 use mathlib.Core.Path.{sym, _∙_}
 use Rattle.extension.specs.Tip.{tipWith}
 use borrow.Author.Needs.{needs}

@@ -2,7 +2,7 @@
 -- are laws of the claims. Assumes nothing.
 use mathlib.Core.Path.{_≡_, sym, _∙_}
 use mathlib.Core.Bool.{true}
-use mathlib.Core.List.{List, []}
+use mathlib.Core.List.{List}
 use Prim.Native.Nat.{ℕ, _≤_}
 use native.Mathlib.Omega.{arith}
 use borrow.Author.Tests.{eq-eqb, ne-eqb, le-leb, lt-leb, not-true, not-false}
@@ -10,8 +10,8 @@ use Rattle.rules.specs.Sectors.{sectorOf, sectorCount}
 use Rattle.rules.specs.Label.{labelRule}
 use Rattle.rules.specs.Index.{indexRule}
 use Rattle.rules.specs.Map.{mapRule}
-use Rattle.rules.specs.Volume.{files, holders}
-use Rattle.rules.specs.Verdict.{sizeRule, descriptorsRule, heldTwice}
+use Rattle.rules.specs.Volume.{holders}
+use Rattle.rules.specs.Verdict.{sizeRule, heldTwice}
 use Rattle.rules.proofs.Bytes.{part-length}
 use Rattle.rules.proofs.Sectors.{sector-length}
 use Rattle.rules.proofs.Verdict.{size-is}
@@ -22,18 +22,12 @@ use borrow.Author.Needs.{needs}
 use Rattle.judge.proofs.judge.Statement.{statement}
 use Rattle.judge.proofs.judge.Tie as tie
 
--- The ways back, each from a test to where the one before it had passed: the size, the label, sector 1, the descriptors, the holders.
-abbrev e₁ : tie.Else3 → tie.Else1
-e₁ c = c .before .before
-
+-- The ways back, each from a test to where the one before it had passed: the size, the label, the descriptors, the holders.
 abbrev e₃ : tie.After-label-rule → tie.Else3
 e₃ c = c .before .before
 
 abbrev e₄ : tie.After-index-rule → tie.Else4
 e₄ c = c .before .before
-
-abbrev e₅ : tie.After-descriptors-rule → tie.Else5
-e₅ c = c .before
 
 abbrev u₆ : tie.After-claim-files → tie.After-unmark
 u₆ c = c .before .before
@@ -46,7 +40,7 @@ e₇ c = c .before .before .before
 
 -- the image, as each test has it
 abbrev lent : tie.Else3 → tie.After-shared-slice-known
-lent c = e₁ c .before
+lent c = c .before .before .before
 
 abbrev image₃ : tie.Else3 → List ℕ
 image₃ c = lent c .before .args .image .now
@@ -58,7 +52,7 @@ abbrev image₅ : tie.Else5 → List ℕ
 image₅ c = image₄ (e₄ (c .before))
 
 abbrev image₆ : tie.Else6 → List ℕ
-image₆ c = image₅ (e₅ (c .before))
+image₆ c = image₅ (c .before .before)
 
 abbrev image₇ : tie.After-claim-files → List ℕ
 image₇ c = image₆ (e₆ c)
@@ -66,7 +60,7 @@ image₇ c = image₆ (e₆ c)
 -- the tests that have passed
 sized : (c : tie.Else3) → sizeRule (image₃ c) ≡ true
 unfolding sizeRule
-sized c = rw (eq-eqb _ _ (e₁ c .if1 .left), le-leb _ _ (c .before .if2 .left), le-leb _ _ (c .if3 .left))
+sized c = rw (eq-eqb _ _ (c .before .before .if1 .left), le-leb _ _ (c .before .if2 .left), le-leb _ _ (c .if3 .left))
 
 label-is : (c : tie.After-label-rule) → labelRule (sectorCount (image₃ (e₃ c))) (sectorOf (image₃ (e₃ c)) 0) ≡ c .label-rule .result
 label-is c = rw (← c .before .sector-of .ensures) (sym (c .label-rule .ensures))
@@ -82,7 +76,7 @@ indexed c = index-is-result (c .before) ∙ not-false (c .before .index-rule .re
 
 passed : (c : tie.Else6) → FourPassed (image₆ c)
 passed c =
-    let five = e₅ (c .before) in
+    let five = c .before .before in
     let four = e₄ (five .before) in
     record {
       sized = sized (e₃ (four .before));
@@ -100,7 +94,7 @@ small c = judged-small _ _ (u₆ (c .before) .unmark .ensures) (passed (e₆ (c 
 
 -- and of the map; sector 0 was read before the label's test
 abbrev sector0 : tie.Else7 → tie.After-sector-of
-sector0 c = e₄ (e₅ (e₆ (c .before) .before) .before) .before .before
+sector0 c = e₄ (e₆ (c .before) .before .before .before) .before .before
 
 map-is : (c : tie.After-map-rule) → let image = image₇ (e₇ c .before) in mapRule (sectorCount image) (holders image) (sectorOf image 0) ≡ c .map-rule .result
 map-is c =
@@ -150,7 +144,7 @@ descriptors-rule-requires c κs = search needs
 returns-6 : tie.Need-returns-6
 returns-6 c =
     let d = c .before in
-    let five = e₅ d in
+    let five = d .before in
     let four = e₄ (five .before) in
     sym (wrong-descriptor _ (sized (e₃ (four .before))) (labelled four) (indexed five) (sym (d .descriptors-rule .ensures) ∙ not-true (d .descriptors-rule .result) (c .if6 .taken)))
 

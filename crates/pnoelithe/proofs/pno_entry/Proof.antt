@@ -1,68 +1,42 @@
--- `pnoelithe::pno_entry` meets its contract. Assumes nothing.
+-- `pnoelithe::pno_entry` meets its contract: each case of the answer says its number, and the row's values go behind their pointers. Assumes nothing.
 use mathlib.Core.Path.{refl, sym, ap, _∙_}
-use lib.ListN.{length}
-use Rattle.rules.specs.Calls.Catalogue.{rowOf}
+use Rattle.rules.specs.Outcome.{AnswerSays}
+use Rattle.rules.specs.Calls.Entry.{rowOf, noRow, entryRow, entryOf}
 use Rattle.rules.specs.Calls.Listing.{kindLength}
 use Rattle.rules.specs.declared.Row.{Row}
+use Rattle.rules.proofs.Tests.{unless-passed}
 use Rattle.rules.proofs.Outcome.{behind-given, behind-kept}
 use Rattle.pnoelithe.specs.Crossing.{kindNumber, flag}
-use Rattle.pnoelithe.proofs.Crossings.{entry-given, entry-refused}
 use borrow.Author.Needs.{needs}
 use Rattle.pnoelithe.proofs.pno_entry.Statement.{statement}
 use Rattle.pnoelithe.proofs.pno_entry.Tie as tie
 
-entry-requires : tie.Need-entry-requires
-entry-requires c κs = search needs
-
-enum-known-answer : tie.Need-enum-known-answer
-enum-known-answer c = search needs
-
-enum-told : tie.Need-enum-told
-enum-told c = search needs
-
-kind-number-requires : tie.Need-kind-number-requires
-kind-number-requires c κs = search needs
-
-kind-length-requires : tie.Need-kind-length-requires
-kind-length-requires c κs = search needs
-
-flag-of-requires : tie.Need-flag-of-requires
-flag-of-requires c κs = search needs
-
-same-length : tie.Need-same-length
-same-length c = search needs
-
 returns : tie.Need-returns
+unfolding AnswerSays
 returns c =
     let o = c .before in
-    let f = o .before .before .before .before .before in
-    let a = f .before .before .before .before .args in
-    let is = entry-refused (a .image .now) (a .place) (length (a .header .now)) (f .entry .result) (f .entry .ensures .0) _ (o .answer .given .1) in
-    (sym (is .0), (f .entry .ensures .1, (sym (behind-kept _ _ _ (is .1)), (sym (behind-kept _ _ _ (is .1)), (sym (behind-kept _ _ _ (is .1)), sym (behind-kept _ _ _ (is .1)))))))
-
-same-length-2 : tie.Need-same-length-2
-same-length-2 c = search needs
+    let gives = o .before .before .before .before .before .entry .ensures in
+    let said = rw (o .answer .given .1) at (gives .said .said) in
+    let some = λ z. said .1 (sym (said .0) ∙ z) in
+    (record { returned = said .0; left = gives .left }, (sym (behind-kept _ _ _ some), (sym (behind-kept _ _ _ some), (sym (behind-kept _ _ _ some), sym (behind-kept _ _ _ some)))))
 
 returns-2 : tie.Need-returns-2
-unfolding rowOf
+unfolding AnswerSays rowOf entryRow entryOf
 returns-2 c =
     let l = c .before in
     let k = l .before in
     let o = k .before in
-    let f = o .before .before .before .before .before in
-    let a = f .before .before .before .before .args in
-    let is = entry-given (a .image .now) (a .place) (length (a .header .now)) (f .entry .result) (f .entry .ensures .0) (o .enum-told .given .1) in (
-      sym (is .0),
+    let gives = o .before .before .before .before .before .entry .ensures in
+    let said = rw (o .enum-told .given .1) at (gives .said .said) in
+    let row = gives .said .row-is ∙ unless-passed _ _ noRow said in (
+      record { returned = sym said; left = gives .left },
       (
-        f .entry .ensures .1,
+        k .kind-number .ensures ∙ ap (λ (r : Row). kindNumber (r .kind)) row ∙ sym (behind-given 0 _ _ refl),
         (
-          k .kind-number .ensures ∙ ap (λ (r : Row). kindNumber (r .kind)) (is .1) ∙ sym (behind-given 0 _ _ refl),
+          l .kind-length .ensures ∙ ap (λ (r : Row). kindLength (r .kind)) row ∙ sym (behind-given 0 _ _ refl),
           (
-            l .kind-length .ensures ∙ ap (λ (r : Row). kindLength (r .kind)) (is .1) ∙ sym (behind-given 0 _ _ refl),
-            (
-              ap (λ (r : Row). r .sectors) (is .1) ∙ sym (behind-given 0 _ _ refl),
-              c .flag-of .ensures ∙ ap (λ (r : Row). flag (r .protected)) (is .1) ∙ sym (behind-given 0 _ _ refl),
-            ),
+            ap (λ (r : Row). r .sectors) row ∙ sym (behind-given 0 _ _ refl),
+            c .flag-of .ensures ∙ ap (λ (r : Row). flag (r .protected)) row ∙ sym (behind-given 0 _ _ refl),
           ),
         ),
       ),
@@ -72,13 +46,13 @@ pub pno-entry-spec : {M : Type 1} → statement M
 pno-entry-spec =
     tie.close
     (tie.spec
-    entry-requires
-    enum-known-answer
-    enum-told
-    kind-number-requires
-    kind-length-requires
-    flag-of-requires
-    same-length
+    (λ c κs. search needs)
+    (λ c. search needs)
+    (λ c. search needs)
+    (λ c κs. search needs)
+    (λ c κs. search needs)
+    (λ c κs. search needs)
+    (λ c. search needs)
     returns
-    same-length-2
+    (λ c. search needs)
     returns-2)

@@ -1,26 +1,14 @@
--- `pnoelithe::pno_listing` meets its contract. Assumes nothing.
-use lib.ListN.{length}
-use Rattle.rules.specs.Calls.Listing.{listingOf}
-use Rattle.pnoelithe.proofs.Crossings.{amount-crossing}
+-- `pnoelithe::pno_listing` meets its contract: what the call answers crosses as its number, and the length behind its pointer. Assumes nothing.
+use Rattle.pnoelithe.proofs.Crossings.{amount-crosses}
 use borrow.Author.Needs.{needs}
 use Rattle.pnoelithe.proofs.pno_listing.Statement.{statement}
 use Rattle.pnoelithe.proofs.pno_listing.Tie as tie
 
-listing-requires : tie.Need-listing-requires
-listing-requires c κs = search needs
-
-amount-number-requires : tie.Need-amount-number-requires
-amount-number-requires c κs = search needs
-
-same-length : tie.Need-same-length
-same-length c = search needs
-
 returns : tie.Need-returns
 returns c =
-    let f = c .before .before .before .before in
-    let a = f .before .before .before .before .args in
-    let crossed = amount-crossing (listingOf (a .image .now) (length (a .out .now))) _ _ _ _ (f .listing .ensures .0) (c .amount-number .ensures .0) (c .amount-number .ensures .1) in
-    (crossed .0, f .listing .ensures .1, crossed .1)
+    let called = c .before .before .before .before .listing .ensures in
+    let crossed = amount-crosses _ _ _ _ _ (called .said) (c .amount-number .ensures .0) (c .amount-number .ensures .1) in
+    (record { returned = crossed .returned; left = called .left }, crossed)
 
 pub pno-listing-spec : {M : Type 1} → statement M
-pno-listing-spec = tie.close (tie.spec listing-requires amount-number-requires same-length returns)
+pno-listing-spec = tie.close (tie.spec (λ c κs. search needs) (λ c κs. search needs) (λ c. search needs) returns)

@@ -1,34 +1,28 @@
--- `pnoelithe::pno_summary` meets its contract. Assumes nothing.
+-- `pnoelithe::pno_summary` meets its contract: each case of the answer says its number, and its values go behind their pointers. Assumes nothing.
 use mathlib.Core.Path.{refl, sym, _∙_}
+use Rattle.rules.specs.Calls.Summary.{SummarySays}
 use Rattle.rules.proofs.Outcome.{behind-given, behind-kept}
-use Rattle.pnoelithe.proofs.Crossings.{summary-given, summary-refused}
 use borrow.Author.Needs.{needs}
 use Rattle.pnoelithe.proofs.pno_summary.Statement.{statement}
 use Rattle.pnoelithe.proofs.pno_summary.Tie as tie
 
-summary-requires : tie.Need-summary-requires
-summary-requires c κs = search needs
-
-enum-known-summary : tie.Need-enum-known-summary
-enum-known-summary c = search needs
-
-enum-known-summary-2 : tie.Need-enum-known-summary-2
-enum-known-summary-2 c = search needs
-
 returns : tie.Need-returns
+unfolding SummarySays
 returns c =
     let o = c .before in
-    let f = o .before .before in
-    let is = summary-refused (f .before .before .before .args .image .now) _ (sym (f .summary .ensures .0) ∙ o .summary2 .given .1) in
-    (sym (is .0), (f .summary .ensures .1, (sym (behind-kept _ _ _ (is .1)), (sym (behind-kept _ _ _ (is .1)), sym (behind-kept _ _ _ (is .1))))))
+    let gives = o .before .before .summary .ensures in
+    let said = rw (o .summary2 .given .1) at (gives .said) in
+    let some = λ z. said .1 (sym (said .0) ∙ z) in
+    (record { returned = said .0; left = gives .left }, (sym (behind-kept _ _ _ some), (sym (behind-kept _ _ _ some), sym (behind-kept _ _ _ some))))
 
 returns-2 : tie.Need-returns-2
+unfolding SummarySays
 returns-2 c =
     let o = c .before in
-    let f = o .before .before in
-    let is = summary-given (f .before .before .before .args .image .now) _ _ _ (sym (f .summary .ensures .0) ∙ o .summary3 .given .1) in
-    (sym (is .0), (f .summary .ensures .1, (is .1 .0 ∙ sym (behind-given 0 _ _ refl), (is .1 .1 .0 ∙ sym (behind-given 0 _ _ refl), is .1 .1 .1 ∙ sym (behind-given 0 _ _ refl)))))
+    let gives = o .before .before .summary .ensures in
+    let said = rw (o .summary3 .given .1) at (gives .said) in
+    (record { returned = sym (said .0); left = gives .left }, (said .1 ∙ sym (behind-given 0 _ _ refl), (said .2 ∙ sym (behind-given 0 _ _ refl), said .3 ∙ sym (behind-given 0 _ _ refl))))
 
 pub pno-summary-spec : {M : Type 1} → statement M
 pno-summary-spec =
-    tie.close (tie.spec summary-requires enum-known-summary enum-known-summary-2 returns returns-2)
+    tie.close (tie.spec (λ c κs. search needs) (λ c. search needs) (λ c. search needs) returns returns-2)

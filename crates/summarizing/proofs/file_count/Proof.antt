@@ -1,10 +1,9 @@
 -- `summarizing::file_count` meets its contract. The loop's invariant: the numbers counted, with those from byte `at` on, are all numbers. The measure is what is left of sector 1. Assumes nothing.
-use mathlib.Core.Path.{_≡_, sym, ap, _∙_}
+use mathlib.Core.Path.{_≡_, ap}
 use Prim.Native.Nat.{_+_, _-_, _≤_}
 use native.Mathlib.Omega.{arith}
 use lib.ListN.{length, drop}
 use Rattle.rules.specs.Index.{numbers}
-use Rattle.rules.proofs.Index.{numbers-step, numbers-end, numbers-short}
 use borrow.Author.Needs.{needs}
 use Rattle.summarizing.proofs.file_count.Statement.{statement}
 use Rattle.summarizing.proofs.file_count.Tie as tie
@@ -18,53 +17,29 @@ abbrev μ-loop : tie.MeasureT-loop
 loop-holds : tie.Need-loop-holds Inv-loop μ-loop
 loop-holds c = (search needs, search needs, search needs)
 
-add-loop : tie.Need-add-loop Inv-loop μ-loop
-add-loop c = search needs
+number-at-requires : tie.Need-number-at-requires Inv-loop μ-loop
+number-at-requires c κs = search needs
 
-word-requires : tie.Need-word-requires Inv-loop μ-loop
-word-requires c κs = search needs
-
-returns : tie.Need-returns Inv-loop μ-loop
-returns c =
-    let l = c .before .before in
-    let sector1 = l .before .before .before .args .sector1 .now in
-    let none = ap length (numbers-end sector1 (l .before .loop .at) (l .loop-test .taken) (sym (c .before .word .ensures .0) ∙ c .if1 .taken)) in
-    omega (arith, l .before .loop .inv .2, none)
+-- two bytes are there
+inside : (c : tie.Then1 Inv-loop μ-loop) → let l = c .before .before in l .loop .at + 2 ≤ length (l .before .before .args .sector1 .now)
+inside c = c .before .number-at .ensures .inside (c .if1 .taken)
 
 add-files : tie.Need-add-files Inv-loop μ-loop
-add-files c = search needs
+add-files c = omega (arith, inside c)
 
 add-at : tie.Need-add-at Inv-loop μ-loop
-add-at c = search needs
+add-at c = omega (arith, inside c)
 
 loop-less : tie.Need-loop-less Inv-loop μ-loop
-loop-less c = search needs
+loop-less c = omega (arith, inside c)
 
 loop-again : tie.Need-loop-again Inv-loop μ-loop
 loop-again c =
-    let l = c .before .before in
-    let sector1 = l .before .before .before .args .sector1 .now in
-    let one = ap length (numbers-step sector1 (l .before .loop .at) (l .loop-test .taken) (λ z. c .if1 .left (c .before .word .ensures .0 ∙ z))) in
-    (search needs, search needs, omega (arith, l .before .loop .inv .2, one))
+    let one = ap length (c .before .number-at .ensures .some (c .if1 .taken)) in
+    (inside c, search needs, omega (arith, c .before .before .loop .inv .2, one))
 
-returns-2 : tie.Need-returns-2 Inv-loop μ-loop
-returns-2 c =
-    let l = c .before in
-    let none = ap length (numbers-short (l .before .before .args .sector1 .now) (l .loop .at) (c .loop-test .left)) in
-    omega (arith, l .loop .inv .2, none)
+returns : tie.Need-returns Inv-loop μ-loop
+returns c = let none = ap length (c .before .number-at .ensures .none (c .if1 .left)) in omega (arith, c .before .before .loop .inv .2, none)
 
 pub file-count-spec : {M : Type 1} → statement M
-file-count-spec =
-    tie.close
-    (tie.spec
-    Inv-loop
-    μ-loop
-    loop-holds
-    add-loop
-    word-requires
-    returns
-    add-files
-    add-at
-    loop-less
-    loop-again
-    returns-2)
+file-count-spec = tie.close (tie.spec Inv-loop μ-loop loop-holds number-at-requires add-files add-at loop-less loop-again returns)

@@ -1,4 +1,4 @@
--- `descriptor::chain::block_of` meets its contract. Assumes nothing.
+-- `descriptor::chain::block_of` meets its contract: the sums are the definition's, and bytes keep them below 4,096. Assumes nothing.
 use mathlib.Core.Path.{refl}
 use native.Mathlib.Omega.{arith}
 use Rattle.rules.specs.Chain.{blockOf}

@@ -1,4 +1,4 @@
--- `descriptor::chain::ends_chain` meets its contract. Assumes nothing.
+-- `descriptor::chain::ends_chain` meets its contract: each way out is a byte of the test, in its order. Assumes nothing.
 use borrow.Author.Tests.{eq-eqb, ne-eqb}
 use Rattle.rules.specs.Chain.{endsChain}
 use Rattle.descriptor.proofs.chain.ends_chain.Statement.{statement}

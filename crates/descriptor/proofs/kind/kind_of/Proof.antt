@@ -1,4 +1,4 @@
--- `descriptor::kind::kind_of` meets its contract. Assumes nothing.
+-- `descriptor::kind::kind_of` meets its contract: each way out is a case of the definition, by the program bit and the variable bit. Assumes nothing.
 use mathlib.Core.Path.{ap}
 use native.Mathlib.Nat.{div-one}
 use borrow.Author.Tests.{eq-eqb, ne-eqb}

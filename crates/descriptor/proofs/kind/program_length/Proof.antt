@@ -1,4 +1,4 @@
--- `descriptor::kind::program_length` meets its contract. Assumes nothing.
+-- `descriptor::kind::program_length` meets its contract: both ways out are sums, which omega compares with the definition. Assumes nothing.
 use native.Mathlib.Omega.{arith}
 use Rattle.rules.specs.Kind.{programLength}
 use borrow.Author.Needs.{needs}

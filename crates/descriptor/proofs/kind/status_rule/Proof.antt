@@ -1,4 +1,4 @@
--- `descriptor::kind::status_rule` meets its contract. Assumes nothing.
+-- `descriptor::kind::status_rule` meets its contract: each way out is a test of the rule, in its order, by the bits as the code reads them. Assumes nothing.
 use native.Mathlib.Nat.{div-one}
 use borrow.Author.Tests.{eq-eqb, ne-eqb}
 use Rattle.rules.specs.Kind.{statusRule}

@@ -1,4 +1,4 @@
--- `descriptor::name::name_byte` meets its contract. Assumes nothing.
+-- `descriptor::name::name_byte` meets its contract: each way out is a bound of the test, in its order. Assumes nothing.
 use borrow.Author.Tests.{le-leb, lt-leb}
 use Rattle.rules.specs.Name.{nameByte}
 use Rattle.descriptor.proofs.name.name_byte.Statement.{statement}

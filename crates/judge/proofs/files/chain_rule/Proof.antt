@@ -4,9 +4,9 @@ use mathlib.Core.Path.{_≡_, sym, _∙_}
 use mathlib.Core.Bool.{_&&_}
 use Prim.Native.Nat.{_≤_, _-_, _+_, _*_}
 use native.Mathlib.Omega.{arith}
-use lib.Dec.{leb, ltb}
+use lib.Dec.{eqb, leb, ltb}
 use lib.ListN.{length, drop}
-use borrow.Author.Tests.{le-leb, lt-leb, lt-ltb, le-ltb}
+use borrow.Author.Tests.{eq-eqb, ne-eqb, le-leb, lt-leb, lt-ltb, le-ltb}
 use Rattle.rules.specs.Bytes.{allAre}
 use Rattle.rules.specs.Chain.{blocks, blocksRule, chainRule}
 use Rattle.descriptor.specs.Walk.{BlockHere}
@@ -83,14 +83,23 @@ loop-again c =
 enum-told : tie.Need-enum-told Inv-loop μ-loop
 enum-told c = search needs
 
-chain-end-requires : tie.Need-chain-end-requires Inv-loop μ-loop
-chain-end-requires c κs = search needs
+-- the whole chain's rule at its end
+past : (c : tie.After-enum-told Inv-loop μ-loop) →
+    let l = c .before .before .before in
+    let a = l .before .before .args in
+    chainRule (a .n) (a .c) (a .chain .now) ≡ (eqb (l .loop .next) (a .c) && allAre 0 (drop (l .loop .at) (a .chain .now)))
+past c =
+    let m = c .before .before in
+    sym (m .before .loop .inv .1) ∙ chain-past _ _ _ _ _ (ended _ _ _ (m .block-at .ensures) (c .enum-told .given .1))
 
 returns-4 : tie.Need-returns-4 Inv-loop μ-loop
-returns-4 c =
-    let e = c .before in
-    let none = ended _ _ _ (e .before .before .block-at .ensures) (e .enum-told .given .1) in
-    c .chain-end .ensures ∙ sym (sym (e .before .before .before .loop .inv .1) ∙ chain-past _ _ _ _ _ none)
+returns-4 c = sym (past (c .before) ∙ rw (ne-eqb _ _ (c .if4 .taken)))
+
+all-are-requires : tie.Need-all-are-requires Inv-loop μ-loop
+all-are-requires c κs = search needs
+
+returns-5 : tie.Need-returns-5 Inv-loop μ-loop
+returns-5 c = c .all-are .ensures ∙ sym (past (c .before .before) ∙ rw (eq-eqb _ _ (c .before .if4 .left)))
 
 pub chain-rule-spec : {M : Type 1} → statement M
 chain-rule-spec =
@@ -110,5 +119,6 @@ chain-rule-spec =
     loop-less
     loop-again
     enum-told
-    chain-end-requires
-    returns-4)
+    returns-4
+    all-are-requires
+    returns-5)

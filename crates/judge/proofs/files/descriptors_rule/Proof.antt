@@ -1,7 +1,7 @@
 -- `judge::files::descriptors_rule` meets its contract. The loop's invariant: the descriptors of the numbers from byte `at` on keep their rules, after the name before them, exactly where all do.
 -- The measure is what is left of sector 1. Assumes nothing.
 use mathlib.Core.Path.{_≡_, refl, sym, _∙_}
-use mathlib.Core.Bool.{_&&_}
+use mathlib.Core.Bool.{Bool, true, false, _&&_}
 use mathlib.Core.List.{List, []}
 use Prim.Native.Nat.{ℕ, _≤_, _-_, _+_}
 use native.Mathlib.Omega.{arith}
@@ -40,21 +40,34 @@ returns : tie.Need-returns Inv-loop μ-loop
 returns c = let k = c .before in sym (sym (k .before .loop .inv .1) ∙ descriptors-past _ _ _ _ (k .number-at .ensures .none (c .if1 .taken)))
 
 sector-of-requires-2 : tie.Need-sector-of-requires-2 Inv-loop μ-loop
-sector-of-requires-2 c κs = omega (arith, c .before .number-at .ensures .small)
+sector-of-requires-2 c κs = c .before .number-at .ensures .small
 
 descriptor-rule-requires : tie.Need-descriptor-rule-requires Inv-loop μ-loop
 descriptor-rule-requires c κs = search needs
 
--- all the rules, with the descriptor that stands here taken off; its name is whatever equals it
+-- The ways back: from the comparison of names to the descriptor read, and from there to the loop. What is to be shown, and what is left behind the number that stands here.
+abbrev read : tie.After-precedes Inv-loop μ-loop → tie.After-sector-of2 Inv-loop μ-loop
+read c = c .before .before .before .before
+
+abbrev test : tie.After-sector-of2 Inv-loop μ-loop → tie.At-loop Inv-loop μ-loop
+test c = c .before .before .before
+
+abbrev start : tie.At-loop Inv-loop μ-loop → tie.Start Inv-loop μ-loop
+start c = c .before .before .before .before
+
+abbrev rule : tie.At-loop Inv-loop μ-loop → List ℕ → List ℕ → Bool
+rule c = descriptorsRule (start c .args .n) (start c .args .image .now)
+
+abbrev more : tie.At-loop Inv-loop μ-loop → List ℕ
+more c = numbers (drop (c .loop .at + 2) (c .before .before .sector-of .result .now))
+
+-- all the rules, with the descriptor that was read taken off; its name is whatever equals it
 stepped : (c : tie.After-sector-of2 Inv-loop μ-loop) (name : List ℕ) → name ≡ nameOf (c .sector-of2 .result .now) →
-    let l = c .before .before .before in
-    let a = l .before .before .before .before .args in
-    let more = numbers (drop (l .loop .at + 2) (l .before .before .sector-of .result .now)) in
-    descriptorsRule (a .n) (a .image .now) [] (files (a .image .now))
-    ≡ (descriptorRule (a .n) (c .sector-of2 .result .now) && (precedes (l .loop .previous .now) name && descriptorsRule (a .n) (a .image .now) name more))
+    let l = test c in
+    rule l [] (files (start l .args .image .now)) ≡ (descriptorRule (start l .args .n) (c .sector-of2 .result .now) && (precedes (l .loop .previous .now) name && rule l name (more l)))
 stepped c name is =
-    let k = c .before .before in
-    sym (k .before .loop .inv .1) ∙ descriptors-step _ _ _ _ _ _ _ name (k .number-at .ensures .some (c .before .if1 .left)) (c .sector-of2 .ensures) is
+    let k = c .before in
+    sym (test c .loop .inv .1) ∙ descriptors-step _ _ _ _ _ _ _ name (k .before .number-at .ensures .some (k .if1 .left)) (c .sector-of2 .ensures) is
 
 returns-2 : tie.Need-returns-2 Inv-loop μ-loop
 returns-2 c =
@@ -67,28 +80,22 @@ part-requires-2 c κs = search needs
 precedes-requires : tie.Need-precedes-requires Inv-loop μ-loop
 precedes-requires c κs = search needs
 
--- the same, the descriptor keeping its own rules
-kept : (c : tie.After-precedes Inv-loop μ-loop) →
-    let l = c .before .before .before .before .before .before .before in
-    let a = l .before .before .before .before .args in
-    let name = c .before .part2 .result .now in
-    let more = numbers (drop (l .loop .at + 2) (l .before .before .sector-of .result .now)) in
-    descriptorsRule (a .n) (a .image .now) [] (files (a .image .now)) ≡ (c .precedes .result && descriptorsRule (a .n) (a .image .now) name more)
+-- the same, the descriptor keeping its own rules, by what the comparison of names gave
+kept : (c : tie.After-precedes Inv-loop μ-loop) (follows : Bool) → c .precedes .result ≡ follows →
+    let l = test (read c) in
+    rule l [] (files (start l .args .image .now)) ≡ (follows && rule l (c .before .part2 .result .now) (more l))
 unfolding nameOf
-kept c =
+kept c follows e =
     let g = c .before .before in
-    let d = g .before in
-    stepped (d .before) _ (c .before .part2 .ensures)
-    ∙ rw (sym (d .descriptor-rule .ensures) ∙ not-false (d .descriptor-rule .result) (g .if2 .left), sym (c .precedes .ensures))
+    let good = sym (g .before .descriptor-rule .ensures) ∙ not-false (g .before .descriptor-rule .result) (g .if2 .left) in
+    stepped (read c) _ (c .before .part2 .ensures) ∙ rw (good, sym (c .precedes .ensures) ∙ e)
 
 returns-3 : tie.Need-returns-3 Inv-loop μ-loop
-returns-3 c = sym (kept (c .before) ∙ rw (not-true (c .before .precedes .result) (c .if3 .taken)))
+returns-3 c = sym (kept (c .before) false (not-true (c .before .precedes .result) (c .if3 .taken)))
 
 -- two bytes are there
-inside : (c : tie.Else3 Inv-loop μ-loop) →
-    let l = c .before .before .before .before .before .before .before .before in
-    l .loop .at + 2 ≤ length (l .before .before .sector-of .result .now)
-inside c = let e = c .before .before .before .before .before .before in e .before .number-at .ensures .inside (e .if1 .left)
+inside : (c : tie.Else3 Inv-loop μ-loop) → let l = test (read (c .before)) in l .loop .at + 2 ≤ length (l .before .before .sector-of .result .now)
+inside c = let k = read (c .before) .before in k .before .number-at .ensures .inside (k .if1 .left)
 
 add-at : tie.Need-add-at Inv-loop μ-loop
 add-at c = omega (arith, inside c)
@@ -97,7 +104,7 @@ loop-less : tie.Need-loop-less Inv-loop μ-loop
 loop-less c = omega (arith, inside c)
 
 loop-again : tie.Need-loop-again Inv-loop μ-loop
-loop-again c = (inside c, sym (kept (c .before) ∙ rw (not-false (c .before .precedes .result) (c .if3 .left))))
+loop-again c = (inside c, sym (kept (c .before) true (not-false (c .before .precedes .result) (c .if3 .left))))
 
 pub descriptors-rule-spec : {M : Type 1} → statement M
 descriptors-rule-spec =

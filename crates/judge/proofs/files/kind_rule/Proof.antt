@@ -1,4 +1,4 @@
--- `judge::files::kind_rule` meets its contract. Assumes nothing.
+-- `judge::files::kind_rule` meets its contract: a case for each kind. Assumes nothing.
 use Rattle.rules.specs.Kind.{kindRule}
 use borrow.Author.Needs.{needs}
 use Rattle.judge.proofs.files.kind_rule.Statement.{statement}

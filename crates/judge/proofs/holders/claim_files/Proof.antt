@@ -1,17 +1,17 @@
 -- `judge::holders::claim_files` meets its contract. The invariant of the loop over the files: what is left from byte `at` of sector 1 on, claimed on the marks
 -- as they are, comes to what the whole comes to. That of the loop over a file's sectors: the same of the places ahead of the cursor and the files after. The measures
 -- are what is left of sector 1, and the number of places ahead. Assumes nothing.
-use mathlib.Core.Path.{_≡_, refl, sym, ap, subst, _∙_}
+use mathlib.Core.Path.{_≡_, refl, sym, ap, _∙_}
 use mathlib.Core.Bool.{Bool, false}
-use mathlib.Core.List.{List, [], _∷_, _++_}
-use Prim.Native.Nat.{ℕ, _≤_, _-_, _+_}
+use mathlib.Core.List.{List, _∷_, _++_}
+use Prim.Native.Nat.{ℕ, _+_, _-_, _≤_, _<_}
 use native.Mathlib.Omega.{arith}
 use lib.ListN.{length, drop}
 use Rattle.rules.specs.Descriptor.{chainOf}
 use Rattle.rules.specs.Index.{numbers}
 use Rattle.rules.specs.Volume.{files, placesIn, fileHolders}
-use Rattle.descriptor.specs.Cursor.{ahead, Steady, Stepped}
-use Rattle.descriptor.specs.declared.chain.Step.the-variants.{Place}
+use Rattle.descriptor.specs.Cursor.{ahead, Steady}
+use Rattle.descriptor.proofs.Ahead.{at-place, at-end}
 use Rattle.judge.specs.Claim.{Claimed, claim, claimed}
 use Rattle.judge.proofs.ClaimSteps.{claim-done, files-step, files-past, places-ahead, took, refused}
 use borrow.Author.Needs.{needs}
@@ -92,19 +92,16 @@ started c =
 going : (c : tie.At-loop Inv-loop μ-loop Inv-files μ-files) → whole (filed (c .before) .before) ≡ claim (c .loop .marks) (ahead (chain (c .before)) (c .loop .cursor) ++ rest (filed (c .before)))
 going c = started (c .before) ∙ sym (c .loop .inv .2)
 
--- at the last place's end
-ended : (c : tie.After-enum-told Inv-loop μ-loop Inv-files μ-files) → ahead (chain (last c .before)) (last c .loop .cursor) ≡ []
-unfolding Stepped
-ended c = subst (Stepped (chain (last c .before)) (last c .loop .cursor)) (c .enum-told .given .1) (c .before .before .step .ensures)
-
 -- at a place
-stepped : (c : tie.After-place Inv-loop μ-loop Inv-files μ-files) → Stepped (chain (test c .before)) (test c .loop .cursor) (Place (c .place .given .0 .0) (c .place .given .0 .1 .0))
-stepped c = subst (Stepped (chain (test c .before)) (test c .loop .cursor)) (c .place .given .1) (c .before .before .step .ensures)
+stepped : (c : tie.After-place Inv-loop μ-loop Inv-files μ-files) →
+    let chain = chain (test c .before) in
+    let next = c .place .given .0 .1 .0 in
+    (ahead chain (test c .loop .cursor) ≡ c .place .given .0 .0 ∷ ahead chain next) × Steady chain next × (c .place .given .0 .0 < 8192)
+stepped c = at-place _ _ _ (c .before .before .step .ensures) (c .place .given .1)
 
 placed : (c : tie.After-place Inv-loop μ-loop Inv-files μ-files) →
     let first = test c .before in
     whole (filed first .before) ≡ claim (test c .loop .marks) (c .place .given .0 .0 ∷ (ahead (chain first) (c .place .given .0 .1 .0) ++ rest (filed first)))
-unfolding Stepped
 placed c = going (test c) ∙ ap (λ (ps : List ℕ). claim (test c .loop .marks) (ps ++ rest (filed (test c .before)))) (stepped c .0)
 
 sector-of-requires : tie.Need-sector-of-requires Inv-loop μ-loop Inv-files μ-files
@@ -144,11 +141,9 @@ take-requires-2 : tie.Need-take-requires-2 Inv-loop μ-loop Inv-files μ-files
 take-requires-2 c κs = search needs
 
 loop-less : tie.Need-loop-less Inv-loop μ-loop Inv-files μ-files
-unfolding Stepped
 loop-less c = omega (arith, ap length (stepped (place (c .before)) .0))
 
 loop-again : tie.Need-loop-again Inv-loop μ-loop Inv-files μ-files
-unfolding Stepped
 loop-again c =
     let t = c .before .take2 in
     let p = place (c .before) in (
@@ -176,7 +171,7 @@ files-again c =
     let f = filed (l .before) in (
       inside c,
       l .loop .inv .0 ∙ f .files .inv .1,
-      sym (ap (λ (ps : List ℕ). claim (l .loop .marks) (ps ++ rest f)) (ended c)) ∙ sym (going l) ∙ rw (← f .before .sector-of .ensures),
+      sym (ap (λ (ps : List ℕ). claim (l .loop .marks) (ps ++ rest f)) (at-end _ _ _ (c .before .before .step .ensures) (c .enum-told .given .1))) ∙ sym (going l) ∙ rw (← f .before .sector-of .ensures),
     )
 
 returns : tie.Need-returns Inv-loop μ-loop Inv-files μ-files

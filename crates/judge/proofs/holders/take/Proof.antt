@@ -1,4 +1,4 @@
--- `judge::holders::take` meets its contract. Assumes nothing.
+-- `judge::holders::take` meets its contract: each way out is a test of the definition, past the last sector, marked, or free. Assumes nothing.
 use mathlib.Core.Path.{refl}
 use borrow.Author.Tests.{eq-eqb, ne-eqb, le-ltb, lt-ltb}
 use Rattle.judge.specs.Claim.{isFree}

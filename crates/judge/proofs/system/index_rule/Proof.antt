@@ -8,8 +8,7 @@ use lib.Dec.{leb, ltb}
 use lib.ListN.{length, drop}
 use borrow.Author.Tests.{le-leb, lt-leb, lt-ltb, le-ltb}
 use Rattle.rules.specs.Index.{numbers, rangeRule, indexRule}
-use Rattle.judge.specs.Rest.{indexEnd}
-use Rattle.judge.proofs.IndexSteps.{indexRest, index-start, index-step, index-past}
+use Rattle.judge.proofs.IndexSteps.{indexEnd, indexRest, index-start, index-step, index-past}
 use borrow.Author.Needs.{needs}
 use Rattle.judge.proofs.system.index_rule.Statement.{statement}
 use Rattle.judge.proofs.system.index_rule.Tie as tie
@@ -26,13 +25,21 @@ loop-holds c = (search needs, index-start _ _)
 number-at-requires : tie.Need-number-at-requires Inv-loop μ-loop
 number-at-requires c κs = search needs
 
-index-end-requires : tie.Need-index-end-requires Inv-loop μ-loop
-index-end-requires c κs = search needs
+-- the whole rule where the numbers end
+past : (c : tie.Then1 Inv-loop μ-loop) →
+    let l = c .before .before in
+    let a = l .before .before .args in
+    indexRule (a .n) (a .sector1 .now) ≡ indexEnd (a .sector1 .now) (l .loop .at)
+past c = sym (c .before .before .loop .inv .1) ∙ index-past _ _ _ (c .before .number-at .ensures .none (c .if1 .taken))
 
 returns : tie.Need-returns Inv-loop μ-loop
-returns c =
-    let z = c .before in
-    c .index-end .ensures ∙ sym (sym (z .before .before .loop .inv .1) ∙ index-past _ _ _ (z .before .number-at .ensures .none (z .if1 .taken)))
+returns c = sym (past (c .before) ∙ rw (le-ltb _ _ (c .if2 .taken)))
+
+all-are-requires : tie.Need-all-are-requires Inv-loop μ-loop
+all-are-requires c κs = search needs
+
+returns-2 : tie.Need-returns-2 Inv-loop μ-loop
+returns-2 c = c .all-are .ensures ∙ sym (past (c .before .before) ∙ rw (lt-ltb _ _ (c .before .if2 .left)))
 
 -- the whole rule, with the number that stands here taken off
 stepped : (c : tie.Else1 Inv-loop μ-loop) →
@@ -43,11 +50,11 @@ stepped : (c : tie.Else1 Inv-loop μ-loop) →
     indexRule (a .n) (a .sector1 .now) ≡ ((leb 2 k && (ltb k (a .n) && rangeRule (a .n) more)) && indexEnd (a .sector1 .now) (l .loop .at + 2 + 2 * length more))
 stepped c = sym (c .before .before .loop .inv .1) ∙ index-step _ _ _ _ (c .before .number-at .ensures .some (c .if1 .left))
 
-returns-2 : tie.Need-returns-2 Inv-loop μ-loop
-returns-2 c = sym (stepped (c .before) ∙ rw (lt-leb _ _ (c .if2 .taken)))
-
 returns-3 : tie.Need-returns-3 Inv-loop μ-loop
-returns-3 c = let low = c .before in sym (stepped (low .before) ∙ rw (le-leb _ _ (low .if2 .left), le-ltb _ _ (c .if3 .taken)))
+returns-3 c = sym (stepped (c .before) ∙ rw (lt-leb _ _ (c .if3 .taken)))
+
+returns-4 : tie.Need-returns-4 Inv-loop μ-loop
+returns-4 c = let low = c .before in sym (stepped (low .before) ∙ rw (le-leb _ _ (low .if3 .left), le-ltb _ _ (c .if4 .taken)))
 
 -- two bytes are there
 inside : (c : tie.Else1 Inv-loop μ-loop) → let l = c .before .before in l .loop .at + 2 ≤ length (l .before .before .args .sector1 .now)
@@ -61,7 +68,7 @@ loop-less c = omega (arith, inside (c .before .before))
 
 loop-again : tie.Need-loop-again Inv-loop μ-loop
 unfolding indexRest
-loop-again c = let low = c .before in (inside (low .before), sym (stepped (low .before) ∙ rw (le-leb _ _ (low .if2 .left), lt-ltb _ _ (c .if3 .left))))
+loop-again c = let low = c .before in (inside (low .before), sym (stepped (low .before) ∙ rw (le-leb _ _ (low .if3 .left), lt-ltb _ _ (c .if4 .left))))
 
 pub index-rule-spec : {M : Type 1} → statement M
 index-rule-spec =
@@ -71,10 +78,11 @@ index-rule-spec =
     μ-loop
     loop-holds
     number-at-requires
-    index-end-requires
     returns
+    all-are-requires
     returns-2
     returns-3
+    returns-4
     add-at
     loop-less
     loop-again)

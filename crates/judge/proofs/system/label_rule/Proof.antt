@@ -1,4 +1,4 @@
--- `judge::system::label_rule` meets its contract. Assumes nothing.
+-- `judge::system::label_rule` meets its contract: each way out is the first test of the rule that came out false, and the last test where the others passed. Assumes nothing.
 use mathlib.Core.Path.{_≡_, sym, _∙_}
 use mathlib.Core.Bool.{true}
 use borrow.Author.Tests.{not-true, not-false}

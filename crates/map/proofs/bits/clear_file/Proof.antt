@@ -1,16 +1,15 @@
 -- `map::bits::clear_file` meets its contract: the descriptor's bit, then those of the chain. The loop's invariant: clearing what is ahead of the cursor gives what clearing all the places gives.
 -- The measure is the number of places ahead. Assumes nothing.
-use mathlib.Core.Path.{_≡_, refl, sym, ap, subst, _∙_}
-use mathlib.Core.List.{List, []}
-use Prim.Native.Nat.{ℕ}
+use mathlib.Core.Path.{_≡_, refl, sym, ap, _∙_}
+use mathlib.Core.List.{List, _∷_}
+use Prim.Native.Nat.{ℕ, _<_}
 use native.Mathlib.Omega.{arith}
 use lib.ListN.{length}
 use Rattle.rules.specs.Map.{markedAll}
 use Rattle.rules.specs.Chain.{places}
 use Rattle.rules.proofs.Marking.{marked-length}
-use Rattle.descriptor.specs.Cursor.{ahead, Steady, Stepped}
-use Rattle.descriptor.specs.declared.chain.Step.the-variants.{Place}
-use Rattle.descriptor.proofs.Ahead.{at-first}
+use Rattle.descriptor.specs.Cursor.{ahead, Steady}
+use Rattle.descriptor.proofs.Ahead.{at-first, at-place, at-end}
 use borrow.Author.Needs.{needs}
 use Rattle.map.proofs.bits.clear_file.Statement.{statement}
 use Rattle.map.proofs.bits.clear_file.Tie as tie
@@ -21,7 +20,7 @@ Inv-loop sector0₀ k chain cursor₀ sector0 cursor = (length sector0 ≡ lengt
 abbrev μ-loop : tie.MeasureT-loop
 μ-loop sector0₀ k chain cursor₀ sector0 cursor = length (ahead chain cursor)
 
--- the ways back: the first bit made, the chain; the test at a place of it, and at its end
+-- The ways back: the first bit made, the start, the chain; the step that gave a place. And what that step says.
 abbrev made : tie.After-first Inv-loop μ-loop → tie.After-mark-as Inv-loop μ-loop
 made c = c .before .before .before
 
@@ -31,21 +30,14 @@ start c = c .before .before .before .before
 abbrev chain : tie.At-loop Inv-loop μ-loop → List ℕ
 chain c = start (made (c .before)) .args .chain .now
 
-abbrev at-place : tie.After-place Inv-loop μ-loop → tie.At-loop Inv-loop μ-loop
-at-place c = c .before .before .before
-
-abbrev at-end : tie.After-enum-told Inv-loop μ-loop → tie.At-loop Inv-loop μ-loop
-at-end c = c .before .before .before
-
 abbrev place : tie.After-slice-known3 Inv-loop μ-loop → tie.After-place Inv-loop μ-loop
 place c = c .before .before .before .before .before
 
-ended : (c : tie.After-enum-told Inv-loop μ-loop) → ahead (chain (at-end c)) (at-end c .loop .cursor) ≡ []
-unfolding Stepped
-ended c = subst (Stepped (chain (at-end c)) (at-end c .loop .cursor)) (c .enum-told .given .1) (c .before .before .step .ensures)
-
-stepped : (c : tie.After-place Inv-loop μ-loop) → Stepped (chain (at-place c)) (at-place c .loop .cursor) (Place (c .place .given .0 .0) (c .place .given .0 .1 .0))
-stepped c = subst (Stepped (chain (at-place c)) (at-place c .loop .cursor)) (c .place .given .1) (c .before .before .step .ensures)
+stepped : (c : tie.After-place Inv-loop μ-loop) →
+    let l = c .before .before .before in
+    let next = c .place .given .0 .1 .0 in
+    (ahead (chain l) (l .loop .cursor) ≡ c .place .given .0 .0 ∷ ahead (chain l) next) × Steady (chain l) next × (c .place .given .0 .0 < 8192)
+stepped c = at-place _ _ _ (c .before .before .step .ensures) (c .place .given .1)
 
 mark-as-requires : tie.Need-mark-as-requires Inv-loop μ-loop
 mark-as-requires c κs = search needs
@@ -66,13 +58,12 @@ mark-as-requires-2 : tie.Need-mark-as-requires-2 Inv-loop μ-loop
 mark-as-requires-2 c κs = search needs
 
 loop-less : tie.Need-loop-less Inv-loop μ-loop
-unfolding Stepped
 loop-less c = omega (arith, ap length (stepped (place c) .0))
 
 loop-again : tie.Need-loop-again Inv-loop μ-loop
-unfolding Stepped markedAll
+unfolding markedAll
 loop-again c =
-    let l = at-place (place c) .loop in
+    let l = place c .before .before .before .loop in
     let e = stepped (place c) in
     let bit = c .before .before .mark-as2 .ensures in (
       ap length bit ∙ marked-length 0 (l .sector0) _ ∙ l .inv .0,
@@ -85,14 +76,17 @@ enum-told c = search needs
 
 same-length : tie.Need-same-length Inv-loop μ-loop
 same-length c =
-    let m = made (at-end c .before) in
-    at-end c .loop .inv .0 ∙ ap length (m .mark-as .ensures) ∙ marked-length 0 (start m .args .sector0 .now) _
+    let l = c .before .before .before in
+    let m = made (l .before) in
+    l .loop .inv .0 ∙ ap length (m .mark-as .ensures) ∙ marked-length 0 (start m .args .sector0 .now) _
 
 returns : tie.Need-returns Inv-loop μ-loop
 unfolding markedAll
 returns c =
-    let l = at-end c in
-    sym (ap (markedAll 0 (l .loop .sector0)) (ended c)) ∙ l .loop .inv .2 ∙ ap (λ (s : List ℕ). markedAll 0 s (places (chain l))) (made (l .before) .mark-as .ensures)
+    let s = c .before .before in
+    let l = s .before in
+    let none = at-end _ _ _ (s .step .ensures) (c .enum-told .given .1) in
+    sym (ap (markedAll 0 (l .loop .sector0)) none) ∙ l .loop .inv .2 ∙ ap (λ (s : List ℕ). markedAll 0 s (places (chain l))) (made (l .before) .mark-as .ensures)
 
 pub clear-file-spec : {M : Type 1} → statement M
 clear-file-spec =

@@ -1,4 +1,4 @@
--- `map::choice::descriptor_choice` meets its contract. Assumes nothing.
+-- `map::choice::descriptor_choice` meets its contract: the definition is the lowest free sector from 2 up, which `lowest_free` gives. Assumes nothing.
 use Rattle.rules.specs.Choice.{descriptorChoice}
 use borrow.Author.Needs.{needs}
 use Rattle.map.proofs.choice.descriptor_choice.Statement.{statement}

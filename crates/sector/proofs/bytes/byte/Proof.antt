@@ -1,4 +1,4 @@
--- `sector::bytes::byte` meets its contract. Assumes nothing.
+-- `sector::bytes::byte` meets its contract: a byte of the slice is below 256, and past the end stands zero. Assumes nothing.
 use mathlib.Core.Path.{refl, sym}
 use native.Mathlib.Omega.{arith}
 use lib.ListN.{List·getD-eq-default}

@@ -1,4 +1,4 @@
--- `sector::bytes::part` meets its contract. Assumes nothing.
+-- `sector::bytes::part` meets its contract: all bytes asked for are there, or the rest is shorter, or nothing is left; in each case it is what taking from the rest gives. Assumes nothing.
 use mathlib.Core.Path.{_≡_, sym, ap, _∙_}
 use Prim.Native.Nat.{_+_, _-_}
 use native.Mathlib.Omega.{arith}

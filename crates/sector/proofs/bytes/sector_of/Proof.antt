@@ -1,4 +1,4 @@
--- `sector::bytes::sector_of` meets its contract. Assumes nothing.
+-- `sector::bytes::sector_of` meets its contract: a sector is 256 bytes from 256 × k on, which is the part that is cut. Assumes nothing.
 use Rattle.rules.specs.Sectors.{sectorOf}
 use borrow.Author.Needs.{needs}
 use Rattle.sector.proofs.bytes.sector_of.Statement.{statement}

@@ -1,4 +1,4 @@
--- `sector::bytes::word` meets its contract. Assumes nothing.
+-- `sector::bytes::word` meets its contract: it is the sum of its two bytes, and past the end both are zero. Assumes nothing.
 use Prim.Native.Nat.{_+_}
 use native.Mathlib.Omega.{arith}
 use lib.ListN.{List·getD-eq-default}

@@ -1,9 +1,9 @@
--- `extension::block_bytes` meets its contract. Assumes nothing.
+-- `descriptor::chain::block_bytes` meets its contract: the three bytes are the definition's, and small numbers keep each in its byte. Assumes nothing.
 use mathlib.Core.Path.{refl}
 use Rattle.rules.specs.Chain.{blockBytes}
 use borrow.Author.Needs.{needs}
-use Rattle.extension.proofs.block_bytes.Statement.{statement}
-use Rattle.extension.proofs.block_bytes.Tie as tie
+use Rattle.descriptor.proofs.chain.block_bytes.Statement.{statement}
+use Rattle.descriptor.proofs.chain.block_bytes.Tie as tie
 
 cast-low : tie.Need-cast-low
 cast-low c = search needs
