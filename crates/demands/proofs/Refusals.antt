@@ -16,7 +16,8 @@ use Rattle.rules.specs.Calls.Rename.{renaming, renameOf}
 use Rattle.rules.specs.declared.Opened.{Opened}
 use Rattle.rules.specs.declared.Opened.the-variants.{At, Absent, Refused}
 use Rattle.rules.proofs.Tests.{unless-met}
-use Rattle.demands.specs.Call.{Change, create, append, overwrite, protect, unprotect, store, delete, rename}
+use Rattle.demands.specs.Call as call
+use Rattle.demands.specs.Call.{Change}
 use Rattle.demands.specs.Ours.{outcome}
 
 pub record Writes (outcome : Outcome) : Type 0 where
@@ -61,11 +62,11 @@ set-writes j bit image name = changing-writes (openOf image name) (settingBit j 
 
 pub change-writes : (change : Change) (image name : List ℕ) → Writes (outcome change image name)
 unfolding outcome createOf creating appendOf appending overwriteOf overwriting storeOf storing deleteOf deleting renameOf renaming
-change-writes (create status recordLength recordsPerSector) image name = adding-writes (openOf image name) _ (tested-writes _ _)
-change-writes (append bytes) image name = changing-writes (openOf image name) (appending image bytes) (λ k. tested-writes _ _)
-change-writes (overwrite offset bytes) image name = changing-writes (openOf image name) (overwriting image offset bytes) (λ k. tested-writes _ _)
-change-writes protect image name = set-writes 3 1 image name
-change-writes unprotect image name = set-writes 3 0 image name
-change-writes (store bytes) image name = adding-writes (openOf image name) _ (tested-writes _ _)
-change-writes delete image name = changing-writes (openOf image name) (deleting image) (λ k. tested-writes _ _)
-change-writes (rename new) image name = changing-writes (opening _ image name) (renaming image new) (λ k. adding-writes (findIn image new 0 _) _ (tested-writes _ _))
+change-writes (call.create status recordLength recordsPerSector) image name = adding-writes (openOf image name) _ (tested-writes _ _)
+change-writes (call.append bytes) image name = changing-writes (openOf image name) (appending image bytes) (λ k. tested-writes _ _)
+change-writes (call.overwrite offset bytes) image name = changing-writes (openOf image name) (overwriting image offset bytes) (λ k. tested-writes _ _)
+change-writes call.protect image name = set-writes 3 1 image name
+change-writes call.unprotect image name = set-writes 3 0 image name
+change-writes (call.store bytes) image name = adding-writes (openOf image name) _ (tested-writes _ _)
+change-writes call.delete image name = changing-writes (openOf image name) (deleting image) (λ k. tested-writes _ _)
+change-writes (call.rename new) image name = changing-writes (opening _ image name) (renaming image new) (λ k. adding-writes (findIn image new 0 _) _ (tested-writes _ _))

@@ -13,7 +13,8 @@ use Rattle.rules.specs.Outcome.{gives}
 use Rattle.rules.specs.Calls.Store.{sectorsFor, storeOf}
 use Rattle.rules.specs.Calls.Load.{loadOf}
 use Rattle.demands.specs.Catalogue.{putIn, takenOut, changed, named, held}
-use Rattle.demands.specs.Call.{Change, create, append, overwrite, protect, unprotect, store, delete, rename}
+use Rattle.demands.specs.Call as call
+use Rattle.demands.specs.Call.{Change}
 use Rattle.demands.specs.Ours.{outcome}
 
 -- bytes 0 to 55 of sector 0, and every file of another name: it is there, its descriptor and the sectors of its data as they stood
@@ -73,15 +74,15 @@ renamed name file = record { header = splice (file .header) 0 name; contents = f
 
 -- on the files of a catalogue: create and store put a file in; append, overwrite, protect and unprotect change the one of that name; delete takes it out; rename takes it out and puts it in anew
 abbrev pub effectOf : Change → (name : List ℕ) → List File → Effect
-effectOf (create status recordLength recordsPerSector) name files =
+effectOf (call.create status recordLength recordsPerSector) name files =
     effect (putIn (record { header = newHeader name status recordsPerSector 0 0 recordLength; contents = [] }) files) 1 0
-effectOf (store bytes) name files = effect (putIn (newProgram name bytes) files) (1 + sectorsFor (length bytes)) 0
-effectOf (append bytes) name files = effect (changed name (longer bytes) files) 1 0
-effectOf (overwrite offset bytes) name files = effect (changed name (overwritten offset bytes) files) 0 0
-effectOf protect name files = effect (changed name (withProtection 1) files) 0 0
-effectOf unprotect name files = effect (changed name (withProtection 0) files) 0 0
-effectOf delete name files = effect (takenOut name files) 0 (held (named name files))
-effectOf (rename new) name files = effect (putIn (renamed new (named name files)) (takenOut name files)) 0 0
+effectOf (call.store bytes) name files = effect (putIn (newProgram name bytes) files) (1 + sectorsFor (length bytes)) 0
+effectOf (call.append bytes) name files = effect (changed name (longer bytes) files) 1 0
+effectOf (call.overwrite offset bytes) name files = effect (changed name (overwritten offset bytes) files) 0 0
+effectOf call.protect name files = effect (changed name (withProtection 1) files) 0 0
+effectOf call.unprotect name files = effect (changed name (withProtection 0) files) 0 0
+effectOf call.delete name files = effect (takenOut name files) 0 (held (named name files))
+effectOf (call.rename new) name files = effect (putIn (renamed new (named name files)) (takenOut name files)) 0 0
 
 abbrev pub Changed : Change → (image after name : List ℕ) → Type 0
 Changed change image after name = Done image after name (effectOf change name (catalogue image))
