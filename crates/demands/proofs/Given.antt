@@ -25,11 +25,11 @@ use Rattle.rules.specs.declared.Opened.the-variants.{At, Absent, Refused}
 use Rattle.rules.proofs.Tests.{all-passed, passed-both, unless-passed}
 use Rattle.rules.proofs.Outcome.{reported-given}
 use Rattle.rules.proofs.Opening.{IsOpened, opened-is, open-refused}
+use Rattle.rules.proofs.Listed.{opened-listed}
 use Rattle.demands.specs.Catalogue.{named}
 use Rattle.demands.specs.Reading.{fileOf, lengthIs}
 use Rattle.demands.proofs.Reading.{header-at, header-name, length-in, content-at, file-of}
 use Rattle.demands.proofs.Filed.{named-file}
-use Rattle.rules.proofs.Listed.{opened-listed}
 
 -- the header holds what a row shows
 header-row : (image : List ℕ) (k : ℕ) → rowOf (headerIn image k) ≡ rowOf (sectorOf image k)

@@ -16,8 +16,8 @@ use Rattle.rules.specs.declared.Opened.{Opened}
 use Rattle.rules.specs.declared.Opened.the-variants.{At, Absent, Refused}
 use Rattle.rules.proofs.Name.{name-is, is-name}
 use Rattle.rules.proofs.Opening.{IsOpened, opening-passed, opening-met, opened-by, refused-by, unfound}
-use Rattle.demands.specs.Grounds.{Ground, ground, First, faults, Has, Present}
 use Rattle.rules.proofs.Listed.{listed-name, opened-listed}
+use Rattle.demands.specs.Grounds.{Ground, ground, First, faults, Has, Present}
 use Rattle.demands.proofs.Deciding.{Decides, Decide, first-after, decide-both, broken}
 use Rattle.demands.proofs.Faults.{faults-decided}
 

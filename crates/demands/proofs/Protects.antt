@@ -1,31 +1,26 @@
 -- Protect and unprotect, one law over the bit: the descriptor with its 08 bit changed keeps its rules, since the other bits of the status, the name and the chain stay.
-use mathlib.Core.Path.{_≡_, refl, ap, _∙_}
-use mathlib.Core.List.{List, [], _∷_}
+use mathlib.Core.Path.{_≡_, refl, sym, _∙_}
+use mathlib.Core.List.{List}
 use Prim.Native.Nat.{ℕ, _+_, _-_, _*_, _≤_}
 use native.Mathlib.Omega.{arith}
 use lib.ListN.{length, set, length-set}
 use lib.Seq.{getD-set-same, getD-set-other, take-set-lt, getD-take}
 use Rattle.rules.specs.Bytes.{byteAt, bitOf, withBit, splice}
 use Rattle.rules.specs.Sectors.{sectorOf, sectorCount, written}
-use Rattle.rules.specs.Map.{count}
-use Rattle.rules.specs.Chain.{places}
 use Rattle.rules.specs.Kind.{IsStatus}
 use Rattle.rules.specs.Descriptor.{nameOf, statusOf, chainOf, IsDescriptor}
-use Rattle.rules.specs.Volume.{files, nameIn, placesIn, headerIn, contentsIn, fileIn, catalogue}
+use Rattle.rules.specs.Volume.{nameIn, headerIn, fileIn, catalogue}
 use Rattle.rules.specs.Opening.{openOf}
 use Rattle.rules.specs.Calls.Protect.{settingBit, setBitOf}
 use Rattle.rules.proofs.Descriptor.{name-same, chain-same, front-changed}
-use Rattle.rules.proofs.Map.{count-here}
 use Rattle.rules.proofs.Marking.{with-bit-same, with-bit-other}
 use Rattle.rules.proofs.Opening.{IsOpened, opened-is, open-refused, changed-done}
-use Rattle.rules.proofs.Kept.{map-agree}
+use Rattle.rules.proofs.Listed.{opened-listed}
+use Rattle.rules.proofs.Altered.{redescribed, redescribed-file}
 use Rattle.demands.specs.Catalogue.{changed}
 use Rattle.demands.specs.Call.{protect, unprotect}
 use Rattle.demands.specs.Ours.{outcome}
 use Rattle.demands.specs.Effects.{effect, Done, withProtection, Does}
-use Rattle.rules.proofs.Written.{sector-other}
-use Rattle.rules.proofs.Listed.{opened-listed}
-use Rattle.rules.proofs.Altered.{place-other, own-here, own-altered}
 use Rattle.demands.proofs.Replacing.{altered-done}
 
 -- a status with that bit changed
@@ -70,45 +65,26 @@ module _ (bit : ℕ) (small : bit ≤ 1) where
         front-changed d changed-descriptor same-long n (λ i low. byte-kept i (λ e. omega arith))
         (λ j other. rw status-now (with-bit-other (statusOf d) 3 bit small j other)) (rw name-kept (is .name)) (rw status-now (status-kept (statusOf d) (is .status))) is
 
-  -- the call on the file at sector k: its descriptor is none of its places, so the contents stay
+  -- the call on the file at sector k
   module _ (image name : List ℕ) (p k : ℕ) (o : IsOpened image name p k) where
+    abbrev d : List ℕ
+    d = sectorOf image k
+
     abbrev new : List ℕ
-    new = changed-descriptor (sectorOf image k) (o .long)
+    new = changed-descriptor d (o .long)
 
-    abbrev after : List ℕ
-    after = splice image (256 * k) new
-
-    abbrev there : 1 ≤ count k (files image)
-    there = opened-listed image name p k o
-
-    new-long : length new ≡ 256
-    new-long = same-long (sectorOf image k) (o .long) ∙ o .long
-
-    own : 1 ≤ count k (k ∷ placesIn image k)
-    own = omega (arith, count-here k (placesIn image k))
-
-    descriptor-now : sectorOf after k ≡ new
-    descriptor-now = own-here image k (o .whole) there k new new-long own
-
-    places-now : placesIn after k ≡ placesIn image k
-    unfolding placesIn
-    places-now = ap (λ (d : List ℕ). places (chainOf d)) descriptor-now ∙ ap places (chain-kept (sectorOf image k) (o .long))
-
-    file-now : withProtection bit (fileIn image k) ≡ fileIn after k
-    unfolding withProtection fileIn headerIn contentsIn
-    file-now =
-        let header = getD-take 28 (sectorOf image k) 12 0 (omega arith) in
-        let front = take-set-lt 28 (sectorOf image k) 12 (withBit (statusOf (sectorOf image k)) 3 bit) (omega arith) in
-        let contents = map-agree (sectorOf after) (sectorOf image) (placesIn image k) (λ j h. sector-other image k new new-long j (place-other image k (o .whole) there j h)) in
-        rw (header, places-now, contents, descriptor-now, front)
-
-    protected-done : Done image after name (effect (changed name (withProtection bit) (catalogue image)) 0 0)
-    unfolding nameIn
+    protected-done : Done image (splice image (256 * k) new) name (effect (changed name (withProtection bit) (catalogue image)) 0 0)
+    unfolding nameIn withProtection fileIn headerIn
     protected-done =
-        altered-done
-        (own-altered image k (o .whole) there k new new-long own (rw descriptor-now (rules-kept (sectorOf image k) (o .long) (sectorCount image) (o .descriptor)))
-        (ap nameOf descriptor-now ∙ name-kept (sectorOf image k) (o .long)) places-now)
-        name (o .named) (withProtection bit) file-now
+        let there = opened-listed image name p k o in
+        let long = same-long d (o .long) ∙ o .long in
+        let rules = rules-kept d (o .long) (sectorCount image) (o .descriptor) in
+        let named = name-kept d (o .long) in
+        let chain = chain-kept d (o .long) in
+        let status = getD-take 28 d 12 0 (omega arith) in
+        let header = take-set-lt 28 d 12 (withBit (statusOf d) 3 bit) (omega arith) in
+        altered-done (redescribed image k (o .whole) there new long rules named chain) name (o .named) (withProtection bit)
+        (sym (redescribed-file image k (o .whole) there new long rules named chain ∙ rw (status, header)))
 
   protection-done : (image name : List ℕ) → setBitOf 3 bit image name .number ≡ 0
       → Done image (written image (setBitOf 3 bit image name .writes)) name (effect (changed name (withProtection bit) (catalogue image)) 0 0)

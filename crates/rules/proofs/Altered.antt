@@ -4,18 +4,19 @@ use mathlib.Core.List.{List, [], _∷_, _++_, append-nil}
 use Prim.Native.Nat.{ℕ, _+_, _*_, _≤_, _<_}
 use native.Mathlib.Omega.{arith}
 use lib.ListN.{length}
-use Rattle.rules.specs.Bytes.{splice}
+use Rattle.rules.specs.Bytes.{part, splice}
+use Rattle.rules.specs.Chain.{places}
 use Rattle.rules.specs.Sectors.{sectorOf, sectorCount}
 use Rattle.rules.specs.Map.{count, markedAll}
-use Rattle.rules.specs.Descriptor.{IsDescriptor}
+use Rattle.rules.specs.Descriptor.{nameOf, chainOf, IsDescriptor}
 use Rattle.rules.specs.Index.{numbers}
-use Rattle.rules.specs.Volume.{files, nameIn, placesIn, fileHolders}
+use Rattle.rules.specs.Volume.{files, nameIn, placesIn, fileHolders, headerIn, contentsIn, fileIn}
 use Rattle.rules.specs.Sound.{Sound}
 use Rattle.rules.proofs.Splice.{splice-length}
 use Rattle.rules.proofs.Map.{count-none, count-here, count-append}
 use Rattle.rules.proofs.Choice.{Chosen}
 use Rattle.rules.proofs.Indexed.{placed-back}
-use Rattle.rules.proofs.Kept.{holders-without}
+use Rattle.rules.proofs.Kept.{holders-without, map-agree}
 use Rattle.rules.proofs.Listed.{sector-inside, held-inside, file-once, holders-split, rest-apart, listed-name, not-listed}
 use Rattle.rules.proofs.Written.{sector-same, sector-other}
 use Rattle.rules.proofs.Replaced.{at, stayed, Replaced, taken-mapped}
@@ -94,3 +95,25 @@ module _ (image : List ℕ) (k : ℕ) (is : Sound image) (listed : 1 ≤ count k
           places = places ∙ sym (append-nil (placesIn image k));
           stands = λ j there foreign. sector-other image w bytes long j (λ e. omega (arith, own, rw e at foreign));
         }
+
+  -- Its descriptor written anew, with the same name and chain: the header is the new one, and the contents stay.
+  module _ (d : List ℕ) (long : length d ≡ 256) (rules : IsDescriptor (sectorCount image) d) (named : nameOf d ≡ nameIn image k) (chain : chainOf d ≡ chainOf (sectorOf image k)) where
+    abbrev own-descriptor : 1 ≤ count k (k ∷ placesIn image k)
+    own-descriptor = omega (arith, count-here k (placesIn image k))
+
+    descriptor-now : sectorOf (splice image (256 * k) d) k ≡ d
+    descriptor-now = own-here k d long own-descriptor
+
+    places-now : placesIn (splice image (256 * k) d) k ≡ placesIn image k
+    unfolding placesIn
+    places-now = ap (λ (s : List ℕ). places (chainOf s)) descriptor-now ∙ ap places chain
+
+    pub redescribed : Altered image (splice image (256 * k) d) k []
+    unfolding nameIn
+    redescribed = own-altered k d long own-descriptor (rw descriptor-now rules) (ap nameOf descriptor-now ∙ named) places-now
+
+    pub redescribed-file : fileIn (splice image (256 * k) d) k ≡ record { header = part d 0 28; contents = contentsIn image k }
+    unfolding fileIn headerIn contentsIn
+    redescribed-file =
+        let contents = map-agree (sectorOf (splice image (256 * k) d)) (sectorOf image) (placesIn image k) (λ j h. sector-other image k d long j (place-other j h)) in
+        rw (places-now, contents, descriptor-now)
