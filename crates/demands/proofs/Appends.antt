@@ -1,197 +1,39 @@
 -- Append: the sector taken was free, so it is nobody's, and the three writes are to different sectors. The descriptor with the longer chain keeps its rules, its places
 -- are the old ones and the new one behind them, and its header changes in the number of sectors alone.
-use mathlib.Core.Path.{_≡_, refl, sym, ap, _∙_}
-use mathlib.Core.Bool.{Bool, true, false, cond}
+use mathlib.Core.Path.{_≡_, sym, ap, _∙_}
 use mathlib.Core.List.{List, [], _∷_, _++_, map, map-append}
-use Prim.Native.Nat.{ℕ, zero, suc, _+_, _-_, _*_, _≤_, _<_}
+use Prim.Native.Nat.{ℕ, _+_, _-_, _≤_, _<_}
 use native.Mathlib.Omega.{arith}
-use native.Mathlib.Decide.{decLt, ℕ-discrete}
-use lib.Dec.{eqb, leb}
-use lib.ListN.{length, take, length-map, List·getD-eq-default}
-use borrow.Author.Tests.{eqb-true, leb-true}
-use Rattle.rules.specs.Bytes.{byteAt, wordBytes, over, splice}
+use lib.ListN.{length, take, length-map}
+use borrow.Author.Tests.{not-false, eqb-true, ltb-false}
+use Rattle.rules.specs.Bytes.{wordBytes, splice}
 use Rattle.rules.specs.Sectors.{Write, sectorOf, sectorCount, written}
 use Rattle.rules.specs.Map.{count, freeCount, marked, markedAll}
-use Rattle.rules.specs.declared.Block.{Block}
-use Rattle.rules.specs.Chain.{blocks, placesFrom, places, extended, blocksBytes, Linked}
-use Rattle.rules.specs.Kind.{isProgram, isProtected, isVariable, isInternal, kindOf, IsKind}
-use Rattle.rules.specs.declared.Kind.the-variants.{Fixed, Variable}
-use Rattle.rules.specs.Descriptor.{nameOf, statusOf, sectorsOf, chainOf, fileKind, withChain, IsDescriptor}
+use Rattle.rules.specs.Chain.{places}
+use Rattle.rules.specs.Descriptor.{nameOf, sectorsOf, chainOf, IsDescriptor}
 use Rattle.rules.specs.Volume.{files, nameIn, placesIn, fileHolders, holders, headerIn, contentsIn, fileIn, catalogue}
 use Rattle.rules.specs.Choice.{dataChoice}
-use Rattle.rules.specs.Outcome.{write, done, refusal}
-use Rattle.rules.specs.Calls.Append.{appending, appendOf}
-use Rattle.rules.proofs.Bytes.{part-at}
-use Rattle.rules.proofs.Splice.{splice-length}
-use Rattle.rules.proofs.Extended.{Writable, extended-places, extended-linked, extended-length, linked-writable, with-chain-length, with-chain-sectors, with-chain-before, with-chain-blocks, with-chain-is, sectors-few}
-use Rattle.rules.proofs.Map.{count-none, count-here, count-other, count-more}
+use Rattle.rules.specs.Outcome.{write}
+use Rattle.rules.specs.Tests.{Passed}
+use Rattle.rules.specs.Opening.{openOf}
+use Rattle.rules.specs.Calls.Append.{longerBlocks, appendTests, appendWrites, appending, appendOf}
+use Rattle.rules.proofs.Extended.{with-chain-length, sectors-few}
+use Rattle.rules.proofs.Map.{count-here, count-more, only-one, one-once}
 use Rattle.rules.proofs.Volume.{places-count}
 use Rattle.rules.proofs.Marking.{marked-length}
+use Rattle.rules.proofs.Longer.{longer-blocks, longer-descriptor, longer-name, longer-header, longer-places, longer-rules}
 use Rattle.rules.proofs.Choice.{Chosen, sound-fenced, data-choice-free}
-use Rattle.rules.proofs.Outcome.{IsOpened, opened-is, file-long}
-use Rattle.rules.proofs.Changes.{changed-done}
-use Rattle.rules.proofs.Written.{sector-same, Whole, written-length, Apart, written-apart}
-use Rattle.rules.proofs.Kept.{free-unheld, map-agree}
+use Rattle.rules.proofs.Tests.{all-passed, unless-passed}
+use Rattle.rules.proofs.Opening.{IsOpened, opened-is, open-refused, changed-done}
+use Rattle.rules.proofs.Written.{Whole, written-length, Apart, written-apart, written-at}
+use Rattle.rules.proofs.Listed.{label-long, sector-inside, held-inside, opened-listed}
+use Rattle.rules.proofs.Altered.{Altered, place-other}
+use Rattle.rules.proofs.Kept.{file-holds, free-unheld, map-agree}
 use Rattle.demands.specs.Catalogue.{changed}
-use Rattle.demands.specs.Effects.{Done, longer, Appends}
-use Rattle.demands.proofs.Changing.{Altered, altered-done, own-and-rest, own-once, held-inside}
-
--- the front of a buffer with bytes laid over it: behind the front, and inside it
-take-below : (n : ℕ) (buffer : List ℕ) (at : ℕ) (bytes : List ℕ) → n ≤ at → take n (splice buffer at bytes) ≡ take n buffer
-unfolding splice
-take-below zero buffer at bytes h = refl
-take-below (suc n) buffer zero bytes h = absurd (omega arith)
-take-below (suc n) [] (suc at) bytes h = refl
-take-below (suc n) (b ∷ buffer) (suc at) bytes h = ap (λ (l : List ℕ). b ∷ l) (take-below n buffer at bytes (omega arith))
-
-take-within : (n : ℕ) (buffer : List ℕ) (at : ℕ) (bytes : List ℕ) → at + length bytes ≤ n → take n (splice buffer at bytes) ≡ splice (take n buffer) at bytes
-unfolding splice over
-take-within zero [] zero bytes h = refl
-take-within zero (b ∷ buffer) zero [] h = refl
-take-within zero (b ∷ buffer) zero (c ∷ bytes) h = absurd (omega arith)
-take-within zero buffer (suc at) bytes h = absurd (omega arith)
-take-within (suc n) [] zero bytes h = refl
-take-within (suc n) (b ∷ buffer) zero [] h = refl
-take-within (suc n) (b ∷ buffer) zero (c ∷ bytes) h = ap (λ (l : List ℕ). c ∷ l) (take-within n buffer zero bytes (omega arith))
-take-within (suc n) [] (suc at) bytes h = refl
-take-within (suc n) (b ∷ buffer) (suc at) bytes h = ap (λ (l : List ℕ). b ∷ l) (take-within n buffer at bytes (omega arith))
-
--- a sector that was written and that no later write names
-written-at : (image : List ℕ) (before : List Write) (this : Write) (behind : List Write) → Whole (length image) (before ++ (this ∷ behind)) → Apart (this .sector) behind
-    → sectorOf (written image (before ++ (this ∷ behind))) (this .sector) ≡ this .bytes
-unfolding written Whole
-written-at image [] this behind whole apart =
-    let size = splice-length image (256 * this .sector) (this .bytes) in
-    written-apart (splice image (256 * this .sector) (this .bytes)) behind (this .sector) (rw size (whole .2)) apart (rw size (whole .1))
-    ∙ sector-same image (this .sector) (this .bytes) (whole .0) (whole .1)
-written-at image (first ∷ before) this behind whole apart =
-    let size = splice-length image (256 * first .sector) (first .bytes) in
-    written-at (splice image (256 * first .sector) (first .bytes)) before this behind (rw size (whole .2)) apart
-
--- the tests, where the number is 0
-passed : (t u v w x : Bool) (writes : List Write)
-    → cond t (refusal 10) (cond u (refusal 14) (cond v (cond w (cond x (done writes) (refusal 13)) (refusal 12)) (refusal 15))) .number ≡ 0
-    → (u ≡ false) × (v ≡ true) × (w ≡ true) × (x ≡ true)
-    × (cond t (refusal 10) (cond u (refusal 14) (cond v (cond w (cond x (done writes) (refusal 13)) (refusal 12)) (refusal 15))) ≡ done writes)
-passed true u v w x writes e = absurd (omega arith)
-passed false true v w x writes e = absurd (omega arith)
-passed false false false w x writes e = absurd (omega arith)
-passed false false true false x writes e = absurd (omega arith)
-passed false false true true false writes e = absurd (omega arith)
-passed false false true true true writes e = (refl, refl, refl, refl, refl)
-
--- the sector that is taken, the blocks with it, and the descriptor with those
-abbrev taken-sector : List ℕ → ℕ
-taken-sector image = dataChoice (sectorOf image 0)
-
-abbrev longer-blocks : List ℕ → ℕ → List Block
-longer-blocks d new = extended 0 (blocks (chainOf d)) new
-
-abbrev longer-descriptor : List ℕ → ℕ → List ℕ
-longer-descriptor d new = withChain d (sectorsOf d + 1) (extended 0 (blocks (chainOf d)) new)
-
-abbrev writes-of : List ℕ → List ℕ → ℕ → List Write
-writes-of image bytes k =
-    write (taken-sector image) bytes
-    ∷ (write 0 (marked 1 (sectorOf image 0) (taken-sector image)) ∷ (write k (longer-descriptor (sectorOf image k) (taken-sector image)) ∷ []))
-
-record Appended (image bytes : List ℕ) (k : ℕ) : Type 0 where
-  records : isProgram (statusOf (sectorOf image k)) ≡ false
-  long : length bytes ≡ 256
-  room : 1 ≤ freeCount (sectorOf image 0)
-  few : length (longer-blocks (sectorOf image k) (taken-sector image)) ≤ 76
-  is : appending image bytes k ≡ done (writes-of image bytes k)
-
-append-facts : (image bytes : List ℕ) (k : ℕ) → appending image bytes k .number ≡ 0 → Appended image bytes k
-unfolding appending
-append-facts image bytes k e =
-    let d = sectorOf image k in
-    let all = passed (isProtected (statusOf d)) (isProgram (statusOf d)) (eqb (length bytes) 256) (leb 1 (freeCount (sectorOf image 0))) (leb (length (longer-blocks d (taken-sector image))) 76) (writes-of image bytes k) e in
-    record {
-      records = all .0;
-      long = eqb-true (length bytes) 256 (all .1);
-      room = leb-true 1 (freeCount (sectorOf image 0)) (all .2);
-      few = leb-true (length (longer-blocks d (taken-sector image))) 76 (all .3);
-      is = all .4;
-    }
-
--- a file that is no program may have any number of sectors
-any-kind : (status c endOffset recordLength : ℕ) → isProgram status ≡ false → IsKind (kindOf status c endOffset recordLength) c
-unfolding kindOf IsKind
-any-kind status c endOffset recordLength e = rw e (go (isVariable status))
-  where
-    go : (t : Bool) → IsKind (cond t (Variable recordLength (isInternal status)) (Fixed recordLength (isInternal status))) c
-    go true = tt
-    go false = tt
-
--- The descriptor with one sector more: its name and status stay, and its header but for the number of sectors.
-module _ (d : List ℕ) (new : ℕ) where
-  longer-name : nameOf (longer-descriptor d new) ≡ nameOf d
-  unfolding nameOf withChain
-  longer-name =
-      take-below 10 (splice d 14 (wordBytes (sectorsOf d + 1))) 28 (blocksBytes (longer-blocks d new)) (omega arith)
-      ∙ take-below 10 d 14 (wordBytes (sectorsOf d + 1)) (omega arith)
-
-  longer-header : take 28 (longer-descriptor d new) ≡ splice (take 28 d) 14 (wordBytes (sectorsOf d + 1))
-  unfolding withChain
-  longer-header =
-      take-below 28 (splice d 14 (wordBytes (sectorsOf d + 1))) 28 (blocksBytes (longer-blocks d new)) (omega arith)
-      ∙ take-within 28 d 14 (wordBytes (sectorsOf d + 1)) (omega arith)
-
-  longer-status : statusOf (longer-descriptor d new) ≡ statusOf d
-  longer-status = with-chain-before d (sectorsOf d + 1) (longer-blocks d new) 12 (omega arith)
-
--- it keeps its rules, and its places are the old ones and the new one
-module _ (n : ℕ) (d : List ℕ) (new : ℕ) (size : length d ≡ 256) (is : IsDescriptor n d) (small : n ≤ 1600) (short : sectorsOf d ≤ 1600) (from : 2 ≤ new) (inside : new < n)
-    (records : isProgram (statusOf d) ≡ false) (few : length (longer-blocks d new) ≤ 76) where
-  linked : Linked n (sectorsOf d + 1) 0 (longer-blocks d new)
-  linked = extended-linked n new from inside (sectorsOf d) 0 (blocks (chainOf d)) (is .chain .linked)
-
-  writable : Writable (longer-blocks d new)
-  writable = linked-writable n (sectorsOf d + 1) 0 (longer-blocks d new) (omega arith) (omega arith) linked
-
-  zero-behind : (i : ℕ) → 28 + 3 * length (longer-blocks d new) ≤ i → byteAt d i ≡ 0
-  unfolding chainOf
-  zero-behind i h =
-      elim (decLt i 256) [
-        | yes low ↦
-            let e : 28 + (i - 28) ≡ i = omega arith in
-            let read = rw e at (part-at d 28 228 (i - 28) (omega arith)) in
-            sym read ∙ is .chain .rest (i - 28) (omega (arith, h, extended-length 0 (blocks (chainOf d)) new .0))
-        | no past ↦ List·getD-eq-default d 0 {n = i} (omega arith)
-      ]
-
-  longer-places : places (chainOf (longer-descriptor d new)) ≡ places (chainOf d) ++ (new ∷ [])
-  unfolding places
-  longer-places =
-      ap (placesFrom 0) (with-chain-blocks d (sectorsOf d + 1) (longer-blocks d new) size writable few zero-behind)
-      ∙ extended-places n new (sectorsOf d) 0 (blocks (chainOf d)) (is .chain .linked)
-
-  longer-rules : IsDescriptor n (longer-descriptor d new)
-  unfolding fileKind
-  longer-rules =
-      let c = with-chain-sectors d (sectorsOf d + 1) (longer-blocks d new) (omega arith) in
-      record {
-        name = rw (longer-name d new) (is .name);
-        status = rw (longer-status d new) (is .status);
-        kind = any-kind _ _ _ _ (rw (longer-status d new) records);
-        chain = rw c (with-chain-is d (sectorsOf d + 1) (longer-blocks d new) size writable few zero-behind n linked);
-      }
-
--- a list of one number: that number, once
-only-one : (k j : ℕ) → 1 ≤ count j (k ∷ []) → k ≡ j
-only-one k j some =
-    elim (ℕ-discrete k j) [
-      | yes here ↦ here
-      | no other ↦ absurd (omega (arith, some, count-other j k [] other, count-none j))
-    ]
-
-one-once : (k j : ℕ) → count j (k ∷ []) ≤ 1
-one-once k j =
-    elim (ℕ-discrete k j) [
-      | yes here ↦ rw here (omega (arith, count-here j [], count-none j))
-      | no other ↦ omega (arith, count-other j k [] other, count-none j)
-    ]
+use Rattle.demands.specs.Call.{append}
+use Rattle.demands.specs.Ours.{outcome}
+use Rattle.demands.specs.Effects.{effect, Done, longer, Does}
+use Rattle.demands.proofs.Replacing.{altered-done}
 
 -- The three writes, with a free sector `new` and a descriptor `d` for the file at sector k.
 module _ (image name : List ℕ) (p k : ℕ) (o : IsOpened image name p k) (bytes : List ℕ) (long : length bytes ≡ 256)
@@ -208,40 +50,33 @@ module _ (image name : List ℕ) (p k : ℕ) (o : IsOpened image name p k) (byte
   abbrev after : List ℕ
   after = written image (first ∷ (second ∷ (third ∷ [])))
 
-  unheld : count new (fileHolders image (files image)) ≡ 0
-  unfolding holders
-  unheld =
-      let hs = fileHolders image (files image) in
-      omega (arith, free-unheld image new (o .whole) (chosen .inside) (chosen .free), count-more new 0 (1 ∷ hs), count-more new 1 hs)
+  abbrev there : 1 ≤ count k (files image)
+  there = opened-listed image name p k o
 
   held-other : (j : ℕ) → 1 ≤ count j (fileHolders image (files image)) → j ≡ new → ⊥
-  held-other j held e = omega (arith, unheld, rw e at held)
+  unfolding holders
+  held-other j held e =
+      let hs = fileHolders image (files image) in
+      omega (arith, rw e at held, free-unheld image new (o .whole) (chosen .inside) (chosen .free), count-more new 0 (1 ∷ hs), count-more new 1 hs)
 
   own : 1 ≤ count k (fileHolders image (files image))
-  own = omega (arith, own-and-rest image name p k o k, count-here k (placesIn image k))
+  own = omega (arith, file-holds image k k (files image) there, count-here k (placesIn image k))
 
   own-range : (2 ≤ k) × (k < sectorCount image)
-  own-range = held-inside image k (o .whole) own
-
-  fits : (j : ℕ) → j < sectorCount image → 256 * j + 256 ≤ length image
-  fits j low = omega (arith, low, o .whole .whole)
+  own-range = held-inside image (o .whole) k own
 
   whole : Whole (length image) (first ∷ (second ∷ (third ∷ [])))
   unfolding Whole
-  whole = (
-    long,
-    fits new (chosen .inside),
-    (
-      marked-length 1 (sectorOf image 0) new ∙ file-long image 0 (o .whole) (omega (arith, o .whole .size)),
-      fits 0 (omega (arith, o .whole .size)),
-      (size, fits k (own-range .1), tt),
-    ),
-  )
+  whole =
+      let fits = sector-inside image (o .whole) in (
+        long,
+        fits new (chosen .inside),
+        (marked-length 1 (sectorOf image 0) new ∙ label-long image (o .whole), fits 0 (omega (arith, o .whole .size)), (size, fits k (own-range .1), tt)),
+      )
 
   new-now : sectorOf after new ≡ bytes
   unfolding Apart
-  new-now =
-      written-at image [] first (second ∷ (third ∷ [])) whole ((λ e. omega (arith, e, chosen .from)), ((λ e. held-other k own (sym e)), tt))
+  new-now = written-at image [] first (second ∷ (third ∷ [])) whole ((λ e. omega (arith, e, chosen .from)), ((λ e. held-other k own (sym e)), tt))
 
   map-now : sectorOf after 0 ≡ marked 1 (sectorOf image 0) new
   unfolding Apart
@@ -252,21 +87,16 @@ module _ (image name : List ℕ) (p k : ℕ) (o : IsOpened image name p k) (byte
   descriptor-now = written-at image (first ∷ (second ∷ [])) third [] whole tt
 
   -- all else stands as it stood
-  else-same : (j : ℕ) → 1 ≤ j → j < sectorCount image → (j ≡ new → ⊥) → (j ≡ k → ⊥) → sectorOf after j ≡ sectorOf image j
+  else-same : (j : ℕ) → 1 ≤ j → (j ≡ new → ⊥) → (j ≡ k → ⊥) → sectorOf after j ≡ sectorOf image j
   unfolding Apart
-  else-same j some low apart other =
-      written-apart image (first ∷ (second ∷ (third ∷ []))) j whole (apart, ((λ e. omega (arith, e, some)), (other, tt))) (fits j low)
+  else-same j some apart other = written-apart image (first ∷ (second ∷ (third ∷ []))) j whole (apart, ((λ e. omega (arith, e, some)), (other, tt)))
 
   held-same : (j : ℕ) → 1 ≤ count j (fileHolders image (files image)) → (j ≡ k → ⊥) → sectorOf after j ≡ sectorOf image j
-  held-same j held other =
-      let inside = held-inside image j (o .whole) held in
-      else-same j (omega (arith, inside .0)) (inside .1) (held-other j held) other
+  held-same j held other = else-same j (omega (arith, held-inside image (o .whole) j held .0)) (held-other j held) other
 
   place-same : (j : ℕ) → 1 ≤ count j (placesIn image k) → sectorOf after j ≡ sectorOf image j
-  place-same j there =
-      let among = count-more j k (placesIn image k) in
-      held-same j (omega (arith, there, among, own-and-rest image name p k o j))
-      (λ e. omega (arith, rw e at there, own-once image name p k o k, count-here k (placesIn image k)))
+  place-same j placed =
+      held-same j (omega (arith, placed, count-more j k (placesIn image k), file-holds image k j (files image) there)) (place-other image k (o .whole) there j placed)
 
   -- where the descriptor is the old one with the new sector at its end
   module _ (rules : IsDescriptor (sectorCount image) d) (named : nameOf d ≡ nameIn image k) (longer-by : places (chainOf d) ≡ placesIn image k ++ (new ∷ [])) where
@@ -274,24 +104,21 @@ module _ (image name : List ℕ) (p k : ℕ) (o : IsOpened image name p k) (byte
     unfolding placesIn
     places-now = ap (λ (s : List ℕ). places (chainOf s)) descriptor-now ∙ longer-by
 
-    name-now : nameIn after k ≡ name
-    unfolding nameIn
-    name-now = ap nameOf descriptor-now ∙ named ∙ sym (o .named)
-
-    altered : Altered image after name p k (new ∷ [])
-    unfolding markedAll
+    altered : Altered image after k (new ∷ [])
+    unfolding markedAll nameIn
     altered =
         record {
-          opened = o;
+          sound = o .whole;
+          listed = there;
           size = written-length image (first ∷ (second ∷ (third ∷ [])));
           once = one-once new;
           free = λ j some. rw (← only-one new j some) chosen;
           sector0 = map-now;
-          sector1 = else-same 1 (omega arith) (omega (arith, o .whole .size)) (λ e. omega (arith, e, chosen .from)) (λ e. omega (arith, e, own-range .0));
+          sector1 = else-same 1 (omega arith) (λ e. omega (arith, e, chosen .from)) (λ e. omega (arith, e, own-range .0));
           rules = rw descriptor-now rules;
-          named = name-now;
+          named = ap nameOf descriptor-now ∙ named;
           places = places-now;
-          others = λ j held foreign. held-same j held (λ e. omega (arith, rw e at foreign, count-here k (placesIn image k)));
+          stands = λ j held foreign. held-same j held (λ e. omega (arith, rw e at foreign, count-here k (placesIn image k)));
         }
 
     contents-now : contentsIn after k ≡ contentsIn image k ++ (bytes ∷ [])
@@ -305,38 +132,34 @@ module _ (image name : List ℕ) (p k : ℕ) (o : IsOpened image name p k) (byte
     unfolding contentsIn
     many = length-map (placesIn image k) (sectorOf image) ∙ places-count (sectorCount image) image k (o .descriptor)
 
-    module _ (header : take 28 d ≡ splice (take 28 (sectorOf image k)) 14 (wordBytes (sectorsOf (sectorOf image k) + 1))) where
-      header-now : headerIn after k ≡ splice (headerIn image k) 14 (wordBytes (sectorsOf (sectorOf image k) + 1))
-      unfolding headerIn
-      header-now = ap (take 28) descriptor-now ∙ header
+    appended-done : take 28 d ≡ splice (take 28 (sectorOf image k)) 14 (wordBytes (sectorsOf (sectorOf image k) + 1))
+        → Done image after name (effect (changed name (longer bytes) (catalogue image)) 1 0)
+    unfolding longer fileIn headerIn
+    appended-done header = altered-done altered name (o .named) (longer bytes) (rw (many, descriptor-now, header, contents-now))
 
-      file-now : longer bytes (fileIn image k) ≡ fileIn after k
-      unfolding longer fileIn
-      file-now = rw (many, header-now, contents-now)
-
-      appended-done : Done image after name (changed name (longer bytes) (catalogue image)) 1 0
-      appended-done = altered-done image after name p k (new ∷ []) altered (longer bytes) file-now
-
-appending-done : (image name bytes : List ℕ) (p k : ℕ) → IsOpened image name p k → Appended image bytes k
-    → Done image (written image (writes-of image bytes k)) name (changed name (longer bytes) (catalogue image)) 1 0
-unfolding nameIn placesIn
-appending-done image name bytes p k o a =
+appending-done : (image name bytes : List ℕ) (p k : ℕ) → IsOpened image name p k → Passed (appendTests image bytes k)
+    → Done image (written image (appendWrites image bytes k)) name (effect (changed name (longer bytes) (catalogue image)) 1 0)
+unfolding nameIn placesIn appendTests appendWrites longerBlocks Passed
+appending-done image name bytes p k o passed =
     let n = sectorCount image in
     let d = sectorOf image k in
-    let new = taken-sector image in
-    let chosen = data-choice-free n (sectorOf image 0) (sound-fenced image (o .whole)) (a .room) in
+    let new = dataChoice (sectorOf image 0) in
+    let chosen = data-choice-free n (sectorOf image 0) (sound-fenced image (o .whole)) (ltb-false (freeCount (sectorOf image 0)) 1 (passed .1 .1 .1 .0)) in
     let short : sectorsOf d ≤ 1600 = rw (o .is) at (sectors-few image p (o .whole) (o .inside)) in
     let small = o .whole .size .1 in
-    appended-done image name p k o bytes (a .long) new chosen (longer-descriptor d new)
+    let few = ltb-false 76 (length (longer-blocks d new)) (passed .1 .1 .1 .1 .0) in
+    appended-done image name p k o bytes (eqb-true (length bytes) 256 (not-false _ (passed .1 .1 .0))) new chosen (longer-descriptor d new)
     (with-chain-length d (sectorsOf d + 1) (longer-blocks d new) ∙ o .long)
-    (longer-rules n d new (o .long) (o .descriptor) small short (chosen .from) (chosen .inside) (a .records) (a .few))
+    (longer-rules n d new (o .long) (o .descriptor) small short (chosen .from) (chosen .inside) (passed .1 .0) few)
     (longer-name d new)
-    (longer-places n d new (o .long) (o .descriptor) small short (chosen .from) (chosen .inside) (a .records) (a .few))
+    (longer-places n d new (o .long) (o .descriptor) small short (chosen .from) (chosen .inside) (passed .1 .0) few)
     (longer-header d new)
 
-pub appends : Appends
-unfolding Appends appendOf
-appends image name bytes e =
-    let c = changed-done image name (appending image bytes) e in
-    let a = append-facts image bytes (c .sector) (c .number) in
-    rw (c .is, a .is) (appending-done image name bytes (c .place) (c .sector) (opened-is image name (c .place) (c .sector) (c .opened)) a)
+pub appends : (bytes : List ℕ) → Does (append bytes)
+unfolding outcome appendOf appending
+appends bytes image name e =
+    let c = changed-done (openOf image name) (appending image bytes) (open-refused image name) e in
+    let k = c .sector in
+    let tests = appendTests image bytes k in
+    rw (c .is, unless-passed tests (appendWrites image bytes k) [] (c .number))
+    (appending-done image name bytes (c .place) k (opened-is image name (c .place) k (c .found-at)) (all-passed tests (c .number)))

@@ -20,13 +20,14 @@ use Rattle.rules.specs.Index.{numbers, rangeRule, indexRule, numbersBytes, inde
 use Rattle.rules.specs.Volume.{files, nameIn, placesIn, fileHolders, holders, placed, headerIn, contentsIn, fileIn, catalogue}
 use Rattle.rules.specs.Calls.Pack.{labelArea, oneBlock, packedDescriptor, packedDescriptors, packedData, dataSectors, packedSectors, packed}
 use Rattle.rules.specs.Calls.Load.{joined}
-use Rattle.rules.specs.Verdict.{sizeRule, descriptorsRule, heldTwice, verdict}
+use Rattle.rules.specs.Verdict.{sizeRule, descriptorsRule, heldTwice, volumeTests, verdict}
 use Rattle.rules.specs.Choice.{lowestFree, descriptorChoice, dataChoice, dataChoices}
-use Rattle.rules.specs.Outcome.{findIn, openOf, changing, adding}
+use Rattle.rules.specs.Tests.{firstOf, unlessMet}
+use Rattle.rules.specs.Opening.{findIn, opening, nameTests, openOf, changing, adding}
 use Rattle.rules.specs.Calls.Format.{newLabel, formatted}
-use Rattle.rules.specs.Calls.Create.{createStatus, entered, creating, createOf}
-use Rattle.rules.specs.Calls.Append.{appending, appendOf}
-use Rattle.rules.specs.Calls.Store.{dataWrites, storing, storeOf}
+use Rattle.rules.specs.Calls.Create.{createStatus, entered, createTests, creating, createOf}
+use Rattle.rules.specs.Calls.Append.{longerBlocks, appendTests, appendWrites, appending, appendOf}
+use Rattle.rules.specs.Calls.Store.{dataWrites, newSectors, newBlocks, storeTests, storing, storeOf}
 use Rattle.rules.specs.Calls.Listing.{digits, decimal, unpadded, kindWord, kindLength, diskLine, fileLine, fileLines, listingText}
 use Rattle.rules.proofs.Tests.{both}
 use Rattle.demands.specs.Catalogue.{fileName, named}
@@ -52,14 +53,14 @@ unfoldable tests : List ℕ → Bool
 tests m = holds (rows m) && (same (listingText m) printed && ready m)
 
 -- what the tests say of an image that passes them
-pub record Passed (m : List ℕ) : Type 0 where
+pub record Shown (m : List ℕ) : Type 0 where
   pub tabled : holds (rows m) ≡ true
   pub listed : same (listingText m) printed ≡ true
   pub judged : verdict m ≡ 0
   pub appended : appendOf m notes secondSector .number ≡ 0
   pub held : eqb (length (named notes (catalogue m) .contents)) 0 ≡ false
 
-passed : (m : List ℕ) → tests m ≡ true → Passed m
+passed : (m : List ℕ) → tests m ≡ true → Shown m
 unfolding tests ready
 passed m e =
     let first = both (holds (rows m)) (same (listingText m) printed && ready m) e in
@@ -76,8 +77,8 @@ passed m e =
     }
 
 all-pass : tests caseM ≡ true
-unfolding headerIn contentsIn fileIn catalogue joined labelArea oneBlock packedDescriptor packedDescriptors packedData dataSectors packedSectors packed same holds tableOf caseM over splice allAre withBit sectorOf written nameByte padded nameRule precedes labelRule mapBit count taken bitsRule mapRule byteOf bytesOf mapOf zeroBits freeCount marked markedAll blockBytes blockOf endsChain blocks blocksRule chainRule run placesFrom places extended extendedAll blocksBytes statusRule programLength kindOf kindRule nameOf chainOf fileKind descriptorRule newDescriptor withChain numbers rangeRule indexRule numbersBytes indexOf without files nameIn placesIn fileHolders holders placed sizeRule descriptorsRule heldTwice verdict lowestFree descriptorChoice dataChoice dataChoices findIn openOf changing adding newLabel formatted createStatus entered creating createOf appending appendOf dataWrites storing storeOf digits decimal unpadded kindWord kindLength diskLine fileLine fileLines listingText fileName named tests ready
+unfolding headerIn contentsIn fileIn catalogue joined labelArea oneBlock packedDescriptor packedDescriptors packedData dataSectors packedSectors packed same holds tableOf caseM over splice allAre withBit sectorOf written nameByte padded nameRule precedes labelRule mapBit count taken bitsRule mapRule byteOf bytesOf mapOf zeroBits freeCount marked markedAll blockBytes blockOf endsChain blocks blocksRule chainRule run placesFrom places extended extendedAll blocksBytes statusRule programLength kindOf kindRule nameOf chainOf fileKind descriptorRule newDescriptor withChain numbers rangeRule indexRule numbersBytes indexOf without files nameIn placesIn fileHolders holders placed sizeRule descriptorsRule heldTwice volumeTests verdict firstOf unlessMet lowestFree descriptorChoice dataChoice dataChoices findIn opening nameTests openOf changing adding newLabel formatted createStatus entered createTests creating createOf longerBlocks appendTests appendWrites appending appendOf dataWrites newSectors newBlocks storeTests storing storeOf digits decimal unpadded kindWord kindLength diskLine fileLine fileLines listingText fileName named tests ready
 all-pass = refl
 
-pub computed : Passed caseM
+pub computed : Shown caseM
 computed = passed caseM all-pass

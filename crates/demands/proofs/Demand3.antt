@@ -4,53 +4,51 @@ use mathlib.Core.Path.{_≡_, refl, sym, ap, _∙_}
 use mathlib.Core.List.{List}
 use Prim.Native.Nat.{ℕ}
 use native.Mathlib.Omega.{arith}
-use native.Mathlib.Decide.{ℕ-discrete}
 use lib.ListN.{length}
-use borrow.Author.Tests.{eq-eqb, ne-eqb}
+use borrow.Author.Tests.{not-false, eq-eqb, ne-eqb, eqb-true}
 use Rattle.rules.specs.Bytes.{wordAt}
 use Rattle.rules.specs.Sectors.{sectorCount}
 use Rattle.rules.specs.Volume.{File, catalogue}
-use Rattle.rules.specs.Verdict.{verdict}
+use Rattle.rules.specs.Tests.{firstOf, Passed}
+use Rattle.rules.specs.Verdict.{volumeTests, verdict}
 use Rattle.rules.specs.Sound.{Sound}
-use Rattle.rules.specs.Calls.Pack.{labelArea, packed, packNumber, afterPack}
-use Rattle.rules.proofs.Verdict.{sound, passes}
+use Rattle.rules.specs.Calls.Pack.{labelArea, packed, packTests, packNumber, afterPack}
+use Rattle.rules.proofs.Tests.{all-passed, none-met, passed-both, unless-passed, unless-met}
+use Rattle.rules.proofs.Verdict.{sound, passes, unsound-first, sound-first}
 use Rattle.demands.specs.Demand3.{Packable, Demand3, packs}
 use Rattle.demands.proofs.Packing.{label-byte, packedImage, same-size, same-label, same-catalogue, packed-sound}
 
 -- the number
 module _ (source target : List ℕ) where
   pub packable-number : Packable source target → packNumber source target ≡ 0
-  unfolding packNumber
-  packable-number can = rw (eq-eqb (verdict source) 0 (passes source (can .sound)), eq-eqb (length target) (length source) (can .long))
+  unfolding packTests firstOf
+  packable-number can = sound-first source _ (passes source (can .sound)) ∙ rw (eq-eqb (length target) (length source) (can .long))
 
   unsound-number : (Sound source → ⊥) → packNumber source target ≡ verdict source
-  unfolding packNumber
-  unsound-number not = rw (ne-eqb (verdict source) 0 (λ e. not (sound source e)))
+  unfolding packTests
+  unsound-number not = unsound-first source _ (λ e. not (sound source e))
 
   unmeasured-number : Sound source → (length target ≡ length source → ⊥) → packNumber source target ≡ 15
-  unfolding packNumber
-  unmeasured-number is other = rw (eq-eqb (verdict source) 0 (passes source is), ne-eqb (length target) (length source) other)
+  unfolding packTests firstOf
+  unmeasured-number is other = sound-first source _ (passes source is) ∙ rw (ne-eqb (length target) (length source) other)
 
   number-packable : packNumber source target ≡ 0 → Packable source target
+  unfolding packTests verdict Passed
   number-packable e =
-      elim (ℕ-discrete (verdict source) 0) [
-        | no not ↦ absurd (not (sym (unsound-number (λ is. not (passes source is))) ∙ e))
-        | yes judged ↦
-            let is = sound source judged in
-            elim (ℕ-discrete (length target) (length source)) [
-              | yes long ↦ record { sound = is; long = long }
-              | no other ↦ absurd (omega (arith, e, unmeasured-number is other))
-            ]
-      ]
+      let passed = passed-both (volumeTests source) _ (all-passed (packTests source target) e) in
+      record {
+        sound = sound source (none-met (volumeTests source) (passed .0));
+        long = eqb-true (length target) (length source) (not-false _ (passed .1 .0));
+      }
 
   -- the target afterwards
   after-packed : Packable source target → afterPack source target ≡ packedImage source
   unfolding afterPack
-  after-packed can = rw (eq-eqb (packNumber source target) 0 (packable-number can))
+  after-packed can = unless-passed (packTests source target) _ target (packable-number can)
 
   after-refused : (packNumber source target ≡ 0 → ⊥) → afterPack source target ≡ target
   unfolding afterPack
-  after-refused not = rw (ne-eqb (packNumber source target) 0 not)
+  after-refused not = unless-met (packTests source target) _ target not
 
 -- label area and catalogue determine the packed bytes
 sectors-labelled : (source : List ℕ) (is : Sound source) → wordAt (labelArea source) 10 ≡ sectorCount source

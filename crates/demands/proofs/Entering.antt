@@ -1,194 +1,183 @@
--- A new file entered into a sound volume, create's and store's alike: the volume is sound again, all that stood there stands, and the catalogue has that file more.
--- The sectors that it takes were free, so nothing else was in them.
-use mathlib.Core.Path.{_≡_, refl, sym, ap, _∙_}
+-- A new file entered into a sound volume, create's and store's alike: its data, its descriptor, sectors 0 and 1 are written. None goes and this one comes; the sectors that it takes were
+-- free, so nothing else was in them.
+use mathlib.Core.Path.{_≡_, refl, ap, _∙_}
 use mathlib.Core.List.{List, [], _∷_, _++_, map}
-use Prim.Native.Nat.{ℕ, _+_, _≤_, _<_}
+use Prim.Native.Nat.{ℕ, _+_, _≤_, _<_, _*_}
 use native.Mathlib.Omega.{arith}
-use native.Mathlib.Decide.{decLt}
-use lib.ListN.{length, getD}
-use Rattle.rules.specs.Bytes.{byteAt, part}
-use Rattle.rules.specs.Sectors.{sectorOf, sectorCount, written}
-use Rattle.rules.specs.Map.{count, freeCount, markedAll}
+use lib.ListN.{length, drop, replicate}
+use Rattle.rules.specs.Bytes.{part, over, splice}
+use Rattle.rules.specs.Sectors.{sectorOf, sectorCount, written, Write}
+use Rattle.rules.specs.Map.{count, markedAll}
 use Rattle.rules.specs.Chain.{placesFrom, places, extendedAll, Linked}
 use Rattle.rules.specs.Kind.{kindOf, IsStatus, IsKind}
 use Rattle.rules.specs.Descriptor.{nameOf, chainOf, IsDescriptor}
-use Rattle.rules.specs.Index.{numbers, IsIndex}
-use Rattle.rules.specs.Volume.{files, nameIn, placesIn, fileHolders, holders, headerIn, contentsIn, fileIn, placed, catalogue}
+use Rattle.rules.specs.Volume.{File, files, nameIn, placesIn, fileHolders, holders, headerIn, contentsIn, fileIn, catalogue, placed}
 use Rattle.rules.specs.Sound.{Sound}
 use Rattle.rules.specs.Calls.Create.{entered}
 use Rattle.rules.specs.Calls.Store.{dataWrites}
-use Rattle.rules.proofs.Outcome.{unfound}
-use Rattle.rules.proofs.Sectors.{sector-length}
+use Rattle.rules.specs.Index.{indexOf}
+use Rattle.rules.specs.Outcome.{write}
+use Rattle.rules.proofs.Opening.{IsAbsent, unfound}
 use Rattle.rules.proofs.Name.{name-is}
-use Rattle.rules.proofs.Map.{count-here, count-more, count-at}
-use Rattle.rules.proofs.Marking.{all-length, all-label, marked-holders, all-free}
+use Rattle.rules.proofs.Map.{count-none, count-here, count-more}
+use Rattle.rules.proofs.Marking.{all-length}
 use Rattle.rules.proofs.Extended.{chainWith, extended-all-linked, extended-all-places}
 use Rattle.rules.proofs.Choice.{Chosen}
-use Rattle.rules.proofs.Volume.{file-holders-inside}
-use Rattle.rules.proofs.Indexed.{numbers-index, index-is-index, placed-count, placed-length, placed-all, placed-ascending}
-use Rattle.rules.proofs.Kept.{holders-kept, file-kept, files-kept, holders-placed, file-holds, free-unheld}
-use Rattle.rules.proofs.Written.{Rebuilt, sound-again}
-use Rattle.rules.proofs.Changes.{IsAbsent}
+use Rattle.rules.proofs.Indexed.{placed-length, index-length}
+use Rattle.rules.proofs.Listed.{label-long, sector-inside, held-inside}
+use Rattle.rules.proofs.Replaced.{none, at, Replaced, taken-once, index-anew, taken-mapped}
+use Rattle.rules.proofs.Splice.{splice-length}
+use Rattle.rules.proofs.Written.{sector-same, Whole, Apart, written-length, written-both, written-apart, written-at}
 use Rattle.demands.specs.Catalogue.{putIn}
-use Rattle.demands.specs.Effects.{Kept, Done, newHeader, pieces}
-use Rattle.demands.proofs.Listed.{map-is}
-use Rattle.demands.proofs.Putting.{file-name, placed-files}
+use Rattle.demands.specs.Effects.{effect, Done, newHeader, pieces}
+use Rattle.demands.proofs.Replacing.{catalogue-after, replaced-done}
 use Rattle.demands.proofs.NewFile.{descriptorWith, made-length, made-header, made-name, made-places, made-rules}
-use Rattle.demands.proofs.Entered.{Entered, entered-is}
+use Rattle.demands.proofs.Pieces.{piece-length}
 
--- what is to be known of the new file: its name is not there, there is a place for it, its sectors were free, and its descriptor, in sector k, keeps the rules and names ks
-record Enters (image name : List ℕ) (k : ℕ) (ks descriptor : List ℕ) : Type 0 where
-  absent : IsAbsent image name
-  few : length (files image) < 127
-  once : (j : ℕ) → count j (k ∷ ks) ≤ 1
-  free : (j : ℕ) → 1 ≤ count j (k ∷ ks) → Chosen (sectorCount image) (sectorOf image 0) j
-  rules : IsDescriptor (sectorCount image) descriptor
-  named : nameOf descriptor ≡ name
-  places-are : places (chainOf descriptor) ≡ ks
+-- the data, to sectors of the image that are named once each
+data-whole : (size : ℕ) (bytes ks : List ℕ) → ((j : ℕ) → 1 ≤ count j ks → 256 * j + 256 ≤ size) → Whole size (dataWrites bytes ks)
+unfolding Whole dataWrites
+data-whole size bytes [] inside = tt
+data-whole size bytes (k ∷ ks) inside =
+    (piece-length bytes, inside k (omega (arith, count-here k ks)), data-whole size (drop 256 bytes) ks (λ j h. inside j (omega (arith, h, count-more j k ks))))
 
-module _ (image after name bytes : List ℕ) (k : ℕ) (ks descriptor : List ℕ) (is : Enters image name k ks descriptor)
-    (there : Entered image after name bytes k ks descriptor (markedAll 1 (sectorOf image 0) (k ∷ ks))) where
-  abbrev n : ℕ
-  n = sectorCount image
+data-apart : (bytes ks : List ℕ) (j : ℕ) → count j ks ≡ 0 → Apart j (dataWrites bytes ks)
+unfolding Apart dataWrites
+data-apart bytes [] j other = tt
+data-apart bytes (k ∷ ks) j other =
+    ((λ e. omega (arith, count-here j ks, rw (← e) at other)), data-apart (drop 256 bytes) ks j (omega (arith, other, count-more j k ks)))
 
-  abbrev old : List ℕ
-  old = files image
+-- read of an image in which they still stand
+data-read : (image after bytes ks : List ℕ) → ((j : ℕ) → count j ks ≤ 1) → ((j : ℕ) → 1 ≤ count j ks → 256 * j + 256 ≤ length image)
+    → ((j : ℕ) → 1 ≤ count j ks → sectorOf after j ≡ sectorOf (written image (dataWrites bytes ks)) j) → map (sectorOf after) ks ≡ pieces (length ks) bytes
+unfolding written dataWrites pieces
+data-read image after bytes [] once inside still = refl
+data-read image after bytes (k ∷ ks) once inside still =
+    let piece = over (replicate 256 0) bytes in
+    let laid = splice image (256 * k) piece in
+    let size = splice-length image (256 * k) piece in
+    let here = inside k (omega (arith, count-here k ks)) in
+    let later : (j : ℕ) → 1 ≤ count j ks → 256 * j + 256 ≤ length laid = λ j h. rw size (inside j (omega (arith, h, count-more j k ks))) in
+    let first =
+    still k (omega (arith, count-here k ks))
+    ∙ written-apart laid (dataWrites (drop 256 bytes) ks) k (data-whole (length laid) (drop 256 bytes) ks later) (data-apart (drop 256 bytes) ks k (omega (arith, once k, count-here k ks)))
+    ∙ sector-same image k piece (piece-length bytes) here
+    in
+    let more =
+    data-read laid after (drop 256 bytes) ks (λ j. omega (arith, once j, count-more j k ks)) later (λ j h. still j (omega (arith, h, count-more j k ks)))
+    in
+    rw (first, more)
 
-  abbrev new : List ℕ
-  new = placed image name k (files image)
+-- What is known of the new file: its name is not there, there is a place for it, its sectors were free, and its descriptor, in sector k, keeps the rules and names ks.
+module _ (image name bytes : List ℕ) (k : ℕ) (ks descriptor : List ℕ) (absent : IsAbsent image name) (few : length (files image) < 127)
+    (once : (j : ℕ) → count j (k ∷ ks) ≤ 1) (free : (j : ℕ) → 1 ≤ count j (k ∷ ks) → Chosen (sectorCount image) (sectorOf image 0) j)
+    (long : length descriptor ≡ 256) (rules : IsDescriptor (sectorCount image) descriptor) (named : nameOf descriptor ≡ name) (places-are : places (chainOf descriptor) ≡ ks) where
+  abbrev is : Sound image
+  is = absent .whole
 
-  abbrev sound-before : Sound image
-  sound-before = is .absent .whole
+  abbrev laid : List ℕ
+  laid = written image (dataWrites bytes ks)
 
-  range : (p : ℕ) → p < length old → (2 ≤ getD old p 0) × (getD old p 0 < n)
-  unfolding files
-  range = sound-before .index .range
+  abbrev first : Write
+  first = write k descriptor
 
-  chosen : Chosen n (sectorOf image 0) k
-  chosen = is .free k (omega (arith, count-here k ks))
+  abbrev second : Write
+  second = write 0 (markedAll 1 (sectorOf image 0) (k ∷ ks))
 
-  long0 : length (sectorOf image 0) ≡ 256
-  long0 = sector-length image 0 (omega (arith, sound-before .whole, sound-before .size))
+  abbrev third : Write
+  third = write 1 (indexOf (placed image name k (files image)))
 
-  -- a sector that is taken was nobody's
-  taken-once : (j : ℕ) → count j (k ∷ ks) + count j (holders image) ≤ 1
-  taken-once j =
-      elim (decLt 0 (count j (k ∷ ks))) [
-        | yes some ↦
-            let free = is .free j some in
-            omega (arith, is .once j, free-unheld image j sound-before (free .inside) (free .free))
-        | no none ↦ omega (arith, none, sound-before .single j)
-      ]
+  abbrev after : List ℕ
+  after = written laid (first ∷ (second ∷ (third ∷ [])))
 
-  -- so what a file held stands as it stood
-  held-stays : (j : ℕ) → 1 ≤ count j (fileHolders image old) → sectorOf after j ≡ sectorOf image j
+  -- the writes are to sectors of the image, the last three to different ones
+  inside : (j : ℕ) → 1 ≤ count j (k ∷ ks) → (2 ≤ j) × (256 * j + 256 ≤ length image)
+  inside j some = let c = free j some in (c .from, sector-inside image is j (c .inside))
+
+  data-inside : (j : ℕ) → 1 ≤ count j ks → (2 ≤ j) × (256 * j + 256 ≤ length image)
+  data-inside j h = inside j (omega (arith, h, count-more j k ks))
+
+  high : 2 ≤ k
+  high = inside k (omega (arith, count-here k ks)) .0
+
+  size : length laid ≡ length image
+  size = written-length image (dataWrites bytes ks)
+
+  whole : Whole (length laid) (first ∷ (second ∷ (third ∷ [])))
+  unfolding Whole
+  whole =
+      let fits = inside k (omega (arith, count-here k ks)) .1 in (
+        long,
+        omega (arith, fits, size),
+        (
+          all-length 1 (sectorOf image 0) (k ∷ ks) ∙ label-long image is,
+          omega (arith, fits, size),
+          (index-length (placed image name k (files image)), omega (arith, fits, size, high), tt),
+        ),
+      )
+
+  descriptor-now : sectorOf after k ≡ descriptor
+  unfolding Apart
+  descriptor-now = written-at laid [] first (second ∷ (third ∷ [])) whole ((λ e. omega (arith, e, high)), ((λ e. omega (arith, e, high)), tt))
+
+  map-now : sectorOf after 0 ≡ markedAll 1 (sectorOf image 0) (k ∷ ks)
+  unfolding Apart
+  map-now = written-at laid (first ∷ []) second (third ∷ []) whole ((λ e. omega (arith, e)), tt)
+
+  index-now : sectorOf after 1 ≡ indexOf (placed image name k (files image))
+  unfolding Apart
+  index-now = written-at laid (first ∷ (second ∷ [])) third [] whole tt
+
+  laid-stands : (j : ℕ) → (j ≡ k → ⊥) → 2 ≤ j → sectorOf after j ≡ sectorOf laid j
+  unfolding Apart
+  laid-stands j other two = written-apart laid (first ∷ (second ∷ (third ∷ []))) j whole (other, ((λ e. omega (arith, e, two)), ((λ e. omega (arith, e, two)), tt)))
+
+  data-now : map (sectorOf after) ks ≡ pieces (length ks) bytes
+  data-now =
+      data-read image after bytes ks (λ j. omega (arith, once j, count-more j k ks)) (λ j h. data-inside j h .1)
+      (λ j h. laid-stands j (λ e. omega (arith, once k, count-here k ks, rw e at h)) (data-inside j h .0))
+
+  -- a sector that is taken was nobody's, so what a file held stands as it stood
+  held-stays : (j : ℕ) → 1 ≤ count j (fileHolders image (files image)) → sectorOf after j ≡ sectorOf image j
   unfolding holders
   held-stays j held =
-      let inside = file-holders-inside n image old j range (sound-before .descriptors) held in
-      there .others j (inside .0) (omega (arith, inside .1, sound-before .whole))
-      (omega (arith, held, taken-once j, count-more j 0 (1 ∷ fileHolders image old), count-more j 1 (fileHolders image old)))
+      let hs = fileHolders image (files image) in
+      let other : count j (k ∷ ks) ≡ 0 = omega (arith, held, taken-once image (k ∷ ks) is once free j, count-more j 0 (1 ∷ hs), count-more j 1 hs) in
+      laid-stands j (λ e. omega (arith, count-here k ks, rw e at other)) (held-inside image is j held .0)
+      ∙ written-apart image (dataWrites bytes ks) j (data-whole (length image) bytes ks (λ i h. data-inside i h .1)) (data-apart bytes ks j (omega (arith, other, count-more j k ks)))
 
-  file-stays : (j : ℕ) → 1 ≤ count j old → sectorOf after j ≡ sectorOf image j
-  file-stays j there = held-stays j (omega (arith, file-holds image j j old there, count-here j (placesIn image j)))
-
-  place-stays : (j p : ℕ) → 1 ≤ count j old → 1 ≤ count p (placesIn image j) → sectorOf after p ≡ sectorOf image p
-  place-stays j p there held = held-stays p (omega (arith, held, file-holds image j p old there, count-more p j (placesIn image j)))
-
-  whole-file-stays : (j : ℕ) → 1 ≤ count j old → fileIn after j ≡ fileIn image j
-  whole-file-stays j there = file-kept image after j (file-stays j there) (λ p held. place-stays j p there held)
-
-  name-stays : (j : ℕ) → 1 ≤ count j old → nameIn after j ≡ nameIn image j
-  unfolding nameIn
-  name-stays j there = ap nameOf (file-stays j there)
-
-  -- the new file
-  new-name : nameIn after k ≡ name
-  unfolding nameIn
-  new-name = ap nameOf (there .descriptor-is) ∙ is .named
-
-  new-places : placesIn after k ≡ ks
+  places-now : placesIn after k ≡ ks
   unfolding placesIn
-  new-places = ap (λ (d : List ℕ). places (chainOf d)) (there .descriptor-is) ∙ is .places-are
+  places-now = ap (λ (d : List ℕ). places (chainOf d)) descriptor-now ∙ places-are
+
+  replaced : Replaced image after name none (at k)
+  unfolding nameIn
+  replaced =
+      let chosen = free k (omega (arith, count-here k ks)) in
+      record {
+        sound = is;
+        listed = tt;
+        size = written-length laid (first ∷ (second ∷ (third ∷ []))) ∙ size;
+        mapped = taken-mapped image after none (at k) (k ∷ ks) is tt once free map-now (λ j. rw places-now (omega (arith, count-none j)));
+        numbered =
+            index-anew image after name none (at k) is (λ j e. let z : k ≡ j = cc in rw (← z) (chosen .from, chosen .inside))
+            (omega (arith, few, placed-length k image name (files image))) index-now;
+        stands = held-stays;
+        new = record { rules = rw descriptor-now rules; named = ap nameOf descriptor-now ∙ named; alone = unfound image name 0 (files image) (absent .absent) };
+      }
 
   new-file : fileIn after k ≡ record { header = part descriptor 0 28; contents = pieces (length ks) bytes }
   unfolding fileIn headerIn contentsIn
-  new-file = rw (there .descriptor-is, new-places, there .data-are)
+  new-file = rw (descriptor-now, places-now, data-now)
 
-  -- the files
-  new-range : (p : ℕ) → p < length new → (2 ≤ getD new p 0) × (getD new p 0 < n)
-  new-range = placed-all (λ (j : ℕ). (2 ≤ j) × (j < n)) k image name old (chosen .from, chosen .inside) range
-
-  new-few : length new ≤ 127
-  new-few = omega (arith, is .few, placed-length k image name old)
-
-  files-are : files after ≡ new
-  unfolding files
-  files-are = ap numbers (there .index-is) ∙ numbers-index new (λ p h. omega (arith, new-range p h .0)) (omega (arith, new-few))
-
-  new-index : IsIndex n (sectorOf after 1)
-  new-index = rw (there .index-is) (index-is-index n new new-range new-few)
-
-  new-descriptors : (p : ℕ) → p < length new → IsDescriptor n (sectorOf after (getD new p 0))
-  new-descriptors =
-      placed-all (λ (j : ℕ). IsDescriptor n (sectorOf after j)) k image name old (rw (there .descriptor-is) (is .rules))
-      (λ p h. rw (file-stays (getD old p 0) (count-at old p h)) (sound-before .descriptors p h))
-
-  name-long : (p : ℕ) → p < length old → length (nameIn image (getD old p 0)) ≡ length name
-  unfolding nameIn
-  name-long p h = sound-before .descriptors p h .name .ten ∙ sym (name-is name (is .absent .rule) .ten)
-
-  -- the holders: those of before and the sectors taken
-  new-holders : (j : ℕ) → count j (0 ∷ (1 ∷ fileHolders after new)) ≡ count j (k ∷ ks) + count j (holders image)
-  unfolding count holders
-  new-holders j =
-      omega (arith, holders-placed after image name k j old, ap (λ (l : List ℕ). count j (k ∷ l)) new-places, ap (count j) (holders-kept image after old file-stays))
-
-  rebuilt : Rebuilt image after new
-  rebuilt =
-      record {
-        size = there .size;
-        label = λ i h. ap (λ (l : List ℕ). byteAt l i) (there .map-is) ∙ all-label 1 (sectorOf image 0) (k ∷ ks) i h;
-        index = new-index;
-        files-are = files-are;
-        descriptors = new-descriptors;
-        ascending = placed-ascending image after name k new-name old (sound-before .ascending) name-long (λ q h. unfound image name 0 old (is .absent .absent) (getD old q 0) (count-at old q h)) name-stays;
-        single = λ j. omega (arith, new-holders j, taken-once j);
-        map = rw (there .map-is) (marked-holders n (sectorOf image 0) (holders image) (k ∷ ks) (0 ∷ (1 ∷ fileHolders after new)) long0 (map-is image sound-before) taken-once new-holders);
-      }
-
-  all-kept : Kept image after name
-  all-kept =
-      record {
-        label = rebuilt .label;
-        listed = λ j there other. omega (arith, there, ap (count j) files-are, placed-count k j image name old, count-more j k old);
-        descriptor = λ j there other. file-stays j there;
-        contents = λ j p there other held. place-stays j p there held;
-      }
-
-  new-catalogue : catalogue after ≡ putIn (record { header = part descriptor 0 28; contents = pieces (length ks) bytes }) (catalogue image)
-  unfolding catalogue
-  new-catalogue =
-      ap (map (fileIn after)) files-are
-      ∙ placed-files image after name k (file-name after k ∙ new-name) old (λ j there. file-name after j ∙ name-stays j there)
-      ∙ rw (new-file, files-kept image after old whole-file-stays)
-
-  new-free : freeCount (sectorOf after 0) + (1 + length ks) ≡ freeCount (sectorOf image 0) + 0
-  new-free =
-      omega (
-        arith,
-        ap freeCount (there .map-is),
-        all-free 1 0 (omega arith) (sectorOf image 0) (k ∷ ks) long0 (is .once) (λ j some. (is .free j some .low, is .free j some .free)),
-      )
-
-  entering : Done image after name (putIn (record { header = part descriptor 0 28; contents = pieces (length ks) bytes }) (catalogue image)) (1 + length ks) 0
+  entering : Done image (written image (dataWrites bytes ks ++ entered image name k descriptor (markedAll 1 (sectorOf image 0) (k ∷ ks)))) name
+      (effect (putIn (record { header = part descriptor 0 28; contents = pieces (length ks) bytes }) (catalogue image)) (1 + length ks) 0)
+  unfolding entered
   entering =
-      record {
-        sound = sound-again image after new sound-before rebuilt;
-        size = there .size;
-        kept = all-kept;
-        catalogue-is = new-catalogue;
-        free = new-free;
-      }
+      rw (← written-both image (dataWrites bytes ks) (first ∷ (second ∷ (third ∷ []))))
+      (replaced-done replaced name tt _ (1 + length ks) 0
+      (catalogue-after replaced name tt ∙ ap (λ (file : File). putIn file (catalogue image)) new-file)
+      (rw places-now (omega arith)))
 
 -- with the descriptor of a new file, its blocks those of ks
 module _ (image name bytes : List ℕ) (k : ℕ) (ks : List ℕ) (status recordsPerSector endOffset recordLength : ℕ) (absent : IsAbsent image name) (few : length (files image) < 127)
@@ -214,30 +203,17 @@ module _ (image name bytes : List ℕ) (k : ℕ) (ks : List ℕ) (status records
   unfolding Linked placesFrom
   ks-places = extended-all-places (sectorCount image) ks data-range 0 [] refl
 
-  enters : Enters image name k ks made
-  enters =
-      let small : sectorCount image ≤ 4096 = omega (arith, absent .whole .size) in
-      record {
-        absent = absent;
-        few = few;
-        once = once;
-        free = free;
-        rules = made-rules name status recordsPerSector endOffset recordLength ten (length ks) (extendedAll [] ks) (sectorCount image) small many short ks-linked (absent .rule) is-status kind;
-        named = made-name name status recordsPerSector endOffset recordLength ten (length ks) (extendedAll [] ks);
-        places-are = made-places name status recordsPerSector endOffset recordLength ten (length ks) (extendedAll [] ks) (sectorCount image) small many short ks-linked ∙ ks-places;
-      }
-
-  entered-there : Entered image (written image (dataWrites bytes ks ++ entered image name k made (markedAll 1 (sectorOf image 0) (k ∷ ks)))) name bytes k ks made (markedAll 1 (sectorOf image 0) (k ∷ ks))
-  entered-there =
-      let whole = absent .whole in
-      entered-is image name bytes k ks made (markedAll 1 (sectorOf image 0) (k ∷ ks)) once
-      (λ j some. let c = free j some in (c .from, omega (arith, c .inside, whole .whole)))
-      (made-length name status recordsPerSector endOffset recordLength ten (length ks) (extendedAll [] ks))
-      (all-length 1 (sectorOf image 0) (k ∷ ks) ∙ sector-length image 0 (omega (arith, whole .whole, whole .size)))
-
   pub new-file-done : (descriptor : List ℕ) → descriptor ≡ header ++ chainWith (extendedAll [] ks)
       → Done image (written image (dataWrites bytes ks ++ entered image name k descriptor (markedAll 1 (sectorOf image 0) (k ∷ ks)))) name
-      (putIn (record { header = header; contents = pieces (length ks) bytes }) (catalogue image)) (1 + length ks) 0
+      (effect (putIn (record { header = header; contents = pieces (length ks) bytes }) (catalogue image)) (1 + length ks) 0)
   new-file-done descriptor e =
-      let done = entering image _ name bytes k ks made enters entered-there in
-      rw e (rw (made-header name status recordsPerSector endOffset recordLength ten (length ks) (extendedAll [] ks)) at done)
+      let c = length ks in
+      let bs = extendedAll [] ks in
+      let small : sectorCount image ≤ 4096 = omega (arith, absent .whole .size) in
+      let done =
+      entering image name bytes k ks made absent few once free (made-length name status recordsPerSector endOffset recordLength ten c bs)
+      (made-rules name status recordsPerSector endOffset recordLength ten c bs (sectorCount image) small many short ks-linked (absent .rule) is-status kind)
+      (made-name name status recordsPerSector endOffset recordLength ten c bs)
+      (made-places name status recordsPerSector endOffset recordLength ten c bs (sectorCount image) small many short ks-linked ∙ ks-places)
+      in
+      rw e (rw (made-header name status recordsPerSector endOffset recordLength ten c bs) at done)

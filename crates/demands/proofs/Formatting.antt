@@ -1,13 +1,12 @@
 -- A formatted volume is sound and its catalogue is empty: sector 0 is the new label and the map of sectors 0 and 1, sector 1 is zeros, so there are no files and no other holders.
 use mathlib.Core.Path.{_≡_, refl, ap, _∙_}
-use mathlib.Core.Bool.{Bool, true, false, cond, _&&_}
+use mathlib.Core.Bool.{true}
 use mathlib.Core.List.{List, [], _∷_, _++_, append-assoc}
 use Prim.Native.Nat.{ℕ, _+_, _≤_, _<_}
 use native.Mathlib.Omega.{arith}
-use lib.Dec.{eqb}
 use lib.ListN.{take}
 use lib.Seq.{take-at, drop-at, take-all, getD-append-add}
-use borrow.Author.Tests.{eqb-true}
+use borrow.Author.Tests.{not-false, eqb-true}
 use Rattle.rules.specs.Bytes.{byteAt, wordAt}
 use Rattle.rules.specs.Sectors.{sectorCount}
 use Rattle.rules.specs.Name.{nameRule, IsName}
@@ -17,7 +16,9 @@ use Rattle.rules.specs.Index.{numbers}
 use Rattle.rules.specs.Volume.{files, fileHolders, holders, catalogue}
 use Rattle.rules.specs.Verdict.{sizeRule}
 use Rattle.rules.specs.Sound.{Sound}
-use Rattle.rules.specs.Calls.Format.{Geometry, newLabel, formatted, formatNumber, afterFormat}
+use Rattle.rules.specs.Calls.Format.{Geometry, newLabel, formatted, formatTests, formatNumber, afterFormat}
+use Rattle.rules.specs.Tests.{Passed}
+use Rattle.rules.proofs.Tests.{all-passed, unless-passed}
 use Rattle.rules.proofs.Name.{name-is}
 use Rattle.rules.proofs.Map.{taken-below, taken-past, map-of-bits}
 use Rattle.rules.proofs.Verdict.{size-is, passes}
@@ -84,17 +85,17 @@ pub formatting : Formatting
 unfolding Formatting
 formatting n name g large small rule = empty-volume n name g large small (name-is name rule)
 
--- the choices of the call's number, where it is 0
-pub passed : (sized asked ruled : Bool) → _≡_ {A = ℕ} (cond (sized && asked) (cond ruled 0 7) 1) 0 → (sized ≡ true) × (asked ≡ true) × (ruled ≡ true)
-passed true true true e = (refl, refl, refl)
-passed true true false e = absurd (omega arith)
-passed true false ruled e = absurd (omega arith)
-passed false asked ruled e = absurd (omega arith)
+-- number 0: the tests that were passed
+pub format-passed : (image : List ℕ) (n : ℕ) (name : List ℕ) → formatNumber image n name ≡ 0 → (3 ≤ n) × (n ≤ 1600) × (nameRule name ≡ true)
+unfolding formatTests Passed
+format-passed image n name e =
+    let passed = all-passed (formatTests image n name) e in
+    let size = size-is image (not-false (sizeRule image) (passed .0)) in
+    let asked = eqb-true n (sectorCount image) (not-false _ (passed .1 .0)) in
+    (omega arith, omega arith, not-false (nameRule name) (passed .1 .1 .0))
 
 pub format-call : FormatCall
-unfolding Formatting FormatCall formatNumber afterFormat
+unfolding Formatting FormatCall afterFormat
 format-call image n name g e =
-    let all = passed (sizeRule image) (eqb n (sectorCount image)) (nameRule name) e in
-    let size = size-is image (all .0) in
-    let asked = eqb-true n (sectorCount image) (all .1) in
-    rw e (formatting n name g (omega arith) (omega arith) (all .2))
+    let passed = format-passed image n name e in
+    rw (unless-passed (formatTests image n name) (formatted n name g) image e) (formatting n name g (passed .0) (passed .1) (passed .2))

@@ -3,24 +3,19 @@ mod Computed
 pub mod Bench
 pub mod Formatting
 pub mod Reading
-mod Listed
-mod TakingOut
-mod Putting
-mod TwoWrites
-mod Changing
+mod Filed
+mod Replacing
 pub mod Protects
-pub mod Unprotects
 pub mod Overwrites
 pub mod Appends
 mod NewFile
-mod Entered
+mod Pieces
 mod Entering
 pub mod Creates
-mod Pieces
 pub mod Stores
 pub mod Deletes
 pub mod Renames
-mod Described
+mod Deciding
 mod Faults
 mod Opening
 pub mod Progress

@@ -1,45 +1,32 @@
 -- Overwrite: the sector written is a place of the file and stands there once, so the descriptor and the other contents stay.
-use mathlib.Core.Path.{_≡_, refl, sym, ap, _∙_}
-use mathlib.Core.Bool.{Bool, true, false, cond}
+use mathlib.Core.Path.{_≡_, sym, ap, _∙_}
 use mathlib.Core.List.{List, [], _∷_, map}
 use Prim.Native.Nat.{ℕ, _*_, _≤_, _<_}
 use native.Mathlib.Omega.{arith}
-use lib.Dec.{eqb, ltb}
 use lib.ListN.{length, getD, set}
-use borrow.Author.Tests.{eqb-true, ltb-true}
+use borrow.Author.Tests.{not-false, eqb-true, leb-false}
 use Rattle.rules.specs.Bytes.{splice}
-use Rattle.rules.specs.Sectors.{Write, sectorOf, sectorCount, written}
+use Rattle.rules.specs.Sectors.{sectorOf, sectorCount, written}
 use Rattle.rules.specs.Map.{count}
-use Rattle.rules.specs.Kind.{isProgram, isProtected}
-use Rattle.rules.specs.Descriptor.{nameOf, statusOf, sectorsOf}
-use Rattle.rules.specs.Volume.{nameIn, placesIn, headerIn, contentsIn, fileIn, catalogue}
-use Rattle.rules.specs.Outcome.{write, done, refusal}
-use Rattle.rules.specs.Calls.Overwrite.{overwriting, overwriteOf}
-use Rattle.rules.proofs.Map.{count-here, count-more, count-at}
+use Rattle.rules.specs.Descriptor.{nameOf, sectorsOf}
+use Rattle.rules.specs.Volume.{files, nameIn, placesIn, headerIn, contentsIn, fileIn, catalogue}
+use Rattle.rules.specs.Outcome.{write}
+use Rattle.rules.specs.Tests.{Passed}
+use Rattle.rules.specs.Opening.{openOf}
+use Rattle.rules.specs.Calls.Overwrite.{overwriteTests, overwriting, overwriteOf}
+use Rattle.rules.proofs.Map.{count-more, count-at}
 use Rattle.rules.proofs.Volume.{places-count}
-use Rattle.rules.proofs.Outcome.{IsOpened, opened-is}
-use Rattle.rules.proofs.Changes.{changed-done}
-use Rattle.rules.proofs.Kept.{places-kept}
+use Rattle.rules.proofs.Tests.{all-passed, unless-passed}
+use Rattle.rules.proofs.Opening.{IsOpened, opened-is, open-refused, changed-done}
+use Rattle.rules.proofs.Kept.{places-kept, map-changed}
+use Rattle.rules.proofs.Written.{sector-other}
+use Rattle.rules.proofs.Listed.{opened-listed}
+use Rattle.rules.proofs.Altered.{own-once, place-other, own-here, own-altered}
 use Rattle.demands.specs.Catalogue.{changed}
-use Rattle.demands.specs.Effects.{Done, overwritten, Overwrites}
-use Rattle.demands.proofs.Changing.{map-changed, altered-done, own-once, own-inside, own-here, own-other, own-altered}
-
--- the tests, where the number is 0
-passed : (t u v w : Bool) (writes : List Write) → cond t (refusal 10) (cond u (refusal 14) (cond v (cond w (done writes) (refusal 15)) (refusal 15))) .number ≡ 0
-    → (v ≡ true) × (w ≡ true) × (cond t (refusal 10) (cond u (refusal 14) (cond v (cond w (done writes) (refusal 15)) (refusal 15))) ≡ done writes)
-passed true u v w writes e = absurd (omega arith)
-passed false true v w writes e = absurd (omega arith)
-passed false false true true writes e = (refl, refl, refl)
-passed false false true false writes e = absurd (omega arith)
-passed false false false w writes e = absurd (omega arith)
-
-over-facts : (image bytes : List ℕ) (offset k : ℕ) → overwriting image offset bytes k .number ≡ 0
-    → (offset < sectorsOf (sectorOf image k)) × (length bytes ≡ 256) × (overwriting image offset bytes k ≡ done (write (getD (placesIn image k) offset 0) bytes ∷ []))
-unfolding overwriting
-over-facts image bytes offset k e =
-    let d = sectorOf image k in
-    let all = passed (isProtected (statusOf d)) (isProgram (statusOf d)) (ltb offset (sectorsOf d)) (eqb (length bytes) 256) (write (getD (placesIn image k) offset 0) bytes ∷ []) e in
-    (ltb-true offset (sectorsOf d) (all .0), eqb-true (length bytes) 256 (all .1), all .2)
+use Rattle.demands.specs.Call.{overwrite}
+use Rattle.demands.specs.Ours.{outcome}
+use Rattle.demands.specs.Effects.{effect, Done, overwritten, Does}
+use Rattle.demands.proofs.Replacing.{altered-done}
 
 -- the call on the file at sector k
 module _ (image name : List ℕ) (p k : ℕ) (o : IsOpened image name p k) (offset : ℕ) (bytes : List ℕ) (inside : offset < sectorsOf (sectorOf image k)) (long : length bytes ≡ 256) where
@@ -48,6 +35,9 @@ module _ (image name : List ℕ) (p k : ℕ) (o : IsOpened image name p k) (offs
 
   abbrev after : List ℕ
   after = splice image (256 * getD (placesIn image k) offset 0) bytes
+
+  abbrev there : 1 ≤ count k (files image)
+  there = opened-listed image name p k o
 
   offset-low : offset < length (placesIn image k)
   offset-low = omega (arith, inside, places-count (sectorCount image) image k (o .descriptor))
@@ -59,36 +49,34 @@ module _ (image name : List ℕ) (p k : ℕ) (o : IsOpened image name p k) (offs
   own = omega (arith, placed-there, count-more at k (placesIn image k))
 
   descriptor-kept : sectorOf after k ≡ sectorOf image k
-  descriptor-kept =
-      own-other image name p k o at bytes long own k (o .low)
-      (λ e. omega (arith, own-once image name p k o at, placed-there, ap (λ (j : ℕ). count at (j ∷ placesIn image k)) e, count-here at (placesIn image k)))
+  descriptor-kept = sector-other image at bytes long k (λ e. place-other image k (o .whole) there at placed-there (sym e))
 
   contents-now : contentsIn after k ≡ set (contentsIn image k) offset bytes
   unfolding contentsIn
   contents-now =
       ap (map (sectorOf after)) (places-kept image after k descriptor-kept)
       ∙ map-changed (sectorOf image) (sectorOf after) (placesIn image k) offset offset-low
-      (omega (arith, own-once image name p k o at, count-more at k (placesIn image k)))
-      (λ j some other. own-other image name p k o at bytes long own j (own-inside image name p k o j (omega (arith, some, count-more j k (placesIn image k))) .1) other)
-      ∙ ap (set (map (sectorOf image) (placesIn image k)) offset) (own-here image name p k o at bytes long own)
+      (omega (arith, own-once image k (o .whole) there at, count-more at k (placesIn image k))) (λ j some other. sector-other image at bytes long j other)
+      ∙ ap (set (map (sectorOf image) (placesIn image k)) offset) (own-here image k (o .whole) there at bytes long own)
 
   file-now : overwritten offset bytes (fileIn image k) ≡ fileIn after k
   unfolding overwritten fileIn headerIn
   file-now = rw (contents-now, descriptor-kept)
 
-  name-now : nameIn after k ≡ name
+  overwritten-done : Done image after name (effect (changed name (overwritten offset bytes) (catalogue image)) 0 0)
   unfolding nameIn
-  name-now = ap nameOf descriptor-kept ∙ sym (o .named)
-
-  overwritten-done : Done image after name (changed name (overwritten offset bytes) (catalogue image)) 0 0
   overwritten-done =
-      altered-done image after name p k []
-      (own-altered image name p k o at bytes long own (rw descriptor-kept (o .descriptor)) name-now (places-kept image after k descriptor-kept))
-      (overwritten offset bytes) file-now
+      altered-done
+      (own-altered image k (o .whole) there at bytes long own (rw descriptor-kept (o .descriptor)) (ap nameOf descriptor-kept) (places-kept image after k descriptor-kept))
+      name (o .named) (overwritten offset bytes) file-now
 
-pub overwrites : Overwrites
-unfolding Overwrites overwriteOf written
-overwrites image name offset bytes e =
-    let c = changed-done image name (overwriting image offset bytes) e in
-    let all = over-facts image bytes offset (c .sector) (c .number) in
-    rw (c .is, all .2) (overwritten-done image name (c .place) (c .sector) (opened-is image name (c .place) (c .sector) (c .opened)) offset bytes (all .0) (all .1))
+pub overwrites : (offset : ℕ) (bytes : List ℕ) → Does (overwrite offset bytes)
+unfolding outcome overwriteOf overwriting overwriteTests Passed written
+overwrites offset bytes image name e =
+    let c = changed-done (openOf image name) (overwriting image offset bytes) (open-refused image name) e in
+    let k = c .sector in
+    let tests = overwriteTests image offset bytes k in
+    let passed = all-passed tests (c .number) in
+    rw (c .is, unless-passed tests (write (getD (placesIn image k) offset 0) bytes ∷ []) [] (c .number))
+    (overwritten-done image name (c .place) k (opened-is image name (c .place) k (c .found-at)) offset bytes (leb-false (sectorsOf (sectorOf image k)) offset (passed .1 .1 .0))
+    (eqb-true (length bytes) 256 (not-false _ (passed .1 .1 .1 .0))))

@@ -17,7 +17,7 @@ use Rattle.rules.specs.Sound.{Sound}
 use Rattle.rules.specs.Calls.Pack.{labelArea, packedDescriptors, packedData, dataSectors, packedSectors, packed}
 use Rattle.rules.proofs.Bytes.{part-at}
 use Rattle.rules.proofs.Sectors.{sector-length}
-use Rattle.rules.proofs.Map.{count-none, count-here, count-other, count-append, map-of-bits}
+use Rattle.rules.proofs.Map.{taken-same, count-none, count-here, count-other, count-append, map-of-bits}
 use Rattle.rules.proofs.Chain.{run-length, run-at, run-holds}
 use Rattle.rules.proofs.Volume.{places-count}
 use Rattle.rules.proofs.Formatted.{map-length}
@@ -27,8 +27,7 @@ use Rattle.rules.proofs.Packing.{descriptors-length, data-length, file-whole, l
 use Rattle.demands.specs.Catalogue.{fileName}
 use Rattle.demands.specs.Reading.{noFile}
 use Rattle.demands.proofs.Reading.{get-mapped}
-use Rattle.demands.proofs.Putting.{file-name}
-use Rattle.demands.proofs.Renames.{taken-same}
+use Rattle.demands.proofs.Filed.{file-name}
 use Rattle.demands.proofs.Packed.{count-runs, sector-behind, IsListed, Each, each-whole, Laid, laid, laid-files, laid-descriptor, laid-holders}
 
 -- A file of a sound volume, as its catalogue lists it.

@@ -14,12 +14,16 @@ use Rattle.rules.specs.Volume.{File, catalogue}
 use Rattle.rules.specs.Sound.{Sound}
 use Rattle.rules.specs.Outcome.{gives}
 use Rattle.rules.specs.Calls.Load.{joined, loadOf}
-use Rattle.rules.proofs.Splice.{splice-front}
+use Rattle.rules.proofs.Splice.{splice-length, splice-front}
 use Rattle.demands.specs.Catalogue.{fileName, putIn}
 use Rattle.demands.specs.Reading.{noFile, fileOf, nameIs, lengthIs, Loads, Reading}
 use Rattle.demands.specs.Effects.{pieces}
 use Rattle.demands.proofs.Reading.{reading-holds}
-use Rattle.demands.proofs.Entered.{piece-length}
+
+-- a sector of the data
+pub piece-length : (bytes : List ℕ) → length (over (replicate 256 0) bytes) ≡ 256
+unfolding splice
+piece-length bytes = splice-length (replicate 256 0) 0 bytes ∙ length-replicate {A = ℕ} 256 0
 
 pub pieces-length : (many : ℕ) (bytes : List ℕ) → length (pieces many bytes) ≡ many
 unfolding pieces

@@ -1,28 +1,27 @@
--- Protect: the descriptor with its 08 bit changed keeps its rules, since the other bits of the status, the name and the chain stay. The law is over the bit,
--- and serves unprotect too.
-use mathlib.Core.Path.{_≡_, refl, sym, ap, _∙_}
-use mathlib.Core.List.{List, [], _∷_, map}
+-- Protect and unprotect, one law over the bit: the descriptor with its 08 bit changed keeps its rules, since the other bits of the status, the name and the chain stay.
+use mathlib.Core.Path.{_≡_, refl, sym, _∙_}
+use mathlib.Core.List.{List}
 use Prim.Native.Nat.{ℕ, _+_, _-_, _*_, _≤_}
 use native.Mathlib.Omega.{arith}
-use lib.ListN.{length, set, take, length-set}
-use lib.Seq.{getD-set-same, getD-set-other, take-set-le, take-set-lt, drop-set-lt, getD-take}
+use lib.ListN.{length, set, length-set}
+use lib.Seq.{getD-set-same, getD-set-other, take-set-lt, getD-take}
 use Rattle.rules.specs.Bytes.{byteAt, bitOf, withBit, splice}
 use Rattle.rules.specs.Sectors.{sectorOf, sectorCount, written}
-use Rattle.rules.specs.Map.{count}
-use Rattle.rules.specs.Chain.{places}
-use Rattle.rules.specs.Kind.{kindOf, IsStatus}
-use Rattle.rules.specs.Descriptor.{nameOf, statusOf, sectorsOf, chainOf, fileKind, IsDescriptor}
-use Rattle.rules.specs.Volume.{nameIn, placesIn, headerIn, contentsIn, fileIn, catalogue}
-use Rattle.rules.specs.Outcome.{openOf, changing}
-use Rattle.rules.specs.Calls.Protect.{protecting, protectOf}
-use Rattle.rules.proofs.Map.{count-here, count-more}
+use Rattle.rules.specs.Kind.{IsStatus}
+use Rattle.rules.specs.Descriptor.{nameOf, statusOf, chainOf, IsDescriptor}
+use Rattle.rules.specs.Volume.{nameIn, headerIn, fileIn, catalogue}
+use Rattle.rules.specs.Opening.{openOf}
+use Rattle.rules.specs.Calls.Protect.{settingBit, setBitOf}
+use Rattle.rules.proofs.Descriptor.{name-same, chain-same, front-changed}
 use Rattle.rules.proofs.Marking.{with-bit-same, with-bit-other}
-use Rattle.rules.proofs.Outcome.{IsOpened, opened-is}
-use Rattle.rules.proofs.Changes.{changed-done}
-use Rattle.rules.proofs.Kept.{map-agree}
+use Rattle.rules.proofs.Opening.{IsOpened, opened-is, open-refused, changed-done}
+use Rattle.rules.proofs.Listed.{opened-listed}
+use Rattle.rules.proofs.Altered.{redescribed, redescribed-file}
 use Rattle.demands.specs.Catalogue.{changed}
-use Rattle.demands.specs.Effects.{Done, left, withProtection, Protects}
-use Rattle.demands.proofs.Changing.{altered-done, own-once, own-inside, own-here, own-other, own-altered}
+use Rattle.demands.specs.Call.{protect, unprotect}
+use Rattle.demands.specs.Ours.{outcome}
+use Rattle.demands.specs.Effects.{effect, Done, withProtection, Does}
+use Rattle.demands.proofs.Replacing.{altered-done}
 
 -- a status with that bit changed
 module _ (bit : ℕ) (small : bit ≤ 1) where
@@ -52,98 +51,52 @@ module _ (bit : ℕ) (small : bit ≤ 1) where
     status-now : statusOf changed-descriptor ≡ withBit (statusOf d) 3 bit
     status-now = getD-set-same d 12 (withBit (statusOf d) 3 bit) 0 (omega arith)
 
+    same-long : length changed-descriptor ≡ length d
+    same-long = length-set d 12 (withBit (statusOf d) 3 bit)
+
     name-kept : nameOf changed-descriptor ≡ nameOf d
-    unfolding nameOf
-    name-kept = take-set-le 10 d 12 (withBit (statusOf d) 3 bit) (omega arith)
+    name-kept = name-same d changed-descriptor same-long (λ i low. byte-kept i (λ e. omega arith))
 
     chain-kept : chainOf changed-descriptor ≡ chainOf d
-    unfolding chainOf
-    chain-kept = ap (take 228) (drop-set-lt 28 d 12 (withBit (statusOf d) 3 bit) (omega arith))
-
-    sectors-kept : sectorsOf changed-descriptor ≡ sectorsOf d
-    sectors-kept = rw (byte-kept 14 (λ e. omega arith), byte-kept 15 (λ e. omega arith))
-
-    kind-kept : fileKind changed-descriptor ≡ fileKind d
-    unfolding fileKind kindOf
-    kind-kept =
-        rw (
-          sectors-kept,
-          status-now,
-          byte-kept 16 (λ e. omega arith),
-          byte-kept 17 (λ e. omega arith),
-          with-bit-other (statusOf d) 3 bit small 0 (λ e. omega arith),
-          with-bit-other (statusOf d) 3 bit small 1 (λ e. omega arith),
-          with-bit-other (statusOf d) 3 bit small 7 (λ e. omega arith),
-        )
+    chain-kept = chain-same d changed-descriptor same-long (λ i low. byte-kept i (λ e. omega arith))
 
     rules-kept : (n : ℕ) → IsDescriptor n d → IsDescriptor n changed-descriptor
     rules-kept n is =
-        record {
-          name = rw name-kept (is .name);
-          status = rw status-now (status-kept (statusOf d) (is .status));
-          kind = rw (kind-kept, sectors-kept) (is .kind);
-          chain = rw (chain-kept, sectors-kept) (is .chain);
-        }
+        front-changed d changed-descriptor same-long n (λ i low. byte-kept i (λ e. omega arith))
+        (λ j other. rw status-now (with-bit-other (statusOf d) 3 bit small j other)) (rw name-kept (is .name)) (rw status-now (status-kept (statusOf d) (is .status))) is
 
   -- the call on the file at sector k
   module _ (image name : List ℕ) (p k : ℕ) (o : IsOpened image name p k) where
+    abbrev d : List ℕ
+    d = sectorOf image k
+
     abbrev new : List ℕ
-    new = changed-descriptor (sectorOf image k) (o .long)
+    new = changed-descriptor d (o .long)
 
-    abbrev after : List ℕ
-    after = splice image (256 * k) new
-
-    new-long : length new ≡ 256
-    new-long = length-set (sectorOf image k) 12 (withBit (statusOf (sectorOf image k)) 3 bit) ∙ o .long
-
-    own : 1 ≤ count k (k ∷ placesIn image k)
-    own = omega (arith, count-here k (placesIn image k))
-
-    descriptor-now : sectorOf after k ≡ new
-    descriptor-now = own-here image name p k o k new new-long own
-
-    name-now : nameIn after k ≡ name
-    unfolding nameIn
-    name-now = ap nameOf descriptor-now ∙ name-kept (sectorOf image k) (o .long) ∙ sym (o .named)
-
-    places-now : placesIn after k ≡ placesIn image k
-    unfolding placesIn
-    places-now = ap (λ (d : List ℕ). places (chainOf d)) descriptor-now ∙ ap places (chain-kept (sectorOf image k) (o .long))
-
-    header-now : headerIn after k ≡ set (headerIn image k) 12 (withBit (byteAt (headerIn image k) 12) 3 bit)
-    unfolding headerIn
-    header-now =
-        ap (take 28) descriptor-now
-        ∙ rw (getD-take 28 (sectorOf image k) 12 0 (omega arith)) (take-set-lt 28 (sectorOf image k) 12 (withBit (statusOf (sectorOf image k)) 3 bit) (omega arith))
-
-    -- the descriptor is none of its places
-    contents-now : contentsIn after k ≡ contentsIn image k
-    unfolding contentsIn
-    contents-now =
-        ap (map (sectorOf after)) places-now
-        ∙ map-agree (sectorOf after) (sectorOf image) (placesIn image k)
-        (λ j h.
-        let inside = own-inside image name p k o j (omega (arith, h, count-more j k (placesIn image k))) in
-        own-other image name p k o k new new-long own j (inside .1)
-        (λ e. omega (arith, rw e at h, own-once image name p k o k, count-here k (placesIn image k))))
-
-    file-now : withProtection bit (fileIn image k) ≡ fileIn after k
-    unfolding withProtection fileIn
-    file-now = rw (header-now, contents-now)
-
-    protected-done : Done image after name (changed name (withProtection bit) (catalogue image)) 0 0
+    protected-done : Done image (splice image (256 * k) new) name (effect (changed name (withProtection bit) (catalogue image)) 0 0)
+    unfolding nameIn withProtection fileIn headerIn
     protected-done =
-        altered-done image after name p k []
-        (own-altered image name p k o k new new-long own (rw descriptor-now (rules-kept (sectorOf image k) (o .long) (sectorCount image) (o .descriptor))) name-now places-now)
-        (withProtection bit) file-now
+        let there = opened-listed image name p k o in
+        let long = same-long d (o .long) ∙ o .long in
+        let rules = rules-kept d (o .long) (sectorCount image) (o .descriptor) in
+        let named = name-kept d (o .long) in
+        let chain = chain-kept d (o .long) in
+        let status = getD-take 28 d 12 0 (omega arith) in
+        let header = take-set-lt 28 d 12 (withBit (statusOf d) 3 bit) (omega arith) in
+        altered-done (redescribed image k (o .whole) there new long rules named chain) name (o .named) (withProtection bit)
+        (sym (redescribed-file image k (o .whole) there new long rules named chain ∙ rw (status, header)))
 
-  pub protection-done : (image name : List ℕ) → changing (openOf image name) (protecting bit image) .number ≡ 0
-      → Done image (left image (changing (openOf image name) (protecting bit image))) name (changed name (withProtection bit) (catalogue image)) 0 0
-  unfolding protecting written
+  protection-done : (image name : List ℕ) → setBitOf 3 bit image name .number ≡ 0
+      → Done image (written image (setBitOf 3 bit image name .writes)) name (effect (changed name (withProtection bit) (catalogue image)) 0 0)
+  unfolding setBitOf settingBit written
   protection-done image name e =
-      let c = changed-done image name (protecting bit image) e in
-      rw (c .is) (protected-done image name (c .place) (c .sector) (opened-is image name (c .place) (c .sector) (c .opened)))
+      let c = changed-done (openOf image name) (settingBit 3 bit image) (open-refused image name) e in
+      rw (c .is) (protected-done image name (c .place) (c .sector) (opened-is image name (c .place) (c .sector) (c .found-at)))
 
-pub protects : Protects
-unfolding Protects protectOf
+pub protects : Does protect
+unfolding outcome
 protects image name e = protection-done 1 (omega arith) image name e
+
+pub unprotects : Does unprotect
+unfolding outcome
+unprotects image name e = protection-done 0 (omega arith) image name e

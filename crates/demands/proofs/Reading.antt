@@ -7,8 +7,8 @@ use native.Mathlib.Omega.{arith}
 use native.Mathlib.Decide.{decLt}
 use lib.ListN.{length, getD, length-map}
 use lib.Seq.{take-take}
-use lib.Dec.{leb}
-use borrow.Author.Tests.{lt-ltb, le-ltb, le-leb}
+use lib.Dec.{leb, ltb}
+use borrow.Author.Tests.{lt-leb, le-ltb, le-leb}
 use Rattle.rules.specs.Bytes.{same, byteAt, part}
 use Rattle.rules.specs.Sectors.{sectorOf, sectorCount}
 use Rattle.rules.specs.Name.{nameRule}
@@ -16,15 +16,19 @@ use Rattle.rules.specs.Kind.{isProgram, programLength}
 use Rattle.rules.specs.Descriptor.{nameOf, statusOf, sectorsOf, IsDescriptor}
 use Rattle.rules.specs.Volume.{files, nameIn, placesIn, headerIn, contentsIn, fileIn, catalogue}
 use Rattle.rules.specs.Sound.{Sound, fileAt}
-use Rattle.rules.specs.Outcome.{gives, refuses, judged, findIn, openOf, onFile}
-use Rattle.rules.specs.Calls.Catalogue.{entryOf}
-use Rattle.rules.specs.Calls.Read.{reading, readOf}
-use Rattle.rules.specs.Calls.Load.{lengthIn, programIn, loading, loadOf}
+use Rattle.rules.specs.Tests.{firstOf}
+use Rattle.rules.specs.Outcome.{gives}
+use Rattle.rules.specs.Opening.{findIn, nameTests, openOf, onFile}
+use Rattle.rules.specs.Calls.Entry.{entryTests, entryOf}
+use Rattle.rules.specs.Calls.Read.{readTests, reading, readOf}
+use Rattle.rules.specs.Calls.Load.{lengthIn, programIn, loadTests, loading, loadOf}
 use Rattle.rules.specs.declared.Opened.the-variants.{At}
-use Rattle.rules.proofs.Bytes.{same-is, is-same, part-at}
+use Rattle.rules.proofs.Bytes.{is-same, not-same, part-at}
 use Rattle.rules.proofs.Name.{is-name, before-irrefl}
 use Rattle.rules.proofs.Volume.{places-count}
-use Rattle.rules.proofs.Verdict.{passes}
+use Rattle.rules.proofs.Verdict.{passes, sound-first}
+use Rattle.rules.proofs.Outcome.{reported-given}
+use Rattle.rules.proofs.Opening.{opening-passed}
 use Rattle.rules.proofs.Free.{free-holders}
 use Rattle.demands.specs.Reading.{noFile, fileOf, Entries, Reads, Loads, Free, Reading}
 
@@ -33,13 +37,6 @@ pub get-mapped : {A B : Type 0} (f : A → B) (l : List A) (p : ℕ) (d : A) (e 
 get-mapped f [] p d e h = absurd (omega arith)
 get-mapped f (x ∷ l) zero d e h = refl
 get-mapped f (x ∷ l) (suc p) d e h = get-mapped f l p d e (omega arith)
-
-pub not-same : (first second : List ℕ) → (first ≡ second → ⊥) → same first second ≡ false
-not-same first second other = go (same first second) refl
-  where
-    go : (t : Bool) → same first second ≡ t → t ≡ false
-    go true e = absurd (other (same-is first second e))
-    go false e = refl
 
 -- the search ends at the first of that name
 find-at : (image name : List ℕ) (start : ℕ) (ks : List ℕ) (q : ℕ) → q < length ks → ((j : ℕ) → j < q → same name (nameIn image (getD ks j 0)) ≡ false)
@@ -80,6 +77,10 @@ module _ (image : List ℕ) (is : Sound image) where
   unfolding catalogue
   place-of p h = rw (length-map (files image) (fileIn image)) at h
 
+  past-of : (p : ℕ) → length (catalogue image) ≤ p → length (files image) ≤ p
+  unfolding catalogue
+  past-of p h = rw (length-map (files image) (fileIn image)) at h
+
   pub file-of : (p : ℕ) → p < length (files image) → fileOf image p ≡ fileIn image (fileAt image p)
   unfolding catalogue
   file-of p h = get-mapped (fileIn image) (files image) p 0 noFile h
@@ -90,14 +91,13 @@ module _ (image : List ℕ) (is : Sound image) where
   named p h = is-name _ (is .descriptors p h .name)
 
   opened-at : (p : ℕ) → p < length (files image) → openOf image (nameIn image (fileAt image p)) ≡ At p (fileAt image p)
-  unfolding openOf
+  unfolding openOf nameTests firstOf
   opened-at p h =
+      let name = nameIn image (fileAt image p) in
       let e : 0 + p ≡ p = omega arith in
-      rw (passes image is, named p h)
-      (rw e at
-      (find-at image (nameIn image (fileAt image p)) 0 (files image) p h
-      (λ j l. not-same _ _ (λ equal. before-irrefl _ (rw equal at (is .ascending j p l h))))
-      (is-same (nameIn image (fileAt image p)))))
+      opening-passed (nameTests image name) image name (sound-first image _ (passes image is) ∙ rw (named p h))
+      ∙ rw e at
+      (find-at image name 0 (files image) p h (λ j l. not-same _ _ (λ equal. before-irrefl _ (rw equal at (is .ascending j p l h)))) (is-same name))
 
   module _ (p : ℕ) (h : p < length (files image)) where
     name-in : part (headerIn image (fileAt image p)) 0 10 ≡ nameIn image (fileAt image p)
@@ -106,46 +106,44 @@ module _ (image : List ℕ) (is : Sound image) where
 
     read-in : (offset room : ℕ) → offset < length (contentsIn image (fileAt image p)) → 256 ≤ room
         → readOf image (nameIn image (fileAt image p)) offset room ≡ gives 0 (getD (contentsIn image (fileAt image p)) offset [])
-    unfolding readOf onFile reading
+    unfolding readOf onFile reading readTests firstOf
     read-in offset room inside large =
-        let low : offset < sectorsOf (sectorOf image (fileAt image p)) = omega (arith, sectors-in image (fileAt image p) (is .descriptors p h), inside) in
-        rw (opened-at p h, lt-ltb offset (sectorsOf (sectorOf image (fileAt image p))) low, le-leb 256 room large)
-        (ap (gives 0) (sym (content-at image (fileAt image p) (is .descriptors p h) offset low)))
+        let k = fileAt image p in
+        let low : offset < sectorsOf (sectorOf image k) = omega (arith, sectors-in image k (is .descriptors p h), inside) in
+        rw (opened-at p h)
+        (reported-given (readTests image offset room k) 0 _ (rw (lt-leb (sectorsOf (sectorOf image k)) offset low, le-ltb room 256 large))
+        ∙ ap (gives 0) (sym (content-at image k (is .descriptors p h) offset low)))
 
     load-in : (room : ℕ) → isProgram (statusOf (sectorOf image (fileAt image p))) ≡ true → lengthIn image (fileAt image p) ≤ room
         → loadOf image (nameIn image (fileAt image p)) room ≡ gives (lengthIn image (fileAt image p)) (programIn image (fileAt image p))
-    unfolding loadOf onFile loading
-    load-in room program large = rw (opened-at p h, program, le-leb (lengthIn image (fileAt image p)) room large)
+    unfolding loadOf onFile loading loadTests firstOf
+    load-in room program large =
+        let k = fileAt image p in
+        rw (opened-at p h) (reported-given (loadTests image room k) (lengthIn image k) _ (rw (program, le-ltb room (lengthIn image k) large)))
 
-  -- the entry inside the catalogue, and past its end
-  entry-inside : (p room : ℕ) → p < length (files image) → entryOf image p room ≡ cond (leb 28 room) (gives 0 (headerIn image (fileAt image p))) (refuses 15)
-  unfolding entryOf judged
-  entry-inside p room h = rw (passes image is, lt-ltb p (length (files image)) h)
-
-  entry-past : (p room : ℕ) → length (catalogue image) ≤ p → entryOf image p room .number ≡ 8
-  unfolding entryOf judged catalogue
-  entry-past p room h = rw (passes image is, le-ltb p (length (files image)) (rw (length-map (files image) (fileIn image)) at h))
-
-  entry-not-8 : (p room : ℕ) → p < length (files image) → entryOf image p room .number ≡ 8 → ⊥
-  entry-not-8 p room h e = go (leb 28 room) (rw (entry-inside p room h) at e)
-    where
-      go : (t : Bool) → cond t (gives 0 (headerIn image (fileAt image p))) (refuses 15) .number ≡ 8 → ⊥
-      go true e = omega (arith, e)
-      go false e = omega (arith, e)
+  -- the number of an entry: 8 past the end of the catalogue, and then 15
+  entry-number : (p room : ℕ) → entryOf image p room .number ≡ cond (leb (length (files image)) p) 8 (cond (ltb room 28) 15 0)
+  unfolding entryOf entryTests firstOf
+  entry-number p room = sound-first image _ (passes image is)
 
   entries : Entries image
-  unfolding fileIn
+  unfolding fileIn entryOf
   entries =
       record {
         given = λ p room h large.
             let inside = place-of p h in
-            entry-inside p room inside ∙ rw (le-leb 28 room large, file-of p inside);
-        ended = entry-past;
+            let none : entryOf image p room .number ≡ 0 = entry-number p room ∙ rw (lt-leb (length (files image)) p inside, le-ltb room 28 large) in
+            reported-given (entryTests image p room) 0 _ none ∙ rw (file-of p inside);
+        ended = λ p room h. entry-number p room ∙ rw (le-leb (length (files image)) p (past-of p h));
         only = λ p room e. elim (decLt p (length (catalogue image))) [
-          | yes h ↦ absurd (entry-not-8 p room (place-of p h) e)
+          | yes h ↦ absurd (not-8 (ltb room 28) (sym (entry-number p room ∙ rw (lt-leb (length (files image)) p (place-of p h))) ∙ e))
           | no h ↦ omega arith
         ];
       }
+    where
+      not-8 : (t : Bool) → _≡_ {A = ℕ} (cond t 15 0) 8 → ⊥
+      not-8 true e = omega (arith, e)
+      not-8 false e = omega (arith, e)
 
   reads : Reads image
   unfolding Reads fileIn

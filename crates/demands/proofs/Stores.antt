@@ -1,94 +1,37 @@
 -- Store, where its number is 0: a new program was entered, with a free sector for each 256 of its bytes and for the rest; and a load of it gives those bytes.
-use mathlib.Core.Path.{_≡_, refl, sym, ap, _∙_}
-use mathlib.Core.Bool.{Bool, true, false, cond}
+use mathlib.Core.Path.{_≡_, refl}
 use mathlib.Core.List.{List, [], _∷_, _++_}
 use Prim.Native.Nat.{ℕ, _+_, _%_, _≤_, _<_}
 use native.Mathlib.Omega.{arith}
-use native.Mathlib.Decide.{decLt, ℕ-discrete}
-use lib.Dec.{leb, ltb}
 use lib.ListN.{length}
-use borrow.Author.Tests.{ltb-true, leb-true}
+use borrow.Author.Tests.{ltb-false, leb-false}
 use Rattle.rules.specs.Sectors.{Write, sectorOf, sectorCount, written}
 use Rattle.rules.specs.Kind.{kindOf, programLength, IsStatus, IsKind}
-use Rattle.rules.specs.Map.{mapBit, count, freeCount, marked, markedAll}
+use Rattle.rules.specs.Map.{count, freeCount, marked, markedAll}
 use Rattle.rules.specs.Chain.{extendedAll}
 use Rattle.rules.specs.Descriptor.{newDescriptor, withChain}
 use Rattle.rules.specs.Volume.{File, files, catalogue}
 use Rattle.rules.specs.Sound.{Sound}
 use Rattle.rules.specs.Choice.{descriptorChoice, dataChoices}
-use Rattle.rules.specs.Outcome.{done, refusal, gives}
+use Rattle.rules.specs.Outcome.{gives}
+use Rattle.rules.specs.Tests.{Passed}
+use Rattle.rules.specs.Opening.{openOf}
 use Rattle.rules.specs.Calls.Create.{entered}
 use Rattle.rules.specs.Calls.Load.{loadOf}
-use Rattle.rules.specs.Calls.Store.{sectorsFor, dataWrites, storing, storeOf}
-use Rattle.rules.proofs.Sectors.{sector-length}
+use Rattle.rules.specs.Calls.Store.{sectorsFor, dataWrites, newSectors, newBlocks, storeTests, storing, storeOf}
 use Rattle.rules.proofs.Name.{name-is}
-use Rattle.rules.proofs.Map.{count-here, count-other}
-use Rattle.rules.proofs.Marking.{marked-length, marked-here, marked-other, marked-free}
-use Rattle.rules.proofs.Choice.{Fenced, Chosen, sound-fenced, descriptor-choice-free, choices-length, choices-free, choices-once, fenced-marked}
-use Rattle.rules.proofs.Changes.{IsAbsent, added-done}
+use Rattle.rules.proofs.Choice.{Chosen, sound-fenced, choices-length, new-free, new-once}
+use Rattle.rules.proofs.Listed.{label-long}
+use Rattle.rules.proofs.Tests.{all-passed, unless-passed}
+use Rattle.rules.proofs.Opening.{IsAbsent, absent-is, open-refused, added-done}
 use Rattle.demands.specs.Catalogue.{putIn}
+use Rattle.demands.specs.Call.{store}
+use Rattle.demands.specs.Ours.{outcome}
 use Rattle.demands.specs.Reading.{lengthIs}
-use Rattle.demands.specs.Effects.{Done, newHeader, pieces, Stores}
+use Rattle.demands.specs.Effects.{effect, Done, newHeader, pieces, newProgram, Does, StoredLoads}
 use Rattle.demands.proofs.NewFile.{header-name, header-status, header-end, with-chain-made}
 use Rattle.demands.proofs.Entering.{new-file-done}
 use Rattle.demands.proofs.Pieces.{pieces-length, joined-pieces, put-loads}
-
--- A descriptor's sector k chosen by the map, and `many` for data by the map with k marked: all were free, and each is chosen once.
-module _ (n : ℕ) (sector0 : List ℕ) (many : ℕ) (long : length sector0 ≡ 256) (fence : Fenced n sector0) (room : 1 + many ≤ freeCount sector0) where
-  abbrev first : ℕ
-  first = descriptorChoice sector0
-
-  abbrev later : List ℕ
-  later = dataChoices many (marked 1 sector0 first)
-
-  first-free : Chosen n sector0 first
-  first-free = descriptor-choice-free n sector0 fence (omega (arith, room))
-
-  still-fenced : Fenced n (marked 1 sector0 first)
-  still-fenced = fenced-marked n sector0 first long fence
-
-  long-marked : length (marked 1 sector0 first) ≡ 256
-  long-marked = marked-length 1 sector0 first ∙ long
-
-  room-left : many ≤ freeCount (marked 1 sector0 first)
-  room-left = omega (arith, room, marked-free 1 (omega arith) sector0 first (first-free .low) long, first-free .free)
-
-  later-free : (j : ℕ) → 1 ≤ count j later → Chosen n (marked 1 sector0 first) j
-  later-free = choices-free n many (marked 1 sector0 first) long-marked still-fenced room-left
-
-  later-other : (j : ℕ) → 1 ≤ count j later → first ≡ j → ⊥
-  later-other j some e =
-      omega (arith, later-free j some .free, ap (mapBit (marked 1 sector0 first)) e, marked-here 1 (omega arith) sector0 first (first-free .low) long)
-
-  both-free : (j : ℕ) → 1 ≤ count j (first ∷ later) → Chosen n sector0 j
-  both-free j some =
-      elim (ℕ-discrete first j) [
-        | yes same ↦ rw (← same) first-free
-        | no other ↦
-            let c = later-free j (omega (arith, some, count-other j first later other)) in
-            record { free = sym (marked-other 1 (omega arith) sector0 first j (λ e. other (sym e))) ∙ c .free; from = c .from; inside = c .inside; low = c .low }
-      ]
-
-  both-once : (j : ℕ) → count j (first ∷ later) ≤ 1
-  both-once j =
-      let at-most = choices-once n many (marked 1 sector0 first) long-marked still-fenced room-left j in
-      elim (ℕ-discrete first j) [
-        | yes same ↦
-            elim (decLt 0 (count j later)) [
-              | yes some ↦ absurd (later-other j some same)
-              | no none ↦ omega (arith, none, ap (λ (i : ℕ). count j (i ∷ later)) same, count-here j later)
-            ]
-        | no other ↦ omega (arith, at-most, count-other j first later other)
-      ]
-
--- the tests that were passed
-passed : (a b c d : Bool) (writes : List Write) → cond a (cond b (cond c (cond d (done writes) (refusal 13)) (refusal 12)) (refusal 11)) (refusal 15) .number ≡ 0
-    → (a ≡ true) × (b ≡ true) × (c ≡ true) × (d ≡ true)
-passed true true true true writes e = (refl, refl, refl, refl)
-passed true true true false writes e = absurd (omega (arith, e))
-passed true true false d writes e = absurd (omega (arith, e))
-passed true false c d writes e = absurd (omega (arith, e))
-passed false b c d writes e = absurd (omega (arith, e))
 
 program-status : IsStatus 0x01
 program-status = record { others = refl; excludes = λ e. (refl, refl) }
@@ -103,7 +46,7 @@ program-done : (image name bytes : List ℕ) (k : ℕ) (ks : List ℕ) (c : ℕ)
     → let endOffset = length bytes % 256 in
     let descriptor = withChain (newDescriptor name 0x01 0 endOffset 0) c (extendedAll [] ks) in
     Done image (written image (dataWrites bytes ks ++ entered image name k descriptor (markedAll 1 (sectorOf image 0) (k ∷ ks)))) name
-    (putIn (record { header = newHeader name 0x01 0 c endOffset 0; contents = pieces c bytes }) (catalogue image)) (1 + c) 0
+    (effect (putIn (record { header = newHeader name 0x01 0 c endOffset 0; contents = pieces c bytes }) (catalogue image)) (1 + c) 0)
 program-done image name bytes k ks c many some small absent few once free short =
     let endOffset = length bytes % 256 in
     let made = with-chain-made name 0x01 0 endOffset 0 (name-is name (absent .rule) .ten) c (extendedAll [] ks) in
@@ -124,6 +67,7 @@ program-loads image name bytes c others is ten many put =
     let load = put-loads image file others is put (rw status) in
     rw (header-name name 0x01 0 endOffset 0 ten c, long, joined-pieces c bytes (omega (arith, many))) at load
 
+-- what is stored, with the sectors chosen for it
 module _ (image name bytes : List ℕ) where
   abbrev sector0 : List ℕ
   sector0 = sectorOf image 0
@@ -140,38 +84,27 @@ module _ (image name bytes : List ℕ) where
   abbrev writes : List Write
   writes = dataWrites bytes ks ++ entered image name k (withChain (newDescriptor name 0x01 0 (length bytes % 256) 0) c (extendedAll [] ks)) (markedAll 1 sector0 (k ∷ ks))
 
-  all-passed : storing image name bytes .number ≡ 0
-      → (leb (length bytes) 32768 ≡ true) × (ltb (length (files image)) 127 ≡ true) × (leb (1 + c) (freeCount sector0) ≡ true) × (leb (length (extendedAll [] ks)) 76 ≡ true)
-  unfolding storing
-  all-passed e =
-      passed (leb (length bytes) 32768) (ltb (length (files image)) 127) (leb (1 + c) (freeCount sector0)) (leb (length (extendedAll [] ks)) 76) writes e
+  stored-done : IsAbsent image name → Passed (storeTests image bytes)
+      → Done image (written image writes) name (effect (putIn (newProgram name bytes) (catalogue image)) (1 + c) 0)
+  unfolding storeTests newBlocks newSectors Passed
+  stored-done absent passed =
+      let fence = sound-fenced image (absent .whole) in
+      let free = ltb-false (freeCount sector0) (1 + c) (passed .1 .1 .0) in
+      program-done image name bytes k ks c (choices-length c (marked 1 sector0 k)) (omega arith) (omega (arith, ltb-false 32768 (length bytes) (passed .0))) absent
+      (leb-false 127 (length (files image)) (passed .1 .0)) (new-once (sectorCount image) sector0 c (label-long image (absent .whole)) fence free) (new-free (sectorCount image) sector0 c (label-long image (absent .whole)) fence free)
+      (ltb-false 76 (length (extendedAll [] ks)) (passed .1 .1 .1 .0))
 
-  module _ (absent : IsAbsent image name) (few : leb (length bytes) 32768 ≡ true) (place : ltb (length (files image)) 127 ≡ true) (room : leb (1 + c) (freeCount sector0) ≡ true)
-      (short : leb (length (extendedAll [] ks)) 76 ≡ true) where
-    stored : storing image name bytes ≡ done writes
-    unfolding storing
-    stored = rw (few, place, room, short)
+pub stores : (bytes : List ℕ) → Does (store bytes)
+unfolding outcome storeOf storing newBlocks newSectors
+stores bytes image name e =
+    let added = added-done (openOf image name) (storing image name bytes) (open-refused image name) e in
+    let tests = storeTests image bytes in
+    rw (added .is, unless-passed tests (writes image name bytes) [] (added .number)) (stored-done image name bytes (absent-is image name (added .absent)) (all-passed tests (added .number)))
 
-    long0 : length sector0 ≡ 256
-    long0 = sector-length image 0 (omega (arith, absent .whole .whole, absent .whole .size))
-
-    stored-done : Done image (written image writes) name (putIn (record { header = newHeader name 0x01 0 c (length bytes % 256) 0; contents = pieces c bytes }) (catalogue image)) (1 + c) 0
-    stored-done =
-        let fence = sound-fenced image (absent .whole) in
-        let free = leb-true (1 + c) (freeCount sector0) room in
-        program-done image name bytes k ks c (choices-length c (marked 1 sector0 k)) (omega arith) (omega (arith, leb-true (length bytes) 32768 few)) absent
-        (ltb-true (length (files image)) 127 place) (both-once (sectorCount image) sector0 c long0 fence free) (both-free (sectorCount image) sector0 c long0 fence free)
-        (leb-true (length (extendedAll [] ks)) 76 short)
-
-    stored-loads : loadOf (written image writes) name (length bytes) ≡ gives (length bytes) bytes
-    stored-loads = program-loads (written image writes) name bytes c (catalogue image) (stored-done .sound) (name-is name (absent .rule) .ten) refl (stored-done .catalogue-is)
-
-pub stores : Stores
-unfolding Stores storeOf
-stores image name bytes e =
-    let added = added-done image name (storing image name bytes) e in
-    let tests = all-passed image name bytes (added .number) in
-    rw (added .is, stored image name bytes (added .absent) (tests .0) (tests .1) (tests .2) (tests .3)) (
-      stored-done image name bytes (added .absent) (tests .0) (tests .1) (tests .2) (tests .3),
-      stored-loads image name bytes (added .absent) (tests .0) (tests .1) (tests .2) (tests .3),
-    )
+pub stored-loads : StoredLoads
+unfolding outcome storeOf
+stored-loads image name bytes e =
+    let added = added-done (openOf image name) (storing image name bytes) (open-refused image name) e in
+    let done = stores bytes image name e in
+    let rule = absent-is image name (added .absent) .rule in
+    program-loads _ name bytes (sectorsFor (length bytes)) (catalogue image) (done .sound) (name-is name rule .ten) refl (done .catalogue-is)

@@ -1,15 +1,59 @@
--- Two results of a call that keep its promise are equal, since a result is its answer, its buffer and its image.
+-- What an answer says is said by one answer only; so a call that keeps its promise does what our version does, and two that keep it are equal.
 use mathlib.Core.Path.{_≡_, sym, _∙_}
-use mathlib.Core.List.{List}
+use mathlib.Core.List.{List, []}
 use Prim.Native.Nat.{ℕ}
-use Rattle.demands.specs.Call.{Call, Given, Result}
-use Rattle.demands.specs.Unique.{Unique}
+use Rattle.rules.specs.Verdict.{volumeTests, verdict}
+use Rattle.rules.specs.Outcome.{Report, answerOf}
+use Rattle.rules.specs.Calls.Summary.{freeCountOf, summaryOf, SummarySays, summaryAnswer}
+use Rattle.rules.specs.Calls.Entry.{EntrySays}
+use Rattle.rules.specs.declared.Answer.{Answer}
+use Rattle.rules.specs.declared.Entry.{Entry}
+use Rattle.rules.specs.declared.Row.{Row}
+use Rattle.rules.specs.declared.Summary.{Summary}
+use Rattle.rules.specs.declared.Summary.the-variants as summary
+use Rattle.rules.proofs.Tests.{unless-passed, unless-met}
+use Rattle.rules.proofs.Splice.{splice-none}
+use Rattle.rules.proofs.Outcome.{says-answer, says-amount}
+use Rattle.demands.specs.Call as call
+use Rattle.demands.specs.Call.{Form, Given, Look, Result}
+use Rattle.demands.specs.Ours.{seen, ours}
+use Rattle.demands.specs.Unique.{LookPromised, Promised, IsOurs, Unique}
 
-same-result : (c : Call) (answer answer′ : Given c) (buffer buffer′ image image′ : List ℕ) → answer ≡ answer′ → buffer ≡ buffer′ → image ≡ image′
-    → _≡_ {A = Result c} (record { answer = answer; buffer = buffer; image = image }) (record { answer = answer′; buffer = buffer′; image = image′ })
-same-result c answer answer′ buffer buffer′ image image′ a b i = rw (a, b, i)
+says-summary : (image : List ℕ) (given : Summary) → SummarySays image given (summaryOf image) → given ≡ summaryAnswer image
+unfolding SummarySays summaryOf summaryAnswer verdict
+says-summary image (summary.Given sectors listed free) said = rw (said .1, said .2, said .3) (sym (unless-passed (volumeTests image) _ _ (said .0)))
+says-summary image (summary.Refused refused) said = rw (said .0) (sym (unless-met (volumeTests image) _ _ (said .1)))
+
+same-entry : (entry : Entry) (row : Row) (report : Report) → EntrySays row entry report → entry ≡ record { answer = answerOf (report .number); row = row }
+same-entry entry row report said = go (entry .answer) (entry .row) (says-answer (entry .answer) (report .number) (said .said)) (said .row-is)
+  where
+    go : (answer : Answer) (is : Row) → answer ≡ answerOf (report .number) → is ≡ row → _≡_ {A = Entry} (record { answer = answer; row = is }) (record { answer = answerOf (report .number); row = row })
+    go answer is e f = rw (e, f)
+
+same-result : (form : Form) (answer answer′ : Given form) (buffer buffer′ image image′ : List ℕ) → answer ≡ answer′ → buffer ≡ buffer′ → image ≡ image′
+    → _≡_ {A = Result form} (record { answer = answer; buffer = buffer; image = image }) (record { answer = answer′; buffer = buffer′; image = image′ })
+same-result form answer answer′ buffer buffer′ image image′ a b i = rw (a, b, i)
+
+look-ours : {form : Form} (look : Look form) (buffer image : List ℕ) (given : Given form) (after : List ℕ) → LookPromised look buffer image given after
+    → (given ≡ seen look buffer image .answer) × (after ≡ seen look buffer image .buffer)
+unfolding LookPromised seen
+look-ours call.judge buffer image given after p = (p .0, p .1 ∙ sym (splice-none buffer 0))
+look-ours call.freeCount buffer image given after p = (says-amount given (freeCountOf image) (p .0), p .1 ∙ sym (splice-none buffer 0))
+look-ours call.summarize buffer image given after p = (says-summary image given (p .said), p .left)
+look-ours (call.entry place) buffer image given after p = (same-entry given _ _ (p .said), p .left)
+look-ours (call.read name offset) buffer image given after p = (says-answer given _ (p .said), p .left)
+look-ours (call.load name) buffer image given after p = (says-amount given _ (p .said), p .left)
+look-ours call.list buffer image given after p = (says-amount given _ (p .said), p .left)
+look-ours call.pack buffer image given after p = (says-answer given _ (p .0), p .1)
+
+pub is-ours : IsOurs
+unfolding IsOurs Promised ours
+is-ours (call.look {form} look buffer) image r p =
+    let seen-so = look-ours look buffer image (r .answer) (r .buffer) (p .0) in
+    same-result form (r .answer) _ (r .buffer) _ (r .image) image (seen-so .0) (seen-so .1) (p .1)
+is-ours (call.change name change) image r p = same-result call.answer (r .answer) _ (r .buffer) [] (r .image) _ (says-answer (r .answer) _ (p .0 .said)) (p .1) (p .0 .left)
+is-ours (call.format n name geometry) image r p = same-result call.answer (r .answer) _ (r .buffer) [] (r .image) _ (says-answer (r .answer) _ (p .0)) (p .2) (p .1)
 
 pub unique : Unique
-unfolding Unique
-unique c image r r′ p p′ =
-    same-result c (r .answer) (r′ .answer) (r .buffer) (r′ .buffer) (r .image) (r′ .image) (p .answer ∙ sym (p′ .answer)) (p .buffer ∙ sym (p′ .buffer)) (p .image-is ∙ sym (p′ .image-is))
+unfolding Unique IsOurs
+unique c image r r′ p p′ = is-ours c image r p ∙ sym (is-ours c image r′ p′)

@@ -16,12 +16,13 @@ use Rattle.rules.specs.Kind.{statusRule, kindOf, kindRule}
 use Rattle.rules.specs.Descriptor.{nameOf, chainOf, fileKind, descriptorRule, newDescriptor}
 use Rattle.rules.specs.Index.{numbers, rangeRule, indexRule, numbersBytes, indexOf, without}
 use Rattle.rules.specs.Volume.{files, nameIn, placesIn, fileHolders, holders, placed, catalogue}
-use Rattle.rules.specs.Verdict.{sizeRule, descriptorsRule, heldTwice, verdict}
+use Rattle.rules.specs.Verdict.{sizeRule, descriptorsRule, heldTwice, volumeTests, verdict}
 use Rattle.rules.specs.Choice.{lowestFree, descriptorChoice}
-use Rattle.rules.specs.Outcome.{findIn, openOf, changing, adding}
+use Rattle.rules.specs.Tests.{firstOf, unlessMet}
+use Rattle.rules.specs.Opening.{findIn, opening, nameTests, openOf, changing, adding}
 use Rattle.rules.specs.Calls.Format.{newLabel, formatted}
-use Rattle.rules.specs.Calls.Create.{createStatus, entered, creating, createOf}
-use Rattle.rules.specs.Calls.Delete.{deleting, deleteOf}
+use Rattle.rules.specs.Calls.Create.{createStatus, entered, createTests, creating, createOf}
+use Rattle.rules.specs.Calls.Delete.{deleteTests, deleting, deleteOf}
 use Rattle.rules.specs.Calls.Pack.{labelArea, dataSectors, packedSectors, packed, packNumber}
 use Rattle.rules.proofs.Bytes.{same-is}
 use Rattle.rules.proofs.Formatted.{formatted-length}
@@ -57,7 +58,7 @@ record Volumes : Type 0 where
   names : (byteAt (labelArea empty) 0 ≡ 0x58) × (byteAt (labelArea renamed) 0 ≡ 0x53)
 
 volumes : Volumes
-unfolding empty renamed created cleared over splice allAre same withBit sectorOf written nameByte padded nameRule precedes labelRule mapBit count taken bitsRule mapRule byteOf bytesOf mapOf zeroBits freeCount marked markedAll endsChain blocks blocksRule chainRule run placesFrom places statusRule kindOf kindRule nameOf chainOf fileKind descriptorRule newDescriptor numbers rangeRule indexRule numbersBytes indexOf without files nameIn placesIn fileHolders holders placed catalogue sizeRule descriptorsRule heldTwice verdict lowestFree descriptorChoice findIn openOf changing adding newLabel formatted createStatus entered creating createOf deleting deleteOf labelArea dataSectors packedSectors packed withRemains
+unfolding empty renamed created cleared over splice allAre same withBit sectorOf written nameByte padded nameRule precedes labelRule mapBit count taken bitsRule mapRule byteOf bytesOf mapOf zeroBits freeCount marked markedAll endsChain blocks blocksRule chainRule run placesFrom places statusRule kindOf kindRule nameOf chainOf fileKind descriptorRule newDescriptor numbers rangeRule indexRule numbersBytes indexOf without files nameIn placesIn fileHolders holders placed catalogue sizeRule descriptorsRule heldTwice volumeTests verdict firstOf unlessMet lowestFree descriptorChoice findIn opening nameTests openOf changing adding newLabel formatted createStatus entered createTests creating createOf deleteTests deleting deleteOf labelArea dataSectors packedSectors packed withRemains
 volumes =
     record {
       empty-judged = refl;

@@ -1,4 +1,4 @@
--- What a call that was done leaves: a sound volume, the label and all other files as they stood, the catalogue with just the change asked for, and the free count
+-- What a change that was done leaves: a sound volume, the label and all other files as they stood, the catalogue with just the change asked for, and the free count
 -- less what was taken and more what was given back.
 use mathlib.Core.Path.{_≡_}
 use mathlib.Core.List.{List, [], _∷_, _++_}
@@ -9,16 +9,13 @@ use Rattle.rules.specs.Sectors.{sectorOf, written}
 use Rattle.rules.specs.Map.{count, freeCount}
 use Rattle.rules.specs.Volume.{File, files, nameIn, placesIn, catalogue}
 use Rattle.rules.specs.Sound.{Sound}
-use Rattle.rules.specs.Outcome.{Outcome, gives}
-use Rattle.rules.specs.Calls.Create.{createOf}
-use Rattle.rules.specs.Calls.Append.{appendOf}
-use Rattle.rules.specs.Calls.Overwrite.{overwriteOf}
-use Rattle.rules.specs.Calls.Protect.{protectOf, unprotectOf}
+use Rattle.rules.specs.Outcome.{gives}
 use Rattle.rules.specs.Calls.Store.{sectorsFor, storeOf}
-use Rattle.rules.specs.Calls.Delete.{deleteOf}
-use Rattle.rules.specs.Calls.Rename.{renameOf}
 use Rattle.rules.specs.Calls.Load.{loadOf}
 use Rattle.demands.specs.Catalogue.{putIn, takenOut, changed, named, held}
+use Rattle.demands.specs.Call as call
+use Rattle.demands.specs.Call.{Change}
+use Rattle.demands.specs.Ours.{outcome}
 
 -- bytes 0 to 55 of sector 0, and every file of another name: it is there, its descriptor and the sectors of its data as they stood
 pub record Kept (image after name : List ℕ) : Type 0 where
@@ -27,111 +24,76 @@ pub record Kept (image after name : List ℕ) : Type 0 where
   pub descriptor : (k : ℕ) → 1 ≤ count k (files image) → (nameIn image k ≡ name → ⊥) → sectorOf after k ≡ sectorOf image k
   pub contents : (k p : ℕ) → 1 ≤ count k (files image) → (nameIn image k ≡ name → ⊥) → 1 ≤ count p (placesIn image k) → sectorOf after p ≡ sectorOf image p
 
--- of a call on the file of that name
-pub record Done (image after name : List ℕ) (expected : List File) (took gave : ℕ) : Type 0 where
+-- what a change asks for: the catalogue afterwards, how many sectors are taken, how many are given back
+pub record Effect : Type 0 where
+  pub expected : List File
+  pub took : ℕ
+  pub gave : ℕ
+
+abbrev pub effect : (expected : List File) (took gave : ℕ) → Effect
+effect expected took gave = record { expected = expected; took = took; gave = gave }
+
+-- what a change of the file of that name leaves where it was done
+pub record Done (image after name : List ℕ) (effect : Effect) : Type 0 where
   pub sound : Sound after
   pub size : length after ≡ length image
   pub kept : Kept image after name
-  pub catalogue-is : catalogue after ≡ expected
-  pub free : freeCount (sectorOf after 0) + took ≡ freeCount (sectorOf image 0) + gave
-
--- the image after a call
-abbrev pub left : List ℕ → Outcome → List ℕ
-left image outcome = written image (outcome .writes)
+  pub catalogue-is : catalogue after ≡ effect .expected
+  pub free : freeCount (sectorOf after 0) + effect .took ≡ freeCount (sectorOf image 0) + effect .gave
 
 -- the 28 header bytes of a new file
 unfoldable pub newHeader : List ℕ → ℕ → ℕ → ℕ → ℕ → ℕ → List ℕ
 newHeader name status recordsPerSector c endOffset recordLength =
     name ++ (0 ∷ (0 ∷ (status ∷ (recordsPerSector ∷ ((c / 256) ∷ ((c % 256) ∷ (endOffset ∷ (recordLength ∷ replicate 10 0))))))))
 
--- create adds an empty file with that header
-abbrev pub Created : List ℕ → List ℕ → List ℕ → ℕ → ℕ → ℕ → Type 0
-Created image after name status recordLength recordsPerSector =
-    Done image after name (putIn (record { header = newHeader name status recordsPerSector 0 0 recordLength; contents = [] }) (catalogue image)) 1 0
-
-unfoldable pub Creates : Type 0
-Creates = (image name : List ℕ) (status recordLength recordsPerSector : ℕ) →
-    let outcome = createOf image name status recordLength recordsPerSector in
-    outcome .number ≡ 0 → Created image (left image outcome) name status recordLength recordsPerSector
-
 -- `many` sectors of these bytes, and zeros where there are no more
 unfoldable pub pieces : ℕ → List ℕ → List (List ℕ)
 pieces zero bytes = []
 pieces (suc many) bytes = over (replicate 256 0) bytes ∷ pieces many (drop 256 bytes)
 
--- store adds the program whose load is the bytes lent
-abbrev pub Stored : List ℕ → List ℕ → List ℕ → List ℕ → Type 0
-Stored image after name bytes =
+abbrev pub newProgram : List ℕ → List ℕ → File
+newProgram name bytes =
     let c = sectorsFor (length bytes) in
-    Done image after name (putIn (record { header = newHeader name 0x01 0 c (length bytes % 256) 0; contents = pieces c bytes }) (catalogue image)) (1 + c) 0
-    × (loadOf after name (length bytes) ≡ gives (length bytes) bytes)
+    record { header = newHeader name 0x01 0 c (length bytes % 256) 0; contents = pieces c bytes }
 
-unfoldable pub Stores : Type 0
-Stores = (image name bytes : List ℕ) →
-    let outcome = storeOf image name bytes in
-    outcome .number ≡ 0 → Stored image (left image outcome) name bytes
-
--- append adds that sector at the end of that file
+-- a file with a sector more at its end
 unfoldable pub longer : List ℕ → File → File
 longer bytes file = record { header = splice (file .header) 14 (wordBytes (length (file .contents) + 1)); contents = file .contents ++ (bytes ∷ []) }
 
-abbrev pub Appended : List ℕ → List ℕ → List ℕ → List ℕ → Type 0
-Appended image after name bytes = Done image after name (changed name (longer bytes) (catalogue image)) 1 0
-
-unfoldable pub Appends : Type 0
-Appends = (image name bytes : List ℕ) →
-    let outcome = appendOf image name bytes in
-    outcome .number ≡ 0 → Appended image (left image outcome) name bytes
-
--- overwrite changes that sector of that file
+-- with other bytes in a sector
 unfoldable pub overwritten : ℕ → List ℕ → File → File
 overwritten offset bytes file = record { header = file .header; contents = set (file .contents) offset bytes }
 
-abbrev pub Overwritten : List ℕ → List ℕ → List ℕ → ℕ → List ℕ → Type 0
-Overwritten image after name offset bytes = Done image after name (changed name (overwritten offset bytes) (catalogue image)) 0 0
-
-unfoldable pub Overwrites : Type 0
-Overwrites = (image name : List ℕ) (offset : ℕ) (bytes : List ℕ) →
-    let outcome = overwriteOf image name offset bytes in
-    outcome .number ≡ 0 → Overwritten image (left image outcome) name offset bytes
-
--- protect and unprotect change that bit
+-- with its protection made `bit`
 unfoldable pub withProtection : ℕ → File → File
 withProtection bit file = record { header = set (file .header) 12 (withBit (byteAt (file .header) 12) 3 bit); contents = file .contents }
 
-abbrev pub Protected : List ℕ → List ℕ → List ℕ → Type 0
-Protected image after name = Done image after name (changed name (withProtection 1) (catalogue image)) 0 0
-
-unfoldable pub Protects : Type 0
-Protects = (image name : List ℕ) →
-    let outcome = protectOf image name in
-    outcome .number ≡ 0 → Protected image (left image outcome) name
-
-abbrev pub Unprotected : List ℕ → List ℕ → List ℕ → Type 0
-Unprotected image after name = Done image after name (changed name (withProtection 0) (catalogue image)) 0 0
-
-unfoldable pub Unprotects : Type 0
-Unprotects = (image name : List ℕ) →
-    let outcome = unprotectOf image name in
-    outcome .number ≡ 0 → Unprotected image (left image outcome) name
-
--- delete takes that file out
-abbrev pub Deleted : List ℕ → List ℕ → List ℕ → Type 0
-Deleted image after name = Done image after name (takenOut name (catalogue image)) 0 (held (named name (catalogue image)))
-
-unfoldable pub Deletes : Type 0
-Deletes = (image name : List ℕ) →
-    let outcome = deleteOf image name in
-    outcome .number ≡ 0 → Deleted image (left image outcome) name
-
--- rename changes that name
+-- under another name
 unfoldable pub renamed : List ℕ → File → File
 renamed name file = record { header = splice (file .header) 0 name; contents = file .contents }
 
-abbrev pub Renamed : List ℕ → List ℕ → List ℕ → List ℕ → Type 0
-Renamed image after old new = Done image after old (putIn (renamed new (named old (catalogue image))) (takenOut old (catalogue image))) 0 0
+-- on the files of a catalogue: create and store put a file in; append, overwrite, protect and unprotect change the one of that name; delete takes it out; rename takes it out and puts it in anew
+abbrev pub effectOf : Change → (name : List ℕ) → List File → Effect
+effectOf (call.create status recordLength recordsPerSector) name files =
+    effect (putIn (record { header = newHeader name status recordsPerSector 0 0 recordLength; contents = [] }) files) 1 0
+effectOf (call.store bytes) name files = effect (putIn (newProgram name bytes) files) (1 + sectorsFor (length bytes)) 0
+effectOf (call.append bytes) name files = effect (changed name (longer bytes) files) 1 0
+effectOf (call.overwrite offset bytes) name files = effect (changed name (overwritten offset bytes) files) 0 0
+effectOf call.protect name files = effect (changed name (withProtection 1) files) 0 0
+effectOf call.unprotect name files = effect (changed name (withProtection 0) files) 0 0
+effectOf call.delete name files = effect (takenOut name files) 0 (held (named name files))
+effectOf (call.rename new) name files = effect (putIn (renamed new (named name files)) (takenOut name files)) 0 0
 
-unfoldable pub Renames : Type 0
-Renames = (image old new : List ℕ) →
-    let outcome = renameOf image old new in
-    outcome .number ≡ 0 → Renamed image (left image outcome) old new
+abbrev pub Changed : Change → (image after name : List ℕ) → Type 0
+Changed change image after name = Done image after name (effectOf change name (catalogue image))
+
+-- the statement of a change, by our definition of it
+abbrev pub Does : Change → Type 0
+Does change = (image name : List ℕ) → outcome change image name .number ≡ 0 → Changed change image (written image (outcome change image name .writes)) name
+
+-- and a load of what was stored gives the bytes that were lent
+abbrev pub LoadGives : (after name bytes : List ℕ) → Type 0
+LoadGives after name bytes = loadOf after name (length bytes) ≡ gives (length bytes) bytes
+
+abbrev pub StoredLoads : Type 0
+StoredLoads = (image name bytes : List ℕ) → storeOf image name bytes .number ≡ 0 → LoadGives (written image (storeOf image name bytes .writes)) name bytes

@@ -1,32 +1,30 @@
 -- The grounds that the paper lists for each call, in the table's order (1-10, 14, 15, 11, 12, 13), each a proposition about the image and the arguments.
 use mathlib.Core.Path.{_≡_}
-use mathlib.Core.Bool.{true}
 use mathlib.Core.List.{List, [], _∷_, _++_}
 use mathlib.Core.Logic.{_⊎_}
 use Prim.Native.Nat.{ℕ, _+_, _*_, _≤_, _<_}
-use lib.ListN.{length, getD}
+use lib.ListN.{length}
 use Rattle.rules.specs.Bytes.{bitOf}
 use Rattle.rules.specs.Sectors.{sectorOf, sectorCount}
 use Rattle.rules.specs.Name.{IsName, Before}
 use Rattle.rules.specs.Label.{IsLabel}
-use Rattle.rules.specs.Map.{mapBit, count, freeCount, marked}
-use Rattle.rules.specs.Chain.{blocks, extended, extendedAll}
-use Rattle.rules.specs.Descriptor.{statusOf, sectorsOf, chainOf, IsDescriptor}
+use Rattle.rules.specs.Map.{mapBit, count, freeCount}
+use Rattle.rules.specs.Descriptor.{statusOf, sectorsOf, IsDescriptor}
 use Rattle.rules.specs.Index.{IsIndex}
 use Rattle.rules.specs.Volume.{files, nameIn, holders}
 use Rattle.rules.specs.Sound.{fileAt}
-use Rattle.rules.specs.Choice.{descriptorChoice, dataChoice, dataChoices}
-use Rattle.rules.specs.Calls.Store.{sectorsFor}
+use Rattle.rules.specs.Calls.Store.{sectorsFor, newBlocks}
+use Rattle.rules.specs.Calls.Append.{longerBlocks}
 use Rattle.rules.specs.Calls.Load.{lengthIn}
 use Rattle.rules.specs.Calls.Listing.{listingText}
 use Rattle.demands.specs.Call as call
-use Rattle.demands.specs.Call.{Call}
+use Rattle.demands.specs.Call.{Form, Look, Change, Call}
 
 pub record Ground : Type 1 where
   pub number : ℕ
   pub there : Type 0
 
-abbrev ground : ℕ → Type 0 → Ground
+abbrev pub ground : ℕ → Type 0 → Ground
 ground number there = record { number = number; there = there }
 
 -- the number is that of the first ground that is there, and 0 where none is
@@ -71,73 +69,61 @@ abbrev pub Present : List ℕ → List ℕ → Type 0
 Present image name = Has image name (λ k. Unit {0})
 
 -- of the file whose descriptor is in sector k
-abbrev isProtected : List ℕ → ℕ → Type 0
+abbrev pub isProtected : List ℕ → ℕ → Type 0
 isProtected image k = bitOf (statusOf (sectorOf image k)) 3 ≡ 1
 
 abbrev isProgram : List ℕ → ℕ → Type 0
 isProgram image k = bitOf (statusOf (sectorOf image k)) 0 ≡ 1
 
--- the blocks with one sector more, and those of a program of so many sectors
-abbrev longerBlocks : List ℕ → ℕ → ℕ
-longerBlocks image k = length (extended 0 (blocks (chainOf (sectorOf image k))) (dataChoice (sectorOf image 0)))
-
-abbrev newBlocks : List ℕ → ℕ → ℕ
-newBlocks image many = length (extendedAll [] (dataChoices many (marked 1 (sectorOf image 0) (descriptorChoice (sectorOf image 0)))))
-
 pub record CreateStatus (status : ℕ) : Type 0 where
   pub among : (status ≡ 0) ⊎ ((status ≡ 0x02) ⊎ ((status ≡ 0x80) ⊎ (status ≡ 0x82)))
 
-unfoldable pub grounds : Call → List ℕ → List {1} Ground
-grounds call.judge image = faults image
-grounds (call.format n name geometry) image =
-    ground 1 (IsSize image → ⊥) ∷ (ground 1 (n ≡ sectorCount image → ⊥) ∷ (ground 7 (IsName name → ⊥) ∷ []))
-grounds call.freeCount image = faults image
-grounds (call.summarize buffer) image = faults image
-grounds (call.entry place buffer) image = faults image ++ (ground 8 (length (files image) ≤ place) ∷ (ground 15 (length buffer < 28) ∷ []))
-grounds (call.read name offset buffer) image =
-    faults image
-    ++ (ground 7 (IsName name → ⊥)
+-- of a look, on a sound volume
+unfoldable pub lookGrounds : {form : Form} → Look form → (buffer image : List ℕ) → List {1} Ground
+lookGrounds call.judge buffer image = []
+lookGrounds call.freeCount buffer image = []
+lookGrounds call.summarize buffer image = []
+lookGrounds (call.entry place) buffer image = ground 8 (length (files image) ≤ place) ∷ (ground 15 (length buffer < 28) ∷ [])
+lookGrounds (call.read name offset) buffer image =
+    ground 7 (IsName name → ⊥)
     ∷ (ground 8 (Present image name → ⊥)
-    ∷ (ground 15 (Has image name (λ k. sectorsOf (sectorOf image k) ≤ offset)) ∷ (ground 15 (length buffer < 256) ∷ []))))
-grounds (call.load name buffer) image =
-    faults image
-    ++ (ground 7 (IsName name → ⊥)
+    ∷ (ground 15 (Has image name (λ k. sectorsOf (sectorOf image k) ≤ offset)) ∷ (ground 15 (length buffer < 256) ∷ [])))
+lookGrounds (call.load name) buffer image =
+    ground 7 (IsName name → ⊥)
     ∷ (ground 8 (Present image name → ⊥)
-    ∷ (ground 14 (Has image name (λ k. isProgram image k → ⊥)) ∷ (ground 15 (Has image name (λ k. length buffer < lengthIn image k)) ∷ []))))
-grounds (call.list buffer) image = faults image ++ (ground 15 (length buffer < length (listingText image)) ∷ [])
-grounds (call.create name status recordLength recordsPerSector) image =
-    faults image
-    ++ (ground 7 (IsName name → ⊥)
-    ∷ (ground 9 (Present image name)
-    ∷ (ground 15 (CreateStatus status → ⊥) ∷ (ground 11 (127 ≤ length (files image)) ∷ (ground 12 (freeCount (sectorOf image 0) < 1) ∷ [])))))
-grounds (call.append name bytes) image =
-    faults image
-    ++ (ground 7 (IsName name → ⊥)
-    ∷ (ground 8 (Present image name → ⊥)
+    ∷ (ground 14 (Has image name (λ k. isProgram image k → ⊥)) ∷ (ground 15 (Has image name (λ k. length buffer < lengthIn image k)) ∷ [])))
+lookGrounds call.list buffer image = ground 15 (length buffer < length (listingText image)) ∷ []
+lookGrounds call.pack buffer image = ground 15 (length buffer ≡ length image → ⊥) ∷ []
+
+-- of a change, on a sound volume and under a name that keeps its rule
+unfoldable pub changeGrounds : Change → (image name : List ℕ) → List {1} Ground
+changeGrounds (call.create status recordLength recordsPerSector) image name =
+    ground 9 (Present image name)
+    ∷ (ground 15 (CreateStatus status → ⊥) ∷ (ground 11 (127 ≤ length (files image)) ∷ (ground 12 (freeCount (sectorOf image 0) < 1) ∷ [])))
+changeGrounds (call.append bytes) image name =
+    ground 8 (Present image name → ⊥)
     ∷ (ground 10 (Has image name (isProtected image))
     ∷ (ground 14 (Has image name (isProgram image))
-    ∷ (ground 15 (length bytes ≡ 256 → ⊥) ∷ (ground 12 (freeCount (sectorOf image 0) < 1) ∷ (ground 13 (Has image name (λ k. 76 < longerBlocks image k)) ∷ [])))))))
-grounds (call.overwrite name offset bytes) image =
-    faults image
-    ++ (ground 7 (IsName name → ⊥)
-    ∷ (ground 8 (Present image name → ⊥)
+    ∷ (ground 15 (length bytes ≡ 256 → ⊥) ∷ (ground 12 (freeCount (sectorOf image 0) < 1) ∷ (ground 13 (Has image name (λ k. 76 < length (longerBlocks image k))) ∷ [])))))
+changeGrounds (call.overwrite offset bytes) image name =
+    ground 8 (Present image name → ⊥)
     ∷ (ground 10 (Has image name (isProtected image))
     ∷ (ground 14 (Has image name (isProgram image))
-    ∷ (ground 15 (Has image name (λ k. sectorsOf (sectorOf image k) ≤ offset)) ∷ (ground 15 (length bytes ≡ 256 → ⊥) ∷ []))))))
-grounds (call.protect name) image = faults image ++ (ground 7 (IsName name → ⊥) ∷ (ground 8 (Present image name → ⊥) ∷ []))
-grounds (call.unprotect name) image = faults image ++ (ground 7 (IsName name → ⊥) ∷ (ground 8 (Present image name → ⊥) ∷ []))
-grounds (call.store name bytes) image =
-    faults image
-    ++ (ground 7 (IsName name → ⊥)
-    ∷ (ground 9 (Present image name)
+    ∷ (ground 15 (Has image name (λ k. sectorsOf (sectorOf image k) ≤ offset)) ∷ (ground 15 (length bytes ≡ 256 → ⊥) ∷ []))))
+changeGrounds call.protect image name = ground 8 (Present image name → ⊥) ∷ []
+changeGrounds call.unprotect image name = ground 8 (Present image name → ⊥) ∷ []
+changeGrounds (call.store bytes) image name =
+    ground 9 (Present image name)
     ∷ (ground 15 (32768 < length bytes)
     ∷ (ground 11 (127 ≤ length (files image))
-    ∷ (ground 12 (freeCount (sectorOf image 0) < 1 + sectorsFor (length bytes)) ∷ (ground 13 (76 < newBlocks image (sectorsFor (length bytes))) ∷ []))))))
-grounds (call.delete name) image =
-    faults image ++ (ground 7 (IsName name → ⊥) ∷ (ground 8 (Present image name → ⊥) ∷ (ground 10 (Has image name (isProtected image)) ∷ [])))
-grounds (call.rename old new) image =
-    faults image
-    ++ (ground 7 (IsName old → ⊥)
-    ∷ (ground 7 (IsName new → ⊥)
-    ∷ (ground 8 (Present image old → ⊥) ∷ (ground 9 (Present image new) ∷ (ground 10 (Has image old (isProtected image)) ∷ [])))))
-grounds (call.pack buffer) image = faults image ++ (ground 15 (length buffer ≡ length image → ⊥) ∷ [])
+    ∷ (ground 12 (freeCount (sectorOf image 0) < 1 + sectorsFor (length bytes)) ∷ (ground 13 (76 < length (newBlocks image (sectorsFor (length bytes)))) ∷ []))))
+changeGrounds call.delete image name = ground 8 (Present image name → ⊥) ∷ (ground 10 (Has image name (isProtected image)) ∷ [])
+changeGrounds (call.rename new) image name =
+    ground 7 (IsName new → ⊥)
+    ∷ (ground 8 (Present image name → ⊥) ∷ (ground 9 (Present image new) ∷ (ground 10 (Has image name (isProtected image)) ∷ [])))
+
+unfoldable pub grounds : Call → List ℕ → List {1} Ground
+grounds (call.look look buffer) image = faults image ++ lookGrounds look buffer image
+grounds (call.change name change) image = faults image ++ (ground 7 (IsName name → ⊥) ∷ changeGrounds change image name)
+grounds (call.format n name geometry) image =
+    ground 1 (IsSize image → ⊥) ∷ (ground 1 (n ≡ sectorCount image → ⊥) ∷ (ground 7 (IsName name → ⊥) ∷ []))

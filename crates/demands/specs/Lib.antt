@@ -1,8 +1,8 @@
 -- What is shown of the rules: the words of the demands, the demands, and the versions that they shut out.
-pub mod Catalogue
-pub mod Effects
 pub mod Call
 pub mod Ours
+pub mod Catalogue
+pub mod Effects
 pub mod Grounds
 pub mod CaseM
 pub mod Bench

@@ -5,10 +5,10 @@ use lib.ListN.{length}
 use Rattle.rules.specs.Bytes.{splice}
 use Rattle.rules.specs.Sectors.{written}
 use Rattle.rules.specs.Verdict.{verdict}
-use Rattle.rules.specs.Outcome.{Outcome, Reading, answerOf, amountOf}
+use Rattle.rules.specs.Outcome.{Outcome, answerOf, amountOf}
 use Rattle.rules.specs.Calls.Format.{formatNumber, afterFormat}
-use Rattle.rules.specs.Calls.Free.{freeCountOf, summaryOf, summaryName}
-use Rattle.rules.specs.Calls.Catalogue.{entryOf, entryAnswer}
+use Rattle.rules.specs.Calls.Summary.{freeCountOf, summaryOf, summaryAnswer}
+use Rattle.rules.specs.Calls.Entry.{entryOf, entryRow}
 use Rattle.rules.specs.Calls.Read.{readOf}
 use Rattle.rules.specs.Calls.Load.{loadOf}
 use Rattle.rules.specs.Calls.Listing.{listingOf}
@@ -20,31 +20,41 @@ use Rattle.rules.specs.Calls.Store.{storeOf}
 use Rattle.rules.specs.Calls.Delete.{deleteOf}
 use Rattle.rules.specs.Calls.Rename.{renameOf}
 use Rattle.rules.specs.Calls.Pack.{packNumber, afterPack}
-use Rattle.demands.specs.Call.{Version, Call, judge, format, freeCount, summarize, entry, read, load, list, create, append, overwrite, protect, unprotect, store, delete, rename, pack}
+use Rattle.demands.specs.Call as call
+use Rattle.demands.specs.Call.{Form, Given, Look, Change, Version}
+
+-- what a look gives: its answer, and the bytes that it puts at the front of the buffer; packing fills the whole of it
+pub record Seen (form : Form) : Type 0 where
+  pub answer : Given form
+  pub buffer : List ℕ
+
+abbrev putting : {form : Form} → Given form → (bytes buffer : List ℕ) → Seen form
+putting answer bytes buffer = record { answer = answer; buffer = splice buffer 0 bytes }
+
+unfoldable pub seen : {form : Form} → Look form → (buffer image : List ℕ) → Seen form
+seen call.judge buffer image = putting (verdict image) [] buffer
+seen call.freeCount buffer image = putting (amountOf (freeCountOf image)) [] buffer
+seen call.summarize buffer image = putting (summaryAnswer image) (summaryOf image .bytes) buffer
+seen (call.entry place) buffer image =
+    putting (record { answer = answerOf (entryOf image place (length buffer) .number); row = entryRow image place (length buffer) }) (entryOf image place (length buffer) .bytes) buffer
+seen (call.read name offset) buffer image =
+    putting (answerOf (readOf image name offset (length buffer) .number)) (readOf image name offset (length buffer) .bytes) buffer
+seen (call.load name) buffer image = putting (amountOf (loadOf image name (length buffer))) (loadOf image name (length buffer) .bytes) buffer
+seen call.list buffer image = putting (amountOf (listingOf image (length buffer))) (listingOf image (length buffer) .bytes) buffer
+seen call.pack buffer image = record { answer = answerOf (packNumber image buffer); buffer = afterPack image buffer }
+
+-- what a change of the file of that name gives: its number, and the sectors that it writes
+unfoldable pub outcome : Change → (image name : List ℕ) → Outcome
+outcome (call.create status recordLength recordsPerSector) image name = createOf image name status recordLength recordsPerSector
+outcome (call.append bytes) image name = appendOf image name bytes
+outcome (call.overwrite offset bytes) image name = overwriteOf image name offset bytes
+outcome call.protect image name = protectOf image name
+outcome call.unprotect image name = unprotectOf image name
+outcome (call.store bytes) image name = storeOf image name bytes
+outcome call.delete image name = deleteOf image name
+outcome (call.rename new) image name = renameOf image name new
 
 unfoldable pub ours : Version
-ours judge image = record { answer = verdict image; buffer = []; image = image }
-ours (format n name geometry) image = record { answer = answerOf (formatNumber image n name); buffer = []; image = afterFormat image n name geometry }
-ours freeCount image = record { answer = amountOf (freeCountOf image); buffer = []; image = image }
-ours (summarize buffer) image = record { answer = summaryOf image; buffer = splice buffer 0 (summaryName image); image = image }
-ours (entry place buffer) image =
-    record { answer = entryAnswer image place (length buffer); buffer = splice buffer 0 (entryOf image place (length buffer) .bytes); image = image }
-ours (read name offset buffer) image =
-    record { answer = answerOf (readOf image name offset (length buffer) .number); buffer = splice buffer 0 (readOf image name offset (length buffer) .bytes); image = image }
-ours (load name buffer) image = record { answer = amountOf (loadOf image name (length buffer)); buffer = splice buffer 0 (loadOf image name (length buffer) .bytes); image = image }
-ours (list buffer) image = record { answer = amountOf (listingOf image (length buffer)); buffer = splice buffer 0 (listingOf image (length buffer) .bytes); image = image }
-ours (create name status recordLength recordsPerSector) image =
-    record {
-      answer = answerOf (createOf image name status recordLength recordsPerSector .number);
-      buffer = [];
-      image = written image (createOf image name status recordLength recordsPerSector .writes);
-    }
-ours (append name bytes) image = record { answer = answerOf (appendOf image name bytes .number); buffer = []; image = written image (appendOf image name bytes .writes) }
-ours (overwrite name offset bytes) image =
-    record { answer = answerOf (overwriteOf image name offset bytes .number); buffer = []; image = written image (overwriteOf image name offset bytes .writes) }
-ours (protect name) image = record { answer = answerOf (protectOf image name .number); buffer = []; image = written image (protectOf image name .writes) }
-ours (unprotect name) image = record { answer = answerOf (unprotectOf image name .number); buffer = []; image = written image (unprotectOf image name .writes) }
-ours (store name bytes) image = record { answer = answerOf (storeOf image name bytes .number); buffer = []; image = written image (storeOf image name bytes .writes) }
-ours (delete name) image = record { answer = answerOf (deleteOf image name .number); buffer = []; image = written image (deleteOf image name .writes) }
-ours (rename old new) image = record { answer = answerOf (renameOf image old new .number); buffer = []; image = written image (renameOf image old new .writes) }
-ours (pack buffer) image = record { answer = answerOf (packNumber image buffer); buffer = afterPack image buffer; image = image }
+ours (call.look look buffer) image = record { answer = seen look buffer image .answer; buffer = seen look buffer image .buffer; image = image }
+ours (call.change name change) image = record { answer = answerOf (outcome change image name .number); buffer = []; image = written image (outcome change image name .writes) }
+ours (call.format n name geometry) image = record { answer = answerOf (formatNumber image n name); buffer = []; image = afterFormat image n name geometry }

@@ -4,14 +4,14 @@ use mathlib.Core.Bool.{true}
 use mathlib.Core.List.{List, []}
 use Prim.Native.Nat.{ℕ, _+_, _≤_, _<_}
 use lib.ListN.{length, getD, take}
-use Rattle.rules.specs.Bytes.{byteAt, wordAt, part}
+use Rattle.rules.specs.Bytes.{byteAt, part}
 use Rattle.rules.specs.Sectors.{sectorOf, sectorCount}
 use Rattle.rules.specs.Kind.{isProgram, programLength}
 use Rattle.rules.specs.Map.{freeCount}
 use Rattle.rules.specs.Volume.{File, catalogue, holders}
 use Rattle.rules.specs.Sound.{Sound}
 use Rattle.rules.specs.Outcome.{gives}
-use Rattle.rules.specs.Calls.Catalogue.{entryOf}
+use Rattle.rules.specs.Calls.Entry.{entryOf}
 use Rattle.rules.specs.Calls.Read.{readOf}
 use Rattle.rules.specs.Calls.Load.{joined, loadOf}
 

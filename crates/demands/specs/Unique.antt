@@ -1,15 +1,43 @@
--- What the code promises of a call fixes all that can be seen of it: its answer, the buffer lent and the image. So two results that keep the promise are equal.
+-- What the code promises of a call fixes all that can be seen of it: its answer, the buffer lent and the image. So what keeps the promise is what our version does, and two
+-- results that keep it are equal.
 use mathlib.Core.Path.{_≡_}
-use mathlib.Core.List.{List}
+use mathlib.Core.List.{List, []}
 use Prim.Native.Nat.{ℕ}
-use Rattle.demands.specs.Call.{Call, Result}
-use Rattle.demands.specs.Ours.{ours}
+use lib.ListN.{length}
+use Rattle.rules.specs.Verdict.{verdict}
+use Rattle.rules.specs.Outcome.{AnswerSays, AmountSays, Meets, Gives}
+use Rattle.rules.specs.Calls.Format.{formatNumber, afterFormat}
+use Rattle.rules.specs.Calls.Summary.{freeCountOf, summaryOf, SummarySays}
+use Rattle.rules.specs.Calls.Entry.{entryOf, entryRow, EntrySays}
+use Rattle.rules.specs.Calls.Read.{readOf, ReadSays}
+use Rattle.rules.specs.Calls.Load.{loadOf}
+use Rattle.rules.specs.Calls.Listing.{listingOf}
+use Rattle.rules.specs.Calls.Pack.{packNumber, afterPack}
+use Rattle.demands.specs.Call as call
+use Rattle.demands.specs.Call.{Form, Given, Look, Call, Result, formOf}
+use Rattle.demands.specs.Ours.{outcome, ours}
 
--- the contract of a call in the code: what it gives and leaves is what our version does
-pub record Promised (c : Call) (image : List ℕ) (r : Result c) : Type 0 where
-  pub answer : r .answer ≡ ours c image .answer
-  pub buffer : r .buffer ≡ ours c image .buffer
-  pub image-is : r .image ≡ ours c image .image
+-- the contract of a look in the code: what its answer says, and the buffer afterwards; where none is lent, it stays
+unfoldable pub LookPromised : {form : Form} → Look form → (buffer image : List ℕ) → Given form → (after : List ℕ) → Type 0
+LookPromised call.judge buffer image given after = (given ≡ verdict image) × (after ≡ buffer)
+LookPromised call.freeCount buffer image given after = AmountSays given (freeCountOf image) × (after ≡ buffer)
+LookPromised call.summarize buffer image given after = Gives (SummarySays image) (summaryOf image) given buffer after
+LookPromised (call.entry place) buffer image given after =
+    Gives (EntrySays (entryRow image place (length buffer))) (entryOf image place (length buffer)) given buffer after
+LookPromised (call.read name offset) buffer image given after = Gives ReadSays (readOf image name offset (length buffer)) given buffer after
+LookPromised (call.load name) buffer image given after = Gives AmountSays (loadOf image name (length buffer)) given buffer after
+LookPromised call.list buffer image given after = Gives AmountSays (listingOf image (length buffer)) given buffer after
+LookPromised call.pack buffer image given after = AnswerSays given (packNumber image buffer) × (after ≡ afterPack image buffer)
+
+-- and of a call
+unfoldable pub Promised : (c : Call) → List ℕ → Result (formOf c) → Type 0
+Promised (call.look look buffer) image r = LookPromised look buffer image (r .answer) (r .buffer) × (r .image ≡ image)
+Promised (call.change name change) image r = Meets (outcome change image name) (r .answer) image (r .image) × (r .buffer ≡ [])
+Promised (call.format n name geometry) image r =
+    AnswerSays (r .answer) (formatNumber image n name) × (r .image ≡ afterFormat image n name geometry) × (r .buffer ≡ [])
+
+unfoldable pub IsOurs : Type 0
+IsOurs = (c : Call) (image : List ℕ) (r : Result (formOf c)) → Promised c image r → r ≡ ours c image
 
 unfoldable pub Unique : Type 0
-Unique = (c : Call) (image : List ℕ) (r r′ : Result c) → Promised c image r → Promised c image r′ → r ≡ r′
+Unique = (c : Call) (image : List ℕ) (r r′ : Result (formOf c)) → Promised c image r → Promised c image r′ → r ≡ r′

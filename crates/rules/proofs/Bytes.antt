@@ -1,5 +1,5 @@
 -- The laws of the readings.
-use mathlib.Core.Path.{_≡_, refl, sym}
+use mathlib.Core.Path.{_≡_, refl, sym, _∙_}
 use mathlib.Core.Bool.{Bool, true, false, _&&_}
 use mathlib.Core.List.{List, [], _∷_}
 use Prim.Native.Nat.{ℕ, zero, suc, _+_, _-_, _≤_, _<_}
@@ -8,7 +8,7 @@ use native.Mathlib.Numerals.{add-one}
 use native.Mathlib.Decide.{decLt}
 use lib.Dec.{eqb}
 use lib.ListN.{length, drop, length-take, length-drop, drop-of-length-le, List·getD-eq-default}
-use lib.Seq.{drop-cons, getD-take, getD-drop}
+use lib.Seq.{drop-cons, getD-take, getD-drop, ext-getD}
 use borrow.Author.Tests.{eq-eqb, eqb-true}
 use Rattle.rules.specs.Bytes.{byteAt, part, allAre, same}
 use Rattle.rules.proofs.Tests.{both, absurd-test}
@@ -41,6 +41,16 @@ part-short bytes from count = rw length-take (omega arith)
 
 pub part-at : (bytes : List ℕ) (from count i : ℕ) → i < count → byteAt (part bytes from count) i ≡ byteAt bytes (from + i)
 part-at bytes from count i h = rw (getD-take count (drop from bytes) i 0 h, getD-drop from bytes i 0)
+
+-- a part of two lists that are equally long and agree there
+pub part-same : (first second : List ℕ) (from count : ℕ) → length first ≡ length second → ((i : ℕ) → from ≤ i → i < from + count → byteAt first i ≡ byteAt second i)
+    → part first from count ≡ part second from count
+part-same first second from count long same =
+    let size : length (part first from count) ≡ length (part second from count) = simp (length-take, length-drop) (rw long) in
+    ext-getD 0 (part first from count) (part second from count) size
+    (λ i h.
+    let low : i < count = omega (arith, h, part-short first from count) in
+    part-at first from count i low ∙ same (from + i) (omega arith) (omega arith) ∙ sym (part-at second from count i low))
 
 pub part-below : (bytes : List ℕ) (from count limit : ℕ) → 0 < limit → ((i : ℕ) → byteAt bytes i < limit) → (i : ℕ) → byteAt (part bytes from count) i < limit
 part-below bytes from count limit some below i =
@@ -124,3 +134,10 @@ pub is-same : (bytes : List ℕ) → same bytes bytes ≡ true
 unfolding same
 is-same [] = refl
 is-same (b ∷ bytes) = rw (eq-eqb b b refl) (is-same bytes)
+
+pub not-same : (first second : List ℕ) → (first ≡ second → ⊥) → same first second ≡ false
+not-same first second other = go (same first second) refl
+  where
+    go : (t : Bool) → same first second ≡ t → t ≡ false
+    go true e = absurd (other (same-is first second e))
+    go false e = refl

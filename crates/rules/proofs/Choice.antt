@@ -277,3 +277,51 @@ module _ (n : ℕ) where
           choices-length many sector0,
           all-free 1 0 (omega arith) sector0 (dataChoices many sector0) long choices-once (λ k some. (choices-free k some .low, choices-free k some .free)),
         )
+
+-- A descriptor's sector k chosen by the map, and `many` for data by the map with k marked: all were free, and each is chosen once.
+module _ (n : ℕ) (sector0 : List ℕ) (many : ℕ) (long : length sector0 ≡ 256) (fence : Fenced n sector0) (room : 1 + many ≤ freeCount sector0) where
+  abbrev first : ℕ
+  first = descriptorChoice sector0
+
+  abbrev later : List ℕ
+  later = dataChoices many (marked 1 sector0 first)
+
+  first-free : Chosen n sector0 first
+  first-free = descriptor-choice-free n sector0 fence (omega (arith, room))
+
+  still-fenced : Fenced n (marked 1 sector0 first)
+  still-fenced = fenced-marked n sector0 first long fence
+
+  long-marked : length (marked 1 sector0 first) ≡ 256
+  long-marked = marked-length 1 sector0 first ∙ long
+
+  room-left : many ≤ freeCount (marked 1 sector0 first)
+  room-left = omega (arith, room, marked-free 1 (omega arith) sector0 first (first-free .low) long, first-free .free)
+
+  later-free : (j : ℕ) → 1 ≤ count j later → Chosen n (marked 1 sector0 first) j
+  later-free = choices-free n many (marked 1 sector0 first) long-marked still-fenced room-left
+
+  later-other : (j : ℕ) → 1 ≤ count j later → first ≡ j → ⊥
+  later-other j some e =
+      omega (arith, later-free j some .free, ap (mapBit (marked 1 sector0 first)) e, marked-here 1 (omega arith) sector0 first (first-free .low) long)
+
+  pub new-free : (j : ℕ) → 1 ≤ count j (first ∷ later) → Chosen n sector0 j
+  new-free j some =
+      elim (ℕ-discrete first j) [
+        | yes same ↦ rw (← same) first-free
+        | no other ↦
+            let c = later-free j (omega (arith, some, count-other j first later other)) in
+            record { free = sym (marked-other 1 (omega arith) sector0 first j (λ e. other (sym e))) ∙ c .free; from = c .from; inside = c .inside; low = c .low }
+      ]
+
+  pub new-once : (j : ℕ) → count j (first ∷ later) ≤ 1
+  new-once j =
+      let at-most = choices-once n many (marked 1 sector0 first) long-marked still-fenced room-left j in
+      elim (ℕ-discrete first j) [
+        | yes same ↦
+            elim (decLt 0 (count j later)) [
+              | yes some ↦ absurd (later-other j some same)
+              | no none ↦ omega (arith, none, ap (λ (i : ℕ). count j (i ∷ later)) same, count-here j later)
+            ]
+        | no other ↦ omega (arith, at-most, count-other j first later other)
+      ]

@@ -1,13 +1,17 @@
--- A descriptor's rule, as a test and as facts.
+-- A descriptor's rule, as a test and as facts; and what is read of a descriptor of which other bytes were changed.
 use mathlib.Core.Path.{_≡_}
 use mathlib.Core.Bool.{true, _&&_}
 use mathlib.Core.List.{List}
-use Prim.Native.Nat.{ℕ}
-use Rattle.rules.specs.Name.{nameRule}
+use Prim.Native.Nat.{ℕ, _≤_, _<_}
+use native.Mathlib.Omega.{arith}
+use lib.ListN.{length}
+use Rattle.rules.specs.Bytes.{byteAt, bitOf}
+use Rattle.rules.specs.Name.{nameRule, IsName}
 use Rattle.rules.specs.Chain.{chainRule}
-use Rattle.rules.specs.Kind.{statusRule, kindRule}
+use Rattle.rules.specs.Kind.{statusRule, kindOf, kindRule, IsStatus}
 use Rattle.rules.specs.Descriptor.{nameOf, statusOf, sectorsOf, chainOf, fileKind, descriptorRule, IsDescriptor}
 use Rattle.rules.proofs.Tests.{both}
+use Rattle.rules.proofs.Bytes.{part-same}
 use Rattle.rules.proofs.Name.{name-is, is-name}
 use Rattle.rules.proofs.Chain.{chain-is, is-chain}
 use Rattle.rules.proofs.Status.{status-is, is-status, kind-is, is-kind}
@@ -31,3 +35,26 @@ pub is-descriptor : (n : ℕ) (d : List ℕ) → IsDescriptor n d → descriptor
 unfolding descriptorRule
 is-descriptor n d is =
     rw (is-name (nameOf d) (is .name), is-status (statusOf d) (is .status), is-kind (fileKind d) (sectorsOf d) (is .kind), is-chain n (sectorsOf d) (chainOf d) (is .chain))
+
+module _ (d d′ : List ℕ) (long : length d′ ≡ length d) where
+  pub name-same : ((i : ℕ) → i < 10 → byteAt d′ i ≡ byteAt d i) → nameOf d′ ≡ nameOf d
+  unfolding nameOf
+  name-same same = part-same d′ d 0 10 long (λ i low high. same i (omega arith))
+
+  pub chain-same : ((i : ℕ) → 28 ≤ i → byteAt d′ i ≡ byteAt d i) → chainOf d′ ≡ chainOf d
+  unfolding chainOf
+  chain-same same = part-same d′ d 28 228 long (λ i low high. same i low)
+
+  -- where nothing was changed from c on, and of the status the protection alone, the rules are kept
+  pub front-changed : (n : ℕ) → ((i : ℕ) → 14 ≤ i → byteAt d′ i ≡ byteAt d i) → ((j : ℕ) → (j ≡ 3 → ⊥) → bitOf (statusOf d′) j ≡ bitOf (statusOf d) j)
+      → IsName (nameOf d′) → IsStatus (statusOf d′) → IsDescriptor n d → IsDescriptor n d′
+  unfolding fileKind kindOf
+  front-changed n same bits name status is =
+      let c : sectorsOf d′ ≡ sectorsOf d = rw (same 14 (omega arith), same 15 (omega arith)) in
+      let kind : fileKind d′ ≡ fileKind d = rw (bits 0 (λ e. omega arith), bits 1 (λ e. omega arith), bits 7 (λ e. omega arith), same 14 (omega arith), same 15 (omega arith), same 16 (omega arith), same 17 (omega arith)) in
+      record {
+        name = name;
+        status = status;
+        kind = rw (kind, c) (is .kind);
+        chain = rw (chain-same (λ i low. same i (omega arith)), c) (is .chain);
+      }

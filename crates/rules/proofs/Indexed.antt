@@ -18,8 +18,8 @@ use Rattle.rules.specs.Volume.{files, nameIn, placed}
 use Rattle.rules.specs.Sound.{Sound}
 use Rattle.rules.proofs.Tests.{absurd-test}
 use Rattle.rules.proofs.Splice.{splice-length, splice-none, splice-above, splice-append}
-use Rattle.rules.proofs.Name.{precedes-is, is-precedes, before-trans, before-total}
-use Rattle.rules.proofs.Map.{count-none, count-here, count-other, count-more, count-at}
+use Rattle.rules.proofs.Name.{precedes-is, is-precedes, not-precedes, before-trans, before-total}
+use Rattle.rules.proofs.Map.{counted-all, count-none, count-here, count-other, count-more, count-at}
 use Rattle.rules.proofs.Index.{numbers-step, numbers-end}
 
 -- numbers laid into a buffer: where none are left it stands as it is to be, and one is followed by the rest
@@ -121,6 +121,16 @@ module _ (k : ℕ) where
         | no there ↦ without-later k i is there ∙ ap (λ (l : List ℕ). i ∷ l) (without-absent is (sym (count-other k i is there) ∙ e))
       ]
 
+-- lists in which each number stands equally often are equally long
+pub counts-length : (ks js : List ℕ) → ((j : ℕ) → count j ks ≡ count j js) → length ks ≡ length js
+unfolding count
+counts-length [] [] same = refl
+counts-length [] (j ∷ js) same = absurd (omega (arith, same j, count-here j js))
+counts-length (k ∷ ks) js same =
+    let there : 1 ≤ count k js = omega (arith, same k, count-here k ks) in
+    let less = counts-length ks (without k js) (λ j. omega (arith, same j, without-count k j js there)) in
+    omega (arith, less, without-length k js there)
+
 -- what holds of all the numbers holds of those that are left; and of those with k among them, if it holds of k
 module _ (P : ℕ → Type 0) (k : ℕ) where
   pub without-all : (ks : List ℕ) → ((p : ℕ) → p < length ks → P (getD ks p 0)) → (p : ℕ) → p < length (without k ks) → P (getD (without k ks) p 0)
@@ -207,6 +217,26 @@ module _ (image image′ name : List ℕ) (k : ℕ) (named : nameIn image′ k �
           ascending-first image′ j (placed image name k js)
           (placed-all (λ (i : ℕ). Before (nameIn image′ j) (nameIn image′ i)) k image name js (behind-first e) (λ q l. after 0 (suc q) (omega arith) (omega arith)))
           rest
+
+-- a number taken out and put in again under the same name stands where it stood
+module _ (image : List ℕ) (k : ℕ) where
+  put-first : (ks : List ℕ) → ((p : ℕ) → p < length ks → Before (nameIn image k) (nameIn image (getD ks p 0))) → placed image (nameIn image k) k ks ≡ k ∷ ks
+  put-first [] before = placed-last image (nameIn image k) k
+  put-first (j ∷ js) before = placed-here image (nameIn image k) k j js (is-precedes (nameIn image k) (nameIn image j) (before 0 (omega arith)))
+
+  pub placed-back : (ks : List ℕ) → Ascending image ks → 1 ≤ count k ks → placed image (nameIn image k) k (without k ks) ≡ ks
+  placed-back [] up some = absurd (omega (arith, some, count-none k))
+  placed-back (j ∷ js) up some =
+      elim (ℕ-discrete j k) [
+        | yes here ↦ rw (without-here k j js here, here) (put-first js (λ p h. rw here at (up 0 (suc p) (omega arith) (omega arith))))
+        | no there ↦
+            let more : 1 ≤ count k js = omega (arith, some, count-other k j js there) in
+            rw (without-later k j js there, placed-later image (nameIn image k) k j (without k js) (behind more))
+            (ap (λ (l : List ℕ). j ∷ l) (placed-back js (λ p q h l. up (suc p) (suc q) (omega arith) (omega arith)) more))
+      ]
+    where
+      behind : 1 ≤ count k js → precedes (nameIn image k) (nameIn image j) ≡ false
+      behind more = not-precedes (nameIn image j) (nameIn image k) (counted-all (λ (i : ℕ). Before (nameIn image j) (nameIn image i)) js (λ p h. up 0 (suc p) (omega arith) (omega arith)) k more)
 
 -- sector 1 with those numbers: its length, its numbers and its rule
 pub numbers-bytes-length : (ks : List ℕ) → length (numbersBytes ks) ≡ 2 * length ks

@@ -3,8 +3,9 @@
 use mathlib.Core.Path.{_≡_, refl, sym, ap, _∙_}
 use mathlib.Core.Bool.{Bool, true, false, cond}
 use mathlib.Core.List.{List, [], _∷_, _++_, map}
-use Prim.Native.Nat.{ℕ, _+_, _≤_, _<_}
+use Prim.Native.Nat.{ℕ, zero, suc, _+_, _≤_, _<_}
 use native.Mathlib.Omega.{arith}
+use lib.ListN.{length, getD, set}
 use lib.Dec.{eqb}
 use borrow.Author.Tests.{eqb-true, eqb-false}
 use Rattle.rules.specs.Sectors.{sectorOf, sectorCount}
@@ -13,9 +14,9 @@ use Rattle.rules.specs.Map.{mapBit, count}
 use Rattle.rules.specs.Chain.{places}
 use Rattle.rules.specs.Descriptor.{chainOf}
 use Rattle.rules.specs.Index.{without}
-use Rattle.rules.specs.Volume.{files, nameIn, placesIn, fileHolders, holders, headerIn, contentsIn, fileIn, placed}
+use Rattle.rules.specs.Volume.{nameIn, placesIn, fileHolders, holders, headerIn, contentsIn, fileIn, placed}
 use Rattle.rules.specs.Sound.{Sound}
-use Rattle.rules.proofs.Map.{count-none, count-here, count-other, count-more, count-append}
+use Rattle.rules.proofs.Map.{count-none, count-here, count-other, count-more, count-at, count-append}
 
 -- the places of a descriptor that stands as it stood
 pub places-kept : (image after : List ℕ) (k : ℕ) → sectorOf after k ≡ sectorOf image k → placesIn after k ≡ placesIn image k
@@ -33,6 +34,19 @@ holders-kept image after (k ∷ ks) kept =
 pub map-agree : {B : Type 0} (f g : ℕ → B) (ks : List ℕ) → ((k : ℕ) → 1 ≤ count k ks → f k ≡ g k) → map f ks ≡ map g ks
 map-agree f g [] same = refl
 map-agree f g (k ∷ ks) same = rw (same k (omega (arith, count-here k ks)), map-agree f g ks (λ j h. same j (omega (arith, count-more j k ks))))
+
+-- and through two that agree on it but at one place, whose number stands there once
+pub map-changed : {B : Type 0} (old new : ℕ → B) (ks : List ℕ) (p : ℕ) → p < length ks → count (getD ks p 0) ks ≤ 1
+    → ((k : ℕ) → 1 ≤ count k ks → (k ≡ getD ks p 0 → ⊥) → new k ≡ old k) → map new ks ≡ set (map old ks) p (new (getD ks p 0))
+map-changed old new [] p h once others = absurd (omega arith)
+map-changed old new (k ∷ ks) zero h once others =
+    ap (λ l. new k ∷ l)
+    (map-agree new old ks (λ j some. others j (omega (arith, some, count-more j k ks)) (λ e. omega (arith, once, count-here k ks, rw e at some))))
+map-changed old new (k ∷ ks) (suc p) h once others =
+    let there = count-at ks p (omega arith) in
+    rw (others k (omega (arith, count-here k ks)) (λ e. omega (arith, once, there, ap (λ (j : ℕ). count (getD ks p 0) (j ∷ ks)) e, count-here (getD ks p 0) ks)))
+    (ap (λ l. old k ∷ l)
+    (map-changed old new ks p (omega arith) (omega (arith, once, count-more (getD ks p 0) k ks)) (λ j some other. others j (omega (arith, some, count-more j k ks)) other)))
 
 -- a file whose descriptor and places stand as they stood
 pub file-kept : (image after : List ℕ) (k : ℕ) → sectorOf after k ≡ sectorOf image k → ((p : ℕ) → 1 ≤ count p (placesIn image k) → sectorOf after p ≡ sectorOf image p) → fileIn after k ≡ fileIn image k

@@ -1,4 +1,5 @@
--- The laws of the definitions, a file for each file of specs/ and in its order (Status has those of Kind).
+-- The laws of the definitions, a file for each file of specs/ and in its order (Status has those of Kind), and beside it what is built on it: Replaced, of the image after a change, and
+-- Altered, Longer, Listed, which lead there.
 pub mod Tests
 pub mod Bytes
 pub mod Splice
@@ -16,11 +17,15 @@ pub mod Volume
 pub mod Indexed
 pub mod Written
 pub mod Kept
+pub mod Listed
 pub mod Verdict
 pub mod Free
 pub mod Extended
+pub mod Longer
 pub mod Marking
 pub mod Choice
+pub mod Replaced
+pub mod Altered
 pub mod Outcome
 pub mod Opening
 pub mod Formatted

@@ -32,11 +32,35 @@ pub count-more : (k h : ℕ) (holders : List ℕ) → count k holders ≤ count 
 unfolding count
 count-more k h holders = omega arith
 
+-- a list of one number: that number, once
+pub only-one : (k j : ℕ) → 1 ≤ count j (k ∷ []) → k ≡ j
+only-one k j some =
+    elim (ℕ-discrete k j) [
+      | yes here ↦ here
+      | no other ↦ absurd (omega (arith, some, count-other j k [] other, count-none j))
+    ]
+
+pub one-once : (k j : ℕ) → count j (k ∷ []) ≤ 1
+one-once k j =
+    elim (ℕ-discrete k j) [
+      | yes here ↦ rw here (omega (arith, count-here j [], count-none j))
+      | no other ↦ omega (arith, count-other j k [] other, count-none j)
+    ]
+
 -- what stands in a list counts
 pub count-at : (ks : List ℕ) (p : ℕ) → p < length ks → 1 ≤ count (getD ks p 0) ks
 count-at [] p h = absurd (omega arith)
 count-at (k ∷ ks) zero h = omega (arith, count-here k ks)
 count-at (k ∷ ks) (suc p) h = omega (arith, count-at ks p (omega arith), count-more (getD ks p 0) k ks)
+
+-- what holds at every place of a list holds of every number that it counts
+pub counted-all : (P : ℕ → Type 0) (ks : List ℕ) → ((p : ℕ) → p < length ks → P (getD ks p 0)) → (k : ℕ) → 1 ≤ count k ks → P k
+counted-all P [] all k some = absurd (omega (arith, count-none k))
+counted-all P (j ∷ js) all k some =
+    elim (ℕ-discrete j k) [
+      | yes here ↦ rw (← here) (all 0 (omega arith))
+      | no there ↦ counted-all P js (λ p h. all (suc p) (omega arith)) k (omega (arith, count-other k j js there))
+    ]
 
 pub count-append : (k : ℕ) (as′ bs : List ℕ) → count k (as′ ++ bs) ≡ count k as′ + count k bs
 unfolding count
@@ -51,6 +75,23 @@ taken-below n holders k h = rw (lt-ltb k n h)
 pub taken-past : (n : ℕ) (holders : List ℕ) (k : ℕ) → n ≤ k → taken n holders k ≡ 1
 unfolding taken
 taken-past n holders k h = rw (le-ltb k n h)
+
+-- where it marks the holders below n, and all from there on
+pub bits-taken : (n : ℕ) (holders sector0 : List ℕ) → ((k : ℕ) → k < n → mapBit sector0 k ≡ count k holders) → ((k : ℕ) → n ≤ k → k < 1600 → mapBit sector0 k ≡ 1)
+    → (k : ℕ) → k < 1600 → mapBit sector0 k ≡ taken n holders k
+bits-taken n holders sector0 marked filled k low =
+    elim (decLt k n) [
+      | yes below ↦ marked k below ∙ sym (taken-below n holders k below)
+      | no past ↦ filled k (omega arith) low ∙ sym (taken-past n holders k (omega arith))
+    ]
+
+-- holders that count the same need the same map
+pub taken-same : (n : ℕ) (old new : List ℕ) → ((k : ℕ) → count k new ≡ count k old) → (k : ℕ) → taken n new k ≡ taken n old k
+taken-same n old new counts k =
+    elim (decLt k n) [
+      | yes below ↦ rw (taken-below n new k below, taken-below n old k below) (counts k)
+      | no past ↦ rw (taken-past n new k (omega arith), taken-past n old k (omega arith))
+    ]
 
 pub taken-once : (n : ℕ) (holders : List ℕ) → ((k : ℕ) → count k holders ≤ 1) → (k : ℕ) → taken n holders k ≤ 1
 taken-once n holders once k =

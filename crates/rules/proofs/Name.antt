@@ -150,17 +150,21 @@ precedes-is (a ∷ first) (b ∷ second) long e = go (eqb a b) refl e (precedes-
     go false q e more = before-here a b first second (ltb-true a b e)
 
 precedes-at : (first second : List ℕ) (place : ℕ) → place < length first → place < length second → ((i : ℕ) → i < place → byteAt first i ≡ byteAt second i)
-    → byteAt first place < byteAt second place → precedes first second ≡ true
+    → byteAt first place < byteAt second place → (precedes first second ≡ true) × (precedes second first ≡ false)
 unfolding precedes
 precedes-at [] second place h k equal lower = absurd (omega arith)
 precedes-at (a ∷ first) [] place h k equal lower = absurd (omega arith)
-precedes-at (a ∷ first) (b ∷ second) zero h k equal lower = rw (ne-eqb a b (λ e. omega (arith, e)), lt-ltb a b lower)
+precedes-at (a ∷ first) (b ∷ second) zero h k equal lower =
+    (rw (ne-eqb a b (λ e. omega (arith, e)), lt-ltb a b lower), rw (ne-eqb b a (λ e. omega (arith, e)), le-ltb b a (omega arith)))
 precedes-at (a ∷ first) (b ∷ second) (suc place) h k equal lower =
-    rw (eq-eqb a b (equal 0 (omega arith)))
-    (precedes-at first second place (omega arith) (omega arith) (λ i j. equal (suc i) (omega arith)) lower)
+    let more = precedes-at first second place (omega arith) (omega arith) (λ i j. equal (suc i) (omega arith)) lower in
+    (rw (eq-eqb a b (equal 0 (omega arith))) (more .0), rw (eq-eqb b a (sym (equal 0 (omega arith)))) (more .1))
 
 pub is-precedes : (first second : List ℕ) → Before first second → precedes first second ≡ true
-is-precedes first second is = precedes-at first second (is .place) (is .inside .0) (is .inside .1) (is .equal) (is .lower)
+is-precedes first second is = precedes-at first second (is .place) (is .inside .0) (is .inside .1) (is .equal) (is .lower) .0
+
+pub not-precedes : (first second : List ℕ) → Before first second → precedes second first ≡ false
+not-precedes first second is = precedes-at first second (is .place) (is .inside .0) (is .inside .1) (is .equal) (is .lower) .1
 
 pub before-trans : (a b c : List ℕ) → Before a b → Before b c → Before a c
 before-trans a b c p q =

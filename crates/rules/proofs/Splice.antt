@@ -104,6 +104,17 @@ splice-front [] (c ∷ bytes) h = absurd (omega arith)
 splice-front (b ∷ buffer) [] h = refl
 splice-front (b ∷ buffer) (c ∷ bytes) h = ap (λ (l : List ℕ). c ∷ l) (splice-front buffer bytes (omega arith))
 
+-- and of the front of a buffer, what is laid there
+pub splice-take : (n : ℕ) (buffer : List ℕ) (at : ℕ) (bytes : List ℕ) → take n (splice buffer at bytes) ≡ splice (take n buffer) at bytes
+unfolding splice over
+splice-take zero buffer zero bytes = refl
+splice-take zero buffer (suc at) bytes = refl
+splice-take (suc n) [] zero bytes = refl
+splice-take (suc n) (b ∷ buffer) zero [] = refl
+splice-take (suc n) (b ∷ buffer) zero (c ∷ bytes) = ap (λ (l : List ℕ). c ∷ l) (splice-take n buffer zero bytes)
+splice-take (suc n) [] (suc at) bytes = refl
+splice-take (suc n) (b ∷ buffer) (suc at) bytes = ap (λ (l : List ℕ). b ∷ l) (splice-take n buffer at bytes)
+
 -- only as many bytes as there is room for are laid
 pub splice-cut : (buffer : List ℕ) (at : ℕ) (bytes : List ℕ) (many : ℕ) → length buffer ≤ at + many → splice buffer at (take many bytes) ≡ splice buffer at bytes
 unfolding splice over

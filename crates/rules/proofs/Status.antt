@@ -8,7 +8,7 @@ use native.Mathlib.Omega.{arith}
 use lib.Dec.{eqb}
 use borrow.Author.Tests.{eq-eqb, ne-eqb, eqb-true, eqb-false, le-leb, leb-true, not-true}
 use Rattle.rules.specs.Bytes.{bitOf}
-use Rattle.rules.specs.Kind.{isProgram, isInternal, isVariable, isProtected, allowed, statusRule, kindRule, IsStatus, IsKind}
+use Rattle.rules.specs.Kind.{isProgram, isInternal, isVariable, isProtected, allowed, statusRule, kindOf, kindRule, IsStatus, IsKind}
 use Rattle.rules.specs.Descriptor.{statusOf}
 use Rattle.rules.specs.declared.Kind.{Kind}
 use Rattle.rules.specs.declared.Kind.the-variants.{Program, Fixed, Variable}
@@ -69,3 +69,12 @@ module _ (descriptor : List ℕ) (status : ℕ) (is : status ≡ statusOf descri
 
   pub no-program : (status % 2 ≡ 1 → ⊥) → isProgram (statusOf descriptor) ≡ false
   no-program clear = rw (← is, div-one status) (ne-eqb (status % 2) 1 clear)
+
+-- a file that is no program may have any number of sectors
+pub any-kind : (status c endOffset recordLength : ℕ) → isProgram status ≡ false → IsKind (kindOf status c endOffset recordLength) c
+unfolding kindOf IsKind
+any-kind status c endOffset recordLength e = rw e (go (isVariable status))
+  where
+    go : (t : Bool) → IsKind (cond t (Variable recordLength (isInternal status)) (Fixed recordLength (isInternal status))) c
+    go true = tt
+    go false = tt

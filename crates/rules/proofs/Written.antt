@@ -14,36 +14,30 @@ use Rattle.rules.specs.Descriptor.{IsDescriptor}
 use Rattle.rules.specs.Index.{IsIndex}
 use Rattle.rules.specs.Volume.{files, fileHolders, holders}
 use Rattle.rules.specs.Sound.{Sound}
-use Rattle.rules.proofs.Bytes.{part-length, part-at}
+use Rattle.rules.proofs.Bytes.{part-length, part-at, part-same}
 use Rattle.rules.proofs.Splice.{splice-length, splice-inside, splice-below, splice-above}
 use Rattle.rules.proofs.Sectors.{sector-length}
 use Rattle.rules.proofs.Map.{taken-below, taken-past}
 use Rattle.rules.proofs.Indexed.{Ascending}
 
 -- one sector written
-module _ (image : List ℕ) (k : ℕ) (sector : List ℕ) (long : length sector ≡ 256) (fits : 256 * k + 256 ≤ length image) where
-  pub sector-same : sectorOf (splice image (256 * k) sector) k ≡ sector
+module _ (image : List ℕ) (k : ℕ) (sector : List ℕ) (long : length sector ≡ 256) where
+  pub sector-same : 256 * k + 256 ≤ length image → sectorOf (splice image (256 * k) sector) k ≡ sector
   unfolding sectorOf
-  sector-same =
+  sector-same fits =
       let size : length (part (splice image (256 * k) sector) (256 * k) 256) ≡ 256 = part-length (splice image (256 * k) sector) (256 * k) 256 (omega (arith, splice-length image (256 * k) sector)) in
       ext-getD 0 (part (splice image (256 * k) sector) (256 * k) 256) sector (size ∙ sym long)
       (λ i h. part-at (splice image (256 * k) sector) (256 * k) 256 i (omega (arith, size)) ∙ splice-inside image (256 * k) sector i (omega (arith, size)) (omega (arith, size)))
 
-  pub sector-other : (j : ℕ) → (j ≡ k → ⊥) → 256 * j + 256 ≤ length image → sectorOf (splice image (256 * k) sector) j ≡ sectorOf image j
+  pub sector-other : (j : ℕ) → (j ≡ k → ⊥) → sectorOf (splice image (256 * k) sector) j ≡ sectorOf image j
   unfolding sectorOf
-  sector-other j other inside =
-      let size : length (part (splice image (256 * k) sector) (256 * j) 256) ≡ 256 = part-length (splice image (256 * k) sector) (256 * j) 256 (omega (arith, splice-length image (256 * k) sector)) in
-      ext-getD 0 (part (splice image (256 * k) sector) (256 * j) 256) (part image (256 * j) 256) (size ∙ sym (part-length image (256 * j) 256 inside))
-      (λ i h.
-      part-at (splice image (256 * k) sector) (256 * j) 256 i (omega (arith, size)) ∙ apart i (omega (arith, size))
-      ∙ sym (part-at image (256 * j) 256 i (omega (arith, size))))
-    where
-      apart : (i : ℕ) → i < 256 → byteAt (splice image (256 * k) sector) (256 * j + i) ≡ byteAt image (256 * j + i)
-      apart i h =
-          elim (decLt j k) [
-            | yes low ↦ splice-below image (256 * k) sector (256 * j + i) (omega arith)
-            | no high ↦ splice-above image (256 * k) sector (256 * j + i) (omega (arith, other))
-          ]
+  sector-other j other =
+      part-same (splice image (256 * k) sector) image (256 * j) 256 (splice-length image (256 * k) sector)
+      (λ i low high.
+      elim (decLt j k) [
+        | yes before ↦ splice-below image (256 * k) sector i (omega arith)
+        | no behind ↦ splice-above image (256 * k) sector i (omega (arith, other))
+      ])
 
 -- several, one after the other: all whole sectors of the image
 unfoldable pub Whole : ℕ → List Write → Type 0
@@ -65,14 +59,24 @@ unfoldable pub Apart : ℕ → List Write → Type 0
 Apart j [] = Unit {0}
 Apart j (write ∷ writes) = (j ≡ write .sector → ⊥) × Apart j writes
 
-pub written-apart : (image : List ℕ) (writes : List Write) (j : ℕ) → Whole (length image) writes → Apart j writes → 256 * j + 256 ≤ length image
-    → sectorOf (written image writes) j ≡ sectorOf image j
+pub written-apart : (image : List ℕ) (writes : List Write) (j : ℕ) → Whole (length image) writes → Apart j writes → sectorOf (written image writes) j ≡ sectorOf image j
 unfolding written Whole Apart
-written-apart image [] j whole apart inside = refl
-written-apart image (write ∷ writes) j whole apart inside =
+written-apart image [] j whole apart = refl
+written-apart image (write ∷ writes) j whole apart =
     let size = splice-length image (256 * write .sector) (write .bytes) in
-    written-apart (splice image (256 * write .sector) (write .bytes)) writes j (rw size (whole .2)) (apart .1) (rw size inside)
-    ∙ sector-other image (write .sector) (write .bytes) (whole .0) (whole .1) j (apart .0) inside
+    written-apart (splice image (256 * write .sector) (write .bytes)) writes j (rw size (whole .2)) (apart .1) ∙ sector-other image (write .sector) (write .bytes) (whole .0) j (apart .0)
+
+-- a sector that was written and that no later write names
+pub written-at : (image : List ℕ) (before : List Write) (this : Write) (behind : List Write) → Whole (length image) (before ++ (this ∷ behind)) → Apart (this .sector) behind
+    → sectorOf (written image (before ++ (this ∷ behind))) (this .sector) ≡ this .bytes
+unfolding written Whole
+written-at image [] this behind whole apart =
+    let size = splice-length image (256 * this .sector) (this .bytes) in
+    written-apart (splice image (256 * this .sector) (this .bytes)) behind (this .sector) (rw size (whole .2)) apart
+    ∙ sector-same image (this .sector) (this .bytes) (whole .0) (whole .1)
+written-at image (first ∷ before) this behind whole apart =
+    let size = splice-length image (256 * first .sector) (first .bytes) in
+    written-at (splice image (256 * first .sector) (first .bytes)) before this behind (rw size (whole .2)) apart
 
 -- a volume of the same size and label whose files are ks
 pub record Rebuilt (image after ks : List ℕ) : Type 0 where
@@ -87,11 +91,7 @@ pub record Rebuilt (image after ks : List ℕ) : Type 0 where
 
 label-kept : (n : ℕ) (before after : List ℕ) → length before ≡ 256 → length after ≡ 256 → ((i : ℕ) → i < 56 → byteAt after i ≡ byteAt before i) → IsLabel n before → IsLabel n after
 label-kept n before after long long′ same is =
-    let ten = part-length after 0 10 (omega arith) in
-    let name : part after 0 10 ≡ part before 0 10 =
-    ext-getD 0 (part after 0 10) (part before 0 10) (ten ∙ sym (part-length before 0 10 (omega arith)))
-    (λ i h. part-at after 0 10 i (omega (arith, ten)) ∙ same (0 + i) (omega (arith, ten)) ∙ sym (part-at before 0 10 i (omega (arith, ten))))
-    in
+    let name = part-same after before 0 10 (long′ ∙ sym long) (λ i low high. same i (omega arith)) in
     record {
       name = rw name (is .name);
       count = rw (same 10 (omega arith), same 11 (omega arith)) (is .count);
