@@ -16,26 +16,25 @@ mod sectors;
 mod wholes;
 
 pub(crate) use answer::{Answer, Written};
-pub(crate) use arguments::{Arguments, Desk, Given};
+pub(crate) use arguments::{Arguments, Desk, Given, NONE};
 pub(crate) use case::{compared, Case};
-pub(crate) use keeping::{DELETE, PROTECT, RENAME, UNPROTECT};
+pub(crate) use keeping::*;
 pub use looking::lines;
-pub(crate) use looking::{ENTRY, FREE_COUNT, JUDGE, LISTING, SUMMARY};
-pub(crate) use making::{CREATE, STORE};
-pub(crate) use plan::{Asked, Plan, Writing};
-pub(crate) use reading::{LOAD, READ};
-pub(crate) use sectors::{APPEND, OVERWRITE};
-pub(crate) use wholes::{FORMAT, PACK};
+pub(crate) use looking::*;
+pub(crate) use making::*;
+pub(crate) use plan::{Asked, Listed, Plan, Reading, Writing};
+pub(crate) use reading::*;
+pub(crate) use sectors::*;
+pub(crate) use wholes::*;
 
 use crate::pnoelithe;
 use crate::random::Random;
 use crate::reference::Refusal;
 use crate::speed::Measured;
-use crate::volumes::Name;
 use lent::Lent;
 
 /// Every call of the header, in its order.
-pub(crate) static CALLS: [&Call; 17] = [
+pub(crate) static CALLS: &[&Call] = &[
     &JUDGE,
     &FORMAT,
     &FREE_COUNT,
@@ -67,9 +66,6 @@ pub(crate) struct Call {
     pub often: Often,
     /// Arguments by chance.
     pub any: fn(&Desk, &mut Random) -> Arguments,
-    /// All that can be read of a volume with these files; at each end one step further, under names
-    /// that no file has, and with buffers that are too short.
-    pub all: fn(&[Listed]) -> Vec<Arguments>,
     /// The library's number.
     pub by_library: fn(Lent, &Arguments) -> u32,
     /// The same as a host in Rust asks it. What it gives back, in place of writing it behind
@@ -90,9 +86,6 @@ pub(crate) type Test = (u32, fn(&Asked) -> bool);
 
 /// What a call may meet, and whether a case does.
 pub(crate) type Meeting = (&'static str, fn(&Case) -> bool);
-
-/// A file of a volume: its name and its number of sectors.
-pub(crate) type Listed = (Name, usize);
 
 /// How often a call comes among others: of those that are made singly, and of those that write in
 /// a sequence, by the sequence's mood.
@@ -130,7 +123,7 @@ pub(crate) const EVEN: Mood = |often| often.filling.min(1);
 
 /// The calls that come in a mood.
 pub(crate) fn calls_in(mood: Mood) -> impl Iterator<Item = &'static Call> {
-    CALLS.into_iter().filter(move |call| mood(&call.often) > 0)
+    CALLS.iter().copied().filter(move |call| mood(&call.often) > 0)
 }
 
 /// Any call, each as often as the mood has it, with arguments.
@@ -156,6 +149,13 @@ impl Call {
         let of_image = if self.is_judging() { &NUMBERS[..7] } else { &NUMBERS[..1] };
         let tested = self.tests.iter().map(|(number, _)| *number);
         of_image.iter().copied().chain(tested).collect()
+    }
+
+    pub(crate) fn reading(&self) -> Option<&Reading> {
+        match &self.by_plan {
+            Plan::Reads(reading) => Some(reading),
+            _ => None,
+        }
     }
 
     pub(crate) fn writing(&self) -> Option<&Writing> {

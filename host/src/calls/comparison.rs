@@ -20,7 +20,7 @@ const CHANGES: usize = 60;
 const MET: &[Meeting] = &[
     ("unsound image and bad name", |case| case.is_unsound() && case.due.contains(&7)),
     ("unsound image and short buffer", |case| case.is_unsound() && case.due.contains(&15)),
-    ("place, offset or n of 2^31 or more", |case| case.asked.arguments.at >= 1 << 31),
+    ("place, offset or n of 2^31 or more", |case| case.asked.at >= 1 << 31),
     ("buffer one byte short", |case| case.number == 15 && case.spare() == Some(-1)),
     ("buffer of just the length", |case| case.is_done() && case.spare() == Some(0)),
     ("buffer with bytes to spare", |case| case.is_done() && case.spare() > Some(0)),
@@ -64,8 +64,8 @@ impl Part for Calls {
         let image = Image::of_outside(outside);
         let files = outside::files(&outside.image);
         self.outside += 1;
-        for call in CALLS {
-            for arguments in (call.all)(&files) {
+        for (call, reading) in CALLS.iter().filter_map(|call| Some((call, call.reading()?))) {
+            for arguments in (reading.all)(&files) {
                 self.call(call, &arguments, &image, random)?;
                 *self.on_outside.entry(call.title).or_default() += 1;
             }

@@ -6,13 +6,13 @@ use crate::reference;
 use crate::sequences::Shelf;
 use crate::suites::Image;
 use crate::table::lent::Memory;
-use crate::table::{self, Arguments, Case, PACK};
+use crate::table::{self, Arguments, Case, NONE, PACK};
 
 /// The bytes of the target, or the number of a refusal.
 pub(super) type Answer = Result<Vec<u8>, u32>;
 
 pub(super) fn into_target(bytes: usize) -> Arguments {
-    Arguments { room: bytes, ..Arguments::default() }
+    Arguments { room: bytes, ..NONE }
 }
 
 pub(super) fn answer(case: Case) -> Answer {

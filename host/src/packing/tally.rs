@@ -29,7 +29,7 @@ const MET: &[Meeting] = &[
     ("unsound source and target of another length", |case| {
         case.is_unsound() && !is_off_by(case, 0)
     }),
-    ("target of no byte", |case| case.number == 15 && case.asked.arguments.room == 0),
+    ("target of no byte", |case| case.number == 15 && case.asked.room == 0),
     ("target a byte shorter or longer", |case| case.number == 15 && is_off_by(case, 1)),
     ("target a sector shorter or longer", |case| case.number == 15 && is_off_by(case, 256)),
     ("target 65,536 bytes shorter or longer", |case| case.number == 15 && is_off_by(case, 65_536)),
@@ -46,7 +46,7 @@ fn packs_file(case: &Case, rule: fn(&File) -> bool) -> bool {
 
 /// Whether the target has so many bytes more or less than the source.
 fn is_off_by(case: &Case, bytes: usize) -> bool {
-    let (source, target) = (case.asked.image.bytes.len(), case.asked.arguments.room);
+    let (source, target) = (case.asked.image.bytes.len(), case.asked.room);
     source + bytes == target || target + bytes == source
 }
 

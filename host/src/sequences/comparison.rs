@@ -9,8 +9,8 @@ use crate::random::Random;
 use crate::reference;
 use crate::table::arguments::four_bytes;
 use crate::table::plan::is_good;
-use crate::table::{self, calls_in, Arguments, Call, Desk, Given, Meeting, Mood, FORMAT};
-use crate::table::{EVEN, FILLING, NUMBERS, SINGLE, WEARING};
+use crate::table::{self, calls_in, Arguments, Call, Desk, Given, Meeting, Mood};
+use crate::table::{EVEN, FILLING, FORMAT, NONE, NUMBERS, SINGLE, WEARING};
 use crate::tally::Tally;
 use crate::volumes::{names, Disk, Name, SECTOR_BYTES};
 
@@ -188,7 +188,7 @@ impl Steps<'_> {
         let at = self.sequence.image().len() / SECTOR_BYTES;
         let name = Given::whole(&names(1, self.random)[0]);
         let bytes = four_bytes(self.random);
-        let arguments = Arguments { name, at, bytes, ..Arguments::default() };
+        let arguments = Arguments { name, at, bytes, ..NONE };
         self.sequence.call(&FORMAT, &arguments, self.random, self.tally).map(|_| ())
     }
 }

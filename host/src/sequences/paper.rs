@@ -6,7 +6,7 @@ use super::sequence::Sequence;
 use crate::paper::{all_shown, CASE_M};
 use crate::pnoelithe::{catalogue, padded};
 use crate::random::Random;
-use crate::table::{Arguments, Call, Given, APPEND, CREATE, FORMAT, STORE};
+use crate::table::{Arguments, Call, Given, APPEND, CREATE, FORMAT, NONE, STORE};
 use crate::tally::Tally;
 use crate::volumes::{Disk, MOST_FILES, SECTOR_BYTES};
 
@@ -33,7 +33,7 @@ impl Bench<'_> {
         let disk = Disk { sectors, files: Vec::new(), image };
         let mut sequence = Sequence::on(disk);
         let (name, bytes) = (named("SHELF"), [9, 40, 1, 1]);
-        let arguments = Arguments { name, at: sectors, bytes, ..Arguments::default() };
+        let arguments = Arguments { name, at: sectors, bytes, ..NONE };
         self.call(&mut sequence, &FORMAT, arguments)?;
         Ok(sequence)
     }
@@ -49,19 +49,19 @@ impl Bench<'_> {
 
     fn store(&mut self, sequence: &mut Sequence, name: &str, length: usize) -> Result<u32, String> {
         let other = Given::whole(&self.random.bytes(length));
-        let arguments = Arguments { name: named(name), other, ..Arguments::default() };
+        let arguments = Arguments { name: named(name), other, ..NONE };
         self.call(sequence, &STORE, arguments)
     }
 
     fn create(&mut self, sequence: &mut Sequence, name: &str, status: u8) -> Result<u32, String> {
         let bytes = [status, 80, 3, 0];
-        let arguments = Arguments { name: named(name), bytes, ..Arguments::default() };
+        let arguments = Arguments { name: named(name), bytes, ..NONE };
         self.call(sequence, &CREATE, arguments)
     }
 
     fn append(&mut self, sequence: &mut Sequence, name: &str) -> Result<u32, String> {
         let other = Given::whole(&self.random.bytes(SECTOR_BYTES));
-        let arguments = Arguments { name: named(name), other, ..Arguments::default() };
+        let arguments = Arguments { name: named(name), other, ..NONE };
         self.call(sequence, &APPEND, arguments)
     }
 

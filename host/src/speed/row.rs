@@ -4,7 +4,7 @@ use super::volume::Volume;
 use super::{NOBODY, TIMES};
 use crate::random::Random;
 use crate::reference;
-use crate::table::lent::Memory;
+use crate::table::lent::{Lent, Memory};
 use crate::table::{Arguments, Call};
 
 pub(super) struct Row {
@@ -40,12 +40,12 @@ impl Row {
     /// Makes the call again and again, each time on a fresh copy of the image.
     pub(super) fn repeat(&self, side: &str) -> Result<(), String> {
         let call = match side {
-            NOBODY => |_: &Call, _: &mut Memory, _: &Arguments| {},
-            "library" => |call: &Call, memory: &mut Memory, arguments: &Arguments| {
-                (call.by_library)(memory.lent(), arguments);
+            NOBODY => |_: &Call, _: Lent, _: &Arguments| {},
+            "library" => |call: &Call, lent: Lent, arguments: &Arguments| {
+                (call.by_library)(lent, arguments);
             },
-            "reference" => |call: &Call, memory: &mut Memory, arguments: &Arguments| {
-                drop((call.by_reference)(memory.image.lent(), arguments));
+            "reference" => |call: &Call, lent: Lent, arguments: &Arguments| {
+                drop((call.by_reference)(lent.image, arguments));
             },
             _ => return Err(format!("no such side: {}", side)),
         };
@@ -54,7 +54,7 @@ impl Row {
         let mut memory = before.memory.clone();
         for _ in 0..TIMES {
             memory.image.lent().copy_from_slice(before.memory.image.seen());
-            call(self.call, &mut memory, &before.arguments);
+            call(self.call, memory.lent(), &before.arguments);
         }
         Ok(())
     }

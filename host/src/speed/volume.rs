@@ -1,7 +1,7 @@
 //! Full volumes, and such as a call makes full.
 
 use crate::random::Random;
-use crate::table::{Arguments, Given};
+use crate::table::{Arguments, Given, NONE};
 use crate::volumes::{names, Disk, File, Name, Run, SECTOR_BYTES};
 
 /// Of the volumes that all calls are measured on.
@@ -93,7 +93,7 @@ impl Full {
 
     /// A buffer that everything fits into.
     pub(crate) fn for_buffer(&self) -> Arguments {
-        Arguments { room: self.disk.image.len(), ..Arguments::default() }
+        Arguments { room: self.disk.image.len(), ..NONE }
     }
 }
 

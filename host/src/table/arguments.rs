@@ -8,7 +8,7 @@ use crate::volumes::{names, Disk, File, Name, SECTOR_BYTES};
 use std::fmt::{self, Debug, Formatter};
 
 /// Each call takes some of these.
-#[derive(Clone, Debug, Default)]
+#[derive(Clone, Debug)]
 pub(crate) struct Arguments {
     /// Of the disk, or of the file that is read, made or changed.
     pub name: Given,
@@ -22,15 +22,21 @@ pub(crate) struct Arguments {
     pub room: usize,
 }
 
+/// What a call has that takes none; others are this but for what they take.
+pub(crate) const NONE: Arguments =
+    Arguments { name: Given::NOTHING, other: Given::NOTHING, at: 0, bytes: [0; 4], room: 0 };
+
 /// A name, or data to write, as it is lent: so many of the bytes, with more behind them that do not
 /// count.
-#[derive(Clone, Default)]
+#[derive(Clone)]
 pub(crate) struct Given {
     pub(super) bytes: Vec<u8>,
     pub(super) length: usize,
 }
 
 impl Given {
+    const NOTHING: Given = Given { bytes: Vec::new(), length: 0 };
+
     pub(crate) fn whole(bytes: &[u8]) -> Self {
         Given { bytes: bytes.to_vec(), length: bytes.len() }
     }

@@ -37,7 +37,7 @@ impl Case<'_> {
         if !has_buffer || ![0, 15].contains(&self.number) {
             return None;
         }
-        Some(self.asked.arguments.room as isize - takes(self.call, &self.asked)? as isize)
+        Some(self.asked.room as isize - takes(self.call, &self.asked)? as isize)
     }
 }
 

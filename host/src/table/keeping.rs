@@ -2,7 +2,7 @@
 
 use super::arguments::malformed;
 use super::plan::{absent, bad_name, called, find, is_good, is_protected, protected};
-use super::{Answer, Arguments, Call, Case, Often, Plan, Writing};
+use super::{Answer, Arguments, Call, Case, Often, Plan, Writing, NONE};
 use crate::library::ask;
 use crate::speed::{volume, Before, Measured, Volume, ALL, MANY, ONE, PIECES};
 use crate::{pnoelithe, reference};
@@ -14,9 +14,8 @@ pub(crate) static DELETE: Call = Call {
     often: Often::writing(2, 19, 8, 8),
     any: |desk, random| {
         let name = desk.present(|file| !is_protected(file), random);
-        Arguments { name, ..Arguments::default() }
+        Arguments { name, ..NONE }
     },
-    all: |_| Vec::new(),
     by_library: |lent, _| ask!(pno_delete, [lent.image], [lent.name]),
     by_host: |lent, _| pnoelithe::delete(lent.image, lent.name),
     by_reference: |image, asked| reference::delete(image, asked.name.lent()).map(|()| Answer::Done),
@@ -32,7 +31,7 @@ pub(crate) static DELETE: Call = Call {
         case.is_done() && case.asked.on_file(|file| file.runs.len() > 1)
     })],
     measured: Measured {
-        arguments: |full| Arguments { name: full.name(), ..Arguments::default() },
+        arguments: |full| Arguments { name: full.name(), ..NONE },
         on: &[("", Before::Data, &[MANY, PIECES, LARGE, ONE])],
     },
 };
@@ -42,9 +41,9 @@ const LARGE: Volume = volume("129 sectors in 74 blocks; 126 files of 9", (126, 9
 pub(crate) static RENAME: Call = Call {
     title: "rename",
     tests: &[
-        (7, |asked| bad_name(asked) || !is_good(&asked.arguments.other)),
+        (7, |asked| bad_name(asked) || !is_good(&asked.other)),
         (8, absent),
-        (9, |asked| asked.on_disk(|disk| find(disk, &asked.arguments.other).is_some())),
+        (9, |asked| asked.on_disk(|disk| find(disk, &asked.other).is_some())),
         (10, protected),
     ],
     together: &[(7, &[8, 9, 10]), (8, &[9]), (9, &[10])],
@@ -60,9 +59,8 @@ pub(crate) static RENAME: Call = Call {
             3 => malformed(random),
             _ => desk.new_name(random),
         };
-        Arguments { name, other, ..Arguments::default() }
+        Arguments { name, other, ..NONE }
     },
-    all: |_| Vec::new(),
     by_library: |lent, _| ask!(pno_rename, [lent.image], [lent.name], [lent.other]),
     by_host: |lent, _| pnoelithe::rename(lent.image, lent.name, lent.other),
     by_reference: |image, asked| {
@@ -81,11 +79,7 @@ pub(crate) static RENAME: Call = Call {
         case.number == 9 && name.lent() == other.lent()
     })],
     measured: Measured {
-        arguments: |full| Arguments {
-            name: full.name(),
-            other: full.new_name(),
-            ..Arguments::default()
-        },
+        arguments: |full| Arguments { name: full.name(), other: full.new_name(), ..NONE },
         on: &[("", Before::Data, &ALL)],
     },
 };
@@ -95,8 +89,7 @@ pub(crate) static PROTECT: Call = Call {
     tests: &[(7, bad_name), (8, absent)],
     together: &[],
     often: Often::writing(3, 4, 2, 2),
-    any: |desk, random| Arguments { name: desk.present(|_| true, random), ..Arguments::default() },
-    all: |_| Vec::new(),
+    any: |desk, random| Arguments { name: desk.present(|_| true, random), ..NONE },
     by_library: |lent, _| ask!(pno_protect, [lent.image], [lent.name]),
     by_host: |lent, _| pnoelithe::protect(lent.image, lent.name),
     by_reference: |image, asked| {
@@ -112,7 +105,7 @@ pub(crate) static PROTECT: Call = Call {
     }),
     met: &[("protected file protected", |case| is_on_protected(case, true))],
     measured: Measured {
-        arguments: |full| Arguments { name: full.name(), ..Arguments::default() },
+        arguments: |full| Arguments { name: full.name(), ..NONE },
         on: &[("", Before::Data, &ALL)],
     },
 };
@@ -122,11 +115,7 @@ pub(crate) static UNPROTECT: Call = Call {
     tests: &[(7, bad_name), (8, absent)],
     together: &[],
     often: Often::writing(5, 6, 4, 8),
-    any: |desk, random| Arguments {
-        name: desk.present(is_protected, random),
-        ..Arguments::default()
-    },
-    all: |_| Vec::new(),
+    any: |desk, random| Arguments { name: desk.present(is_protected, random), ..NONE },
     by_library: |lent, _| ask!(pno_unprotect, [lent.image], [lent.name]),
     by_host: |lent, _| pnoelithe::unprotect(lent.image, lent.name),
     by_reference: |image, asked| {
@@ -141,10 +130,7 @@ pub(crate) static UNPROTECT: Call = Call {
         look: None,
     }),
     met: &[("unprotected file unprotected", |case| is_on_protected(case, false))],
-    measured: Measured {
-        arguments: |full| Arguments { name: full.name(), ..Arguments::default() },
-        on: &[],
-    },
+    measured: Measured { arguments: |full| Arguments { name: full.name(), ..NONE }, on: &[] },
 };
 
 fn is_on_protected(case: &Case, protected: bool) -> bool {

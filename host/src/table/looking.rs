@@ -3,7 +3,7 @@
 use super::answer::number_of_kind;
 use super::arguments::{around, room_for};
 use super::plan::{is_protected, length_of};
-use super::{Answer, Arguments, Call, Often, Plan, Written};
+use super::{Answer, Arguments, Call, Often, Plan, Reading, Written, NONE};
 use crate::library::ask;
 use crate::speed::{Before, Measured, ALL};
 use crate::volumes::{Disk, File, HEADER_BYTES, MOST_SECTORS, SECTOR_BYTES};
@@ -14,14 +14,13 @@ pub(crate) static JUDGE: Call = Call {
     tests: &[],
     together: &[],
     often: Often::single(1),
-    any: |_, _| Arguments::default(),
-    all: |_| vec![Arguments::default()],
+    any: |_, _| NONE,
     by_library: |lent, _| ask!(pno_judge, [lent.image]),
     by_host: |lent, _| pnoelithe::judge(lent.image),
     by_reference: |image, _| reference::judge(image).map(|_| Answer::Done),
-    by_plan: Plan::Reads(|_, _| Some(Written::default())),
+    by_plan: Plan::Reads(Reading { of_disk: |_, _| Some(Written::default()), all: |_| vec![NONE] }),
     met: &[],
-    measured: Measured { arguments: |_| Arguments::default(), on: &[] },
+    measured: Measured { arguments: |_| NONE, on: &[] },
 };
 
 pub(crate) static FREE_COUNT: Call = Call {
@@ -29,17 +28,19 @@ pub(crate) static FREE_COUNT: Call = Call {
     tests: &[],
     together: &[],
     often: Often::single(1),
-    any: |_, _| Arguments::default(),
-    all: |_| vec![Arguments::default()],
+    any: |_, _| NONE,
     by_library: |lent, _| ask!(pno_free_count, [lent.image], &mut lent.numbers[0]),
     by_host: |lent, _| {
         lent.numbers[0] = pnoelithe::free_count(lent.image)?;
         Ok(())
     },
     by_reference: |image, _| reference::free_count(image).map(Answer::Number),
-    by_plan: Plan::Reads(|disk, _| Some(Written::new(&[], &[disk.free().len()]))),
+    by_plan: Plan::Reads(Reading {
+        of_disk: |disk, _| Some(Written::new(&[], &[disk.free().len()])),
+        all: |_| vec![NONE],
+    }),
     met: &[],
-    measured: Measured { arguments: |_| Arguments::default(), on: &[("", Before::Data, &ALL)] },
+    measured: Measured { arguments: |_| NONE, on: &[("", Before::Data, &ALL)] },
 };
 
 /// The buffer has the ten bytes of the disk name.
@@ -49,7 +50,6 @@ pub(crate) static SUMMARY: Call = Call {
     together: &[],
     often: Often::single(1),
     any: |_, _| for_a_name(),
-    all: |_| vec![for_a_name()],
     by_library: |lent, _| {
         let [n, files, free_sectors, _] = lent.numbers;
         let disk_name = lent.buffer.as_mut_ptr();
@@ -63,23 +63,26 @@ pub(crate) static SUMMARY: Call = Call {
         Ok(())
     },
     by_reference: |image, _| reference::summary(image).map(Answer::Summary),
-    by_plan: Plan::Reads(|disk, _| {
-        let numbers = [disk.sectors, disk.files.len(), disk.free().len()];
-        Some(Written::new(&disk.image[..10], &numbers))
+    by_plan: Plan::Reads(Reading {
+        of_disk: |disk, _| {
+            let numbers = [disk.sectors, disk.files.len(), disk.free().len()];
+            Some(Written::new(&disk.image[..10], &numbers))
+        },
+        all: |_| vec![for_a_name()],
     }),
     met: &[],
     measured: Measured { arguments: |_| for_a_name(), on: &[("", Before::Data, &ALL)] },
 };
 
 fn for_a_name() -> Arguments {
-    Arguments { room: 10, ..Arguments::default() }
+    Arguments { room: 10, ..NONE }
 }
 
 pub(crate) static ENTRY: Call = Call {
     title: "entry",
     tests: &[
-        (8, |asked| asked.on_disk(|disk| asked.arguments.at >= disk.files.len())),
-        (15, |asked| asked.arguments.room < HEADER_BYTES),
+        (8, |asked| asked.on_disk(|disk| asked.at >= disk.files.len())),
+        (15, |asked| asked.room < HEADER_BYTES),
     ],
     together: &[(8, &[15])],
     often: Often::single(3),
@@ -89,12 +92,7 @@ pub(crate) static ENTRY: Call = Call {
             1 => random.pick(&[HEADER_BYTES, HEADER_BYTES + 1]),
             _ => random.pick(&[HEADER_BYTES + 2, 255, 256, 257, 256 + HEADER_BYTES - 1]),
         };
-        Arguments { at: around(desk.disk.files.len(), random), room, ..Arguments::default() }
-    },
-    all: |files| {
-        let rooms = [HEADER_BYTES - 1, HEADER_BYTES, HEADER_BYTES + 2];
-        let at_place = |at| rooms.map(|room| Arguments { at, room, ..Arguments::default() });
-        (0..=files.len()).flat_map(at_place).collect()
+        Arguments { at: around(desk.disk.files.len(), random), room, ..NONE }
     },
     by_library: |lent, asked| {
         let [kind, length, sectors, is_protected] = lent.numbers;
@@ -107,14 +105,21 @@ pub(crate) static ENTRY: Call = Call {
         Ok(())
     },
     by_reference: |image, asked| reference::entry(image, asked.at, asked.room).map(Answer::Entry),
-    by_plan: Plan::Reads(|disk, asked| {
-        let file = disk.files.get(asked.at)?;
-        let numbers = [kind(file).0, length_of(file), file.count(), is_protected(file).into()];
-        Some(Written::new(&file.header, &numbers))
+    by_plan: Plan::Reads(Reading {
+        of_disk: |disk, asked| {
+            let file = disk.files.get(asked.at)?;
+            let numbers = [kind(file).0, length_of(file), file.count(), is_protected(file).into()];
+            Some(Written::new(&file.header, &numbers))
+        },
+        all: |files| {
+            let rooms = [HEADER_BYTES - 1, HEADER_BYTES, HEADER_BYTES + 2];
+            let at_place = |at| rooms.map(|room| Arguments { at, room, ..NONE });
+            (0..=files.len()).flat_map(at_place).collect()
+        },
     }),
     met: &[("place one past the last", |case| {
         let places = case.asked.disk().map(|disk| disk.files.len());
-        case.number == 8 && places == Some(case.asked.arguments.at)
+        case.number == 8 && places == Some(case.asked.at)
     })],
     measured: Measured {
         arguments: |full| Arguments { at: full.place(), ..full.for_buffer() },
@@ -126,26 +131,25 @@ pub(crate) static ENTRY: Call = Call {
 pub(crate) static LISTING: Call = Call {
     title: "listing",
     tests: &[(15, |asked| {
-        let room = asked.arguments.room;
+        let room = asked.room;
         asked.disk().map_or(room == 0, |disk| room < lines(disk).len())
     })],
     together: &[],
     often: Often::single(2),
-    any: |desk, random| Arguments {
-        room: room_for(lines(desk.disk).len(), random),
-        ..Arguments::default()
-    },
-    all: |_| {
-        let rooms = [0, SECTOR_BYTES * MOST_SECTORS];
-        rooms.map(|room| Arguments { room, ..Arguments::default() }).into()
-    },
+    any: |desk, random| Arguments { room: room_for(lines(desk.disk).len(), random), ..NONE },
     by_library: |lent, _| ask!(pno_listing, [lent.image], [lent.buffer], &mut lent.numbers[0]),
     by_host: |lent, _| {
         lent.numbers[0] = pnoelithe::listing(lent.image, lent.buffer)?.len();
         Ok(())
     },
     by_reference: |image, asked| reference::listing(image, asked.room).map(Answer::Text),
-    by_plan: Plan::Reads(|disk, _| Some(Written::counted(lines(disk).as_bytes()))),
+    by_plan: Plan::Reads(Reading {
+        of_disk: |disk, _| Some(Written::counted(lines(disk).as_bytes())),
+        all: |_| {
+            let rooms = [0, SECTOR_BYTES * MOST_SECTORS];
+            rooms.map(|room| Arguments { room, ..NONE }).into()
+        },
+    }),
     met: &[],
     measured: Measured { arguments: |full| full.for_buffer(), on: &[("", Before::Data, &ALL)] },
 };

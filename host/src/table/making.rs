@@ -1,7 +1,7 @@
 //! Calls that make a file: create and store.
 
 use super::plan::{bad_name, fill, full_index, grown, is_too_long, present};
-use super::{Answer, Arguments, Asked, Call, Case, Given, Often, Plan, Writing, LOAD};
+use super::{Answer, Arguments, Asked, Call, Case, Given, Often, Plan, Writing, LOAD, NONE};
 use crate::library::ask;
 use crate::speed::{volume, Before, Measured, Volume};
 use crate::volumes::{Disk, File, Run, HEADER_BYTES, MOST_BLOCKS, MOST_FILES, SECTOR_BYTES};
@@ -17,7 +17,7 @@ pub(crate) static CREATE: Call = Call {
     tests: &[
         (7, bad_name),
         (9, present),
-        (15, |asked| !CREATED.contains(&asked.arguments.bytes[0])),
+        (15, |asked| !CREATED.contains(&asked.bytes[0])),
         (11, full_index),
         (12, |asked| asked.lacks(1)),
     ],
@@ -31,9 +31,8 @@ pub(crate) static CREATE: Call = Call {
         };
         let bytes = [status, random.byte(), random.byte(), 0];
         let name = desk.name_where(desk.disk.files.len() == MOST_FILES, random);
-        Arguments { name, bytes, ..Arguments::default() }
+        Arguments { name, bytes, ..NONE }
     },
-    all: |_| Vec::new(),
     by_library: |lent, asked| {
         let [status, record_length, records_per_sector, _] = asked.bytes;
         ask!(pno_create, [lent.image], [lent.name], status, record_length, records_per_sector)
@@ -70,11 +69,7 @@ pub(crate) static CREATE: Call = Call {
     ],
     measured: Measured {
         // Display, variable, with records of 80 bytes.
-        arguments: |full| Arguments {
-            name: full.name(),
-            bytes: [0x80, 80, 3, 0],
-            ..Arguments::default()
-        },
+        arguments: |full| Arguments { name: full.name(), bytes: [0x80, 80, 3, 0], ..NONE },
         on: &[("", Before::Absent, &FOR_A_DESCRIPTOR)],
     },
 };
@@ -90,7 +85,7 @@ pub(crate) static STORE: Call = Call {
     tests: &[
         (7, bad_name),
         (9, present),
-        (15, |asked| asked.arguments.other.lent().len() > MOST_PROGRAM_BYTES),
+        (15, |asked| asked.other.lent().len() > MOST_PROGRAM_BYTES),
         (11, full_index),
         (12, |asked| asked.lacks(1 + sectors(asked.arguments))),
         (13, |asked| is_too_long(stored(asked))),
@@ -122,9 +117,8 @@ pub(crate) static STORE: Call = Call {
             _ => random.below(3 * SECTOR_BYTES),
         };
         let name = desk.name_where(is_in_pieces, random);
-        Arguments { name, other: Given::whole(&random.bytes(length)), ..Arguments::default() }
+        Arguments { name, other: Given::whole(&random.bytes(length)), ..NONE }
     },
-    all: |_| Vec::new(),
     by_library: |lent, _| ask!(pno_store, [lent.image], [lent.name], [lent.other]),
     by_host: |lent, _| pnoelithe::store(lent.image, lent.name, lent.other),
     by_reference: |image, asked| {
@@ -149,7 +143,7 @@ pub(crate) static STORE: Call = Call {
         },
         look: Some(("program loaded that was just stored", |_, asked| {
             let (name, room) = (asked.name.clone(), asked.other.lent().len());
-            (&LOAD, Arguments { name, room, ..Arguments::default() })
+            (&LOAD, Arguments { name, room, ..NONE })
         })),
     }),
     met: &[
@@ -169,11 +163,7 @@ pub(crate) static STORE: Call = Call {
         ("128th file asked for on a full disk", is_out_of_both),
     ],
     measured: Measured {
-        arguments: |full| Arguments {
-            name: full.name(),
-            other: full.program(),
-            ..Arguments::default()
-        },
+        arguments: |full| Arguments { name: full.name(), other: full.program(), ..NONE },
         on: &[
             (" of 32,768 bytes", Before::Absent, &FOR_A_PROGRAM),
             (" of no byte", Before::Absent, &FOR_BOTH),
@@ -224,7 +214,7 @@ fn stores(case: &Case, rule: fn(&[Run]) -> bool) -> bool {
 }
 
 fn is_of(case: &Case, lengths: &[usize]) -> bool {
-    lengths.contains(&case.asked.arguments.other.lent().len())
+    lengths.contains(&case.asked.other.lent().len())
 }
 
 /// Whether the call is done and took so many sectors, and there were no more.

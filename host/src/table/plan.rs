@@ -7,18 +7,29 @@ use super::{Arguments, Call, Given, Written};
 use crate::reference;
 use crate::sequences::Shelved;
 use crate::suites::Image;
-use crate::volumes::{is_name, Disk, File, Run, MOST_BLOCKS, MOST_FILES, SECTOR_BYTES};
+use crate::volumes::{is_name, Disk, File, Name, Run, MOST_BLOCKS, MOST_FILES, SECTOR_BYTES};
+use std::ops::Deref;
 
 const FIRST_FOR_DATA: usize = 34;
 
 /// What a call that has no fault does.
 pub(crate) enum Plan {
-    /// What it gives of a disk, if its buffer is long enough; none where there is nothing to give.
-    Reads(fn(&Disk, &Arguments) -> Option<Written>),
+    Reads(Reading),
     /// The disk that it makes of an image of so many bytes, whatever they were.
     Formats(fn(usize, &Arguments) -> Disk),
     Writes(Writing),
 }
+
+pub(crate) struct Reading {
+    /// What is given of a disk if the buffer is long enough; none where there is nothing to give.
+    pub of_disk: fn(&Disk, &Arguments) -> Option<Written>,
+    /// All that can be read of a volume with these files; at each end one step further, under names
+    /// that no file has, and with buffers that are too short.
+    pub all: fn(&[Listed]) -> Vec<Arguments>,
+}
+
+/// A file of a volume: its name and its number of sectors.
+pub(crate) type Listed = (Name, usize);
 
 pub(crate) struct Writing {
     /// Changes the files and what lies in their sectors.
@@ -40,13 +51,21 @@ pub(crate) struct Asked<'case> {
     pub image: &'case Image<'case>,
 }
 
+impl Deref for Asked<'_> {
+    type Target = Arguments;
+
+    fn deref(&self) -> &Arguments {
+        self.arguments
+    }
+}
+
 impl<'case> Asked<'case> {
     pub(crate) fn disk(&self) -> Option<&'case Disk> {
         self.image.planned
     }
 
     pub(crate) fn file(&self) -> Option<&'case File> {
-        find(self.disk()?, &self.arguments.name)
+        find(self.disk()?, &self.name)
     }
 
     /// Whether the disk is known and keeps a rule.
@@ -61,7 +80,7 @@ impl<'case> Asked<'case> {
 
     /// How far the offset lies past the last, where it does.
     pub(super) fn past(&self) -> Option<usize> {
-        self.arguments.at.checked_sub(self.file()?.count())
+        self.at.checked_sub(self.file()?.count())
     }
 
     /// Whether fewer sectors are free than are taken.
@@ -72,7 +91,7 @@ impl<'case> Asked<'case> {
 
 /// Tests that several calls have, by their numbers.
 pub(super) fn bad_name(asked: &Asked) -> bool {
-    !is_good(&asked.arguments.name)
+    !is_good(&asked.name)
 }
 
 pub(super) fn absent(asked: &Asked) -> bool {
@@ -93,7 +112,7 @@ pub(super) fn program(asked: &Asked) -> bool {
 
 /// Data that is to be one sector is not.
 pub(super) fn not_a_sector(asked: &Asked) -> bool {
-    asked.arguments.other.lent().len() != SECTOR_BYTES
+    asked.other.lent().len() != SECTOR_BYTES
 }
 
 pub(super) fn full_index(asked: &Asked) -> bool {
@@ -189,8 +208,9 @@ pub(super) fn planned(call: &Call, asked: &Asked, faults: &[u32]) -> Option<Plan
         return None;
     }
     match (number, &call.by_plan, image.planned) {
-        (0, Plan::Reads(reads), Some(disk)) => {
-            written = reads(disk, arguments).expect("a call without fault has something to read");
+        (0, Plan::Reads(reading), Some(disk)) => {
+            let given = (reading.of_disk)(disk, arguments);
+            written = given.expect("a call without fault has something to read");
         }
         (0, Plan::Formats(formats), _) => disk = Some(formats(image.bytes.len(), arguments)),
         (0, Plan::Writes(writing), Some(planned)) => {
@@ -208,7 +228,9 @@ pub(super) fn planned(call: &Call, asked: &Asked, faults: &[u32]) -> Option<Plan
 /// How many bytes a reading call gives where its buffer is long enough, and the plan knows.
 pub(super) fn takes(call: &Call, asked: &Asked) -> Option<usize> {
     match &call.by_plan {
-        Plan::Reads(reads) => Some(reads(asked.disk()?, asked.arguments)?.bytes.len()),
+        Plan::Reads(reading) => {
+            Some((reading.of_disk)(asked.disk()?, asked.arguments)?.bytes.len())
+        }
         _ => None,
     }
 }

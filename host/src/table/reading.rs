@@ -2,7 +2,7 @@
 
 use super::arguments::{around, name_for, room_for, some_file};
 use super::plan::{absent, bad_name, find, is_program, is_protected, length_of};
-use super::{Answer, Arguments, Call, Case, Given, Listed, Often, Plan, Written};
+use super::{Answer, Arguments, Call, Case, Given, Listed, Often, Plan, Reading, Written, NONE};
 use crate::library::ask;
 use crate::speed::{volume, Before, Measured, Volume, ALL, SECTORS};
 use crate::volumes::{Disk, File, HEADER_BYTES, MOST_SECTORS, SECTOR_BYTES};
@@ -13,7 +13,7 @@ pub(crate) static READ: Call = Call {
     tests: &[
         (7, bad_name),
         (8, absent),
-        (15, |asked| asked.past().is_some() || asked.arguments.room < SECTOR_BYTES),
+        (15, |asked| asked.past().is_some() || asked.room < SECTOR_BYTES),
     ],
     together: &[(7, &[15]), (8, &[15])],
     often: Often::single(3),
@@ -27,31 +27,28 @@ pub(crate) static READ: Call = Call {
             _ => random.pick(&[SECTOR_BYTES + 1, SECTOR_BYTES + 2, 2 * SECTOR_BYTES, 1000]),
         };
         let at = around(file.map_or(1, File::count), random);
-        Arguments { name, at, room, ..Arguments::default() }
-    },
-    all: |files| {
-        let of_file = |(name, sectors): &Listed| {
-            let name = Given::whole(name);
-            let all = (0..=*sectors).map(|at| (at, SECTOR_BYTES + 2));
-            let first = [(0, SECTOR_BYTES - 1), (0, SECTOR_BYTES)];
-            let asked = move |(at, room)| Arguments {
-                name: name.clone(),
-                at,
-                room,
-                ..Arguments::default()
-            };
-            all.chain(first).map(asked).collect::<Vec<_>>()
-        };
-        files.iter().chain(&NO_FILES).flat_map(of_file).collect()
+        Arguments { name, at, room, ..NONE }
     },
     by_library: |lent, asked| ask!(pno_read, [lent.image], [lent.name], asked.at, [lent.buffer]),
     by_host: |lent, asked| pnoelithe::read(lent.image, lent.name, asked.at, lent.buffer).map(drop),
     by_reference: |image, asked| {
         reference::read(image, asked.name.lent(), asked.at, asked.room).map(Answer::Sector)
     },
-    by_plan: Plan::Reads(|disk, asked| {
-        let sector = find(disk, &asked.name)?.sectors().nth(asked.at)?;
-        Some(Written::new(&disk.image[SECTOR_BYTES * sector..][..SECTOR_BYTES], &[]))
+    by_plan: Plan::Reads(Reading {
+        of_disk: |disk, asked| {
+            let sector = find(disk, &asked.name)?.sectors().nth(asked.at)?;
+            Some(Written::new(&disk.image[SECTOR_BYTES * sector..][..SECTOR_BYTES], &[]))
+        },
+        all: |files| {
+            let of_file = |(name, sectors): &Listed| {
+                let name = Given::whole(name);
+                let all = (0..=*sectors).map(|at| (at, SECTOR_BYTES + 2));
+                let first = [(0, SECTOR_BYTES - 1), (0, SECTOR_BYTES)];
+                let asked = move |(at, room)| Arguments { name: name.clone(), at, room, ..NONE };
+                all.chain(first).map(asked).collect::<Vec<_>>()
+            };
+            files.iter().chain(&NO_FILES).flat_map(of_file).collect()
+        },
     }),
     met: &[
         ("offset one past the last", |case| {
@@ -61,7 +58,7 @@ pub(crate) static READ: Call = Call {
         ("sector of a program", |case| case.is_done() && case.asked.on_file(is_program)),
         ("sector of a protected file", |case| case.is_done() && case.asked.on_file(is_protected)),
         ("sector not in the first block", |case| {
-            let at = case.asked.arguments.at;
+            let at = case.asked.at;
             case.is_done() && case.asked.on_file(|file| at > file.last_offset(0))
         }),
     ],
@@ -77,7 +74,7 @@ pub(crate) static LOAD: Call = Call {
         (7, bad_name),
         (8, absent),
         (14, |asked| asked.on_file(|file| !is_program(file))),
-        (15, |asked| asked.on_file(|file| asked.arguments.room < length_of(file))),
+        (15, |asked| asked.on_file(|file| asked.room < length_of(file))),
     ],
     together: &[],
     often: Often::single(4),
@@ -88,15 +85,7 @@ pub(crate) static LOAD: Call = Call {
         let (length, sectors) = file.map_or((300, 2), |file| (length_of(file), file.count()));
         let is_whole = random.once_in(8);
         let room = if is_whole { SECTOR_BYTES * sectors } else { room_for(length, random) };
-        Arguments { name, room, ..Arguments::default() }
-    },
-    all: |files| {
-        let rooms = [0, SECTOR_BYTES * MOST_SECTORS];
-        let of_file = |(name, _): &Listed| {
-            let name = Given::whole(name);
-            rooms.map(|room| Arguments { name: name.clone(), room, ..Arguments::default() })
-        };
-        files.iter().chain(&NO_FILES).flat_map(of_file).collect()
+        Arguments { name, room, ..NONE }
     },
     by_library: |lent, _| {
         ask!(pno_load, [lent.image], [lent.name], [lent.buffer], &mut lent.numbers[0])
@@ -108,14 +97,24 @@ pub(crate) static LOAD: Call = Call {
     by_reference: |image, asked| {
         reference::load(image, asked.name.lent(), asked.room).map(Answer::Counted)
     },
-    by_plan: Plan::Reads(|disk, asked| {
-        let file = find(disk, &asked.name)?;
-        let mut content = content(disk, file);
-        content.truncate(length_of(file));
-        Some(Written::counted(&content))
+    by_plan: Plan::Reads(Reading {
+        of_disk: |disk, asked| {
+            let file = find(disk, &asked.name)?;
+            let mut content = content(disk, file);
+            content.truncate(length_of(file));
+            Some(Written::counted(&content))
+        },
+        all: |files| {
+            let rooms = [0, SECTOR_BYTES * MOST_SECTORS];
+            let of_file = |(name, _): &Listed| {
+                let name = Given::whole(name);
+                rooms.map(|room| Arguments { name: name.clone(), room, ..NONE })
+            };
+            files.iter().chain(&NO_FILES).flat_map(of_file).collect()
+        },
     }),
     met: &[
-        ("not a program and no buffer", |case| case.number == 14 && case.asked.arguments.room == 0),
+        ("not a program and no buffer", |case| case.number == 14 && case.asked.room == 0),
         ("program of no bytes", |case| loads(case, |length| length == 0)),
         ("program of more than 65,535 bytes", |case| loads(case, |length| length > 65_535)),
     ],

@@ -4,7 +4,7 @@ use super::arguments::{around, data, given_name, is_open_data, some_file};
 use super::making::fills;
 use super::plan::{absent, bad_name, called, fill, find, grown, is_program, is_protected};
 use super::plan::{is_too_long, not_a_sector, program, protected};
-use super::{Answer, Arguments, Asked, Call, Case, Often, Plan, Writing, READ};
+use super::{Answer, Arguments, Asked, Call, Case, Often, Plan, Writing, NONE, READ};
 use crate::library::ask;
 use crate::speed::{volume, Before, Measured, Volume, ALL, SECTORS};
 use crate::volumes::{names, Disk, File, Run, MOST_BLOCKS, SECTOR_BYTES};
@@ -36,9 +36,8 @@ pub(crate) static APPEND: Call = Call {
             2 => desk.present(|_| true, random),
             _ => desk.present(|file| !is_protected(file) && !is_program(file), random),
         };
-        Arguments { name, other: data(random), ..Arguments::default() }
+        Arguments { name, other: data(random), ..NONE }
     },
-    all: |_| Vec::new(),
     by_library: |lent, _| ask!(pno_append, [lent.image], [lent.name], [lent.other]),
     by_host: |lent, _| pnoelithe::append(lent.image, lent.name, lent.other),
     by_reference: |image, asked| {
@@ -79,11 +78,7 @@ pub(crate) static APPEND: Call = Call {
         ("append that takes the last free sector", |case| fills(case, 1)),
     ],
     measured: Measured {
-        arguments: |full| Arguments {
-            name: full.name(),
-            other: full.sector(),
-            ..Arguments::default()
-        },
+        arguments: |full| Arguments { name: full.name(), other: full.sector(), ..NONE },
         on: &[("", Before::LacksHighest, &FOR_A_SECTOR), ("", Before::LacksLowest, &[LOW])],
     },
 };
@@ -112,9 +107,8 @@ pub(crate) static OVERWRITE: Call = Call {
         let at = around(file.map_or(1, File::count), random);
         let name = file.map_or_else(|| names(1, random)[0], File::name);
         let name = given_name(name, random);
-        Arguments { name, at, other: data(random), ..Arguments::default() }
+        Arguments { name, at, other: data(random), ..NONE }
     },
-    all: |_| Vec::new(),
     by_library: |lent, asked| {
         ask!(pno_overwrite, [lent.image], [lent.name], asked.at, [lent.other])
     },
@@ -144,7 +138,7 @@ pub(crate) static OVERWRITE: Call = Call {
             name: full.name(),
             other: full.sector(),
             at: full.offset(),
-            ..Arguments::default()
+            ..NONE
         },
         on: &[("", Before::Data, &ALL)],
     },
@@ -153,7 +147,7 @@ pub(crate) static OVERWRITE: Call = Call {
 const READ_BACK: &str = "sector read that was just written";
 
 fn read_back(written: &Arguments, at: usize) -> Arguments {
-    Arguments { name: written.name.clone(), at, room: SECTOR_BYTES, ..Arguments::default() }
+    Arguments { name: written.name.clone(), at, room: SECTOR_BYTES, ..NONE }
 }
 
 /// The runs of the file after an append; none where there is no file or no room.

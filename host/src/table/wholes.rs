@@ -2,7 +2,7 @@
 
 use super::arguments::{beyond, four_bytes, given_name};
 use super::plan::bad_name;
-use super::{Answer, Arguments, Call, Often, Plan, Written};
+use super::{Answer, Arguments, Call, Often, Plan, Reading, Written, NONE};
 use crate::library::ask;
 use crate::packing::moved;
 use crate::reference::Geometry;
@@ -16,7 +16,7 @@ pub(crate) static FORMAT: Call = Call {
     tests: &[
         (1, |asked| {
             // No n above the greatest gets as far as the product.
-            let (n, length) = (asked.arguments.at, asked.image.bytes.len());
+            let (n, length) = (asked.at, asked.image.bytes.len());
             !(3..=MOST_SECTORS).contains(&n) || length != SECTOR_BYTES * n
         }),
         (7, bad_name),
@@ -32,9 +32,8 @@ pub(crate) static FORMAT: Call = Call {
             _ => sectors,
         };
         let (bytes, name) = (four_bytes(random), names(1, random)[0]);
-        Arguments { name: given_name(name, random), at, bytes, ..Arguments::default() }
+        Arguments { name: given_name(name, random), at, bytes, ..NONE }
     },
-    all: |_| Vec::new(),
     by_library: |lent, asked| {
         let [sectors_per_track, tracks, sides, density] = asked.bytes;
         ask!(
@@ -70,7 +69,7 @@ pub(crate) static FORMAT: Call = Call {
         ("format on an image of number 5", |case| case.asked.image.number == Some(5)),
         ("format on an image of number 6", |case| case.asked.image.number == Some(6)),
     ],
-    measured: Measured { arguments: |_| Arguments::default(), on: &[] },
+    measured: Measured { arguments: |_| NONE, on: &[] },
 };
 
 fn formatted(length: usize, asked: &Arguments) -> Disk {
@@ -91,15 +90,17 @@ fn formatted(length: usize, asked: &Arguments) -> Disk {
 /// The image is the source, and the buffer the target.
 pub(crate) static PACK: Call = Call {
     title: "pack",
-    tests: &[(15, |asked| asked.arguments.room != asked.image.bytes.len())],
+    tests: &[(15, |asked| asked.room != asked.image.bytes.len())],
     together: &[],
     often: Often::NEVER,
-    any: |desk, _| Arguments { room: desk.image_bytes, ..Arguments::default() },
-    all: |_| Vec::new(),
+    any: |desk, _| Arguments { room: desk.image_bytes, ..NONE },
     by_library: |lent, _| ask!(pno_pack, [lent.image], [lent.buffer]),
     by_host: |lent, _| pnoelithe::pack(lent.image, lent.buffer),
     by_reference: |image, asked| reference::pack(image, asked.room).map(Answer::Bytes),
-    by_plan: Plan::Reads(|disk, _| Some(Written::new(&packed(disk).image, &[]))),
+    by_plan: Plan::Reads(Reading {
+        of_disk: |disk, _| Some(Written::new(&packed(disk).image, &[])),
+        all: |_| Vec::new(),
+    }),
     met: &[],
     measured: Measured { arguments: |full| full.for_buffer(), on: &[("", Before::Data, &ALL)] },
 };
