@@ -119,7 +119,8 @@ pub(crate) const FILLING: Mood = |often| often.filling;
 pub(crate) const WEARING: Mood = |often| often.wearing;
 pub(crate) const STORING: Mood = |often| often.storing;
 pub(crate) const APPENDING: Mood = |often| often.appending;
-pub(crate) const EVEN: Mood = |often| often.filling.min(1);
+pub(crate) const EVEN: Mood =
+    |often| (often.filling + often.wearing + often.storing + often.appending).min(1);
 
 /// The calls that come in a mood.
 pub(crate) fn calls_in(mood: Mood) -> impl Iterator<Item = &'static Call> {

@@ -15,7 +15,7 @@ pub(super) struct Row {
 }
 
 /// What the call is asked with, and the memory before it.
-struct Before {
+struct Prepared {
     arguments: Arguments,
     memory: Memory,
 }
@@ -30,11 +30,11 @@ impl Row {
         format!("{} on {} sectors, {}", self.call_title(), sectors, what)
     }
 
-    fn before(&self) -> Before {
+    fn prepared(&self) -> Prepared {
         let full = self.volume.build();
         let arguments = (self.call.measured.arguments)(&full);
         let memory = Memory::of(&arguments, &full.disk.image, &mut Random::new(3));
-        Before { arguments, memory }
+        Prepared { arguments, memory }
     }
 
     /// Makes the call again and again, each time on a fresh copy of the image.
@@ -49,7 +49,7 @@ impl Row {
             },
             _ => return Err(format!("no such side: {}", side)),
         };
-        let before = self.before();
+        let before = self.prepared();
         self.check_with(&before)?;
         let mut memory = before.memory.clone();
         for _ in 0..TIMES {
@@ -62,10 +62,11 @@ impl Row {
     /// That both are done with the call and leave the same bytes, on a volume that is full before
     /// the call or after it.
     pub(super) fn check(&self) -> Result<(), String> {
-        self.check_with(&self.before())
+        self.check_with(&self.prepared())
     }
 
-    fn check_with(&self, Before { arguments, memory: before }: &Before) -> Result<(), String> {
+    fn check_with(&self, prepared: &Prepared) -> Result<(), String> {
+        let Prepared { arguments, memory: before } = prepared;
         let wrong = |what: &str| Err(format!("{}: {}", self.title(), what));
         let (mut lent, mut expected) = (before.clone(), before.clone());
         let written = match (self.call.by_reference)(expected.image.lent(), arguments) {
