@@ -30,14 +30,16 @@ impl Case<'_> {
         self.number == 0
     }
 
-    /// How many bytes the buffer has more than the answer takes, where the plan tells and the
-    /// arguments before the buffer are good.
+    /// How many bytes a buffer of any length has more than the answer takes: by the plan where that is
+    /// refused.
     pub(crate) fn spare(&self) -> Option<isize> {
-        let has_buffer = self.call.tests.iter().any(|(number, _)| *number == 15);
-        if !has_buffer || ![0, 15].contains(&self.number) {
-            return None;
-        }
-        Some(self.asked.room as isize - takes(self.call, &self.asked)? as isize)
+        let takes = match self.number {
+            0 => self.written.bytes.len(),
+            15 => takes(self.call, &self.asked)?,
+            _ => return None,
+        };
+        let is_of_any_length = self.call.tests.iter().any(|(number, _)| *number == 15);
+        is_of_any_length.then_some(self.asked.room as isize - takes as isize)
     }
 }
 
@@ -78,16 +80,16 @@ pub(crate) fn compared<'case>(
         format!("difference in {} on \"{}\": {:?}", call.title, image.what, arguments),
         format!("library {}{}", by_library, by_host),
         format!("reference {}", describe(number, &written)),
-        format!("plan {}", planned.map_or("not known".to_string(), |planned| told(&planned))),
+        planned.map_or("plan not known".to_string(), |planned| told(&planned, agreed)),
         memory.unwrap_or_else(|| "memory as the reference has it".to_string()),
         format!("image before the call kept as {}", image.keep()),
     ];
     Err(lines.join("\n  "))
 }
 
-fn told(planned: &Planned) -> String {
-    let other = if planned.disk.is_some() { ", and its image" } else { "" };
-    describe(planned.number, &planned.written) + other
+fn told(planned: &Planned, agreed: bool) -> String {
+    let otherwise = if agreed { "" } else { ", otherwise than the reference in number or bytes" };
+    format!("plan {}{}", describe(planned.number, &planned.written), otherwise)
 }
 
 fn describe(number: u32, Written { bytes, numbers }: &Written) -> String {
