@@ -6,6 +6,7 @@
 //! the library to its bounds; `bench time` writes the judges' table in nanoseconds.
 
 use host::speed::{write_times, Table, NOBODY, TABLES, TIMES};
+use host::table;
 use std::collections::HashMap;
 use std::io::Read;
 use std::process::ExitCode;
@@ -14,7 +15,7 @@ fn main() -> ExitCode {
     let words: Vec<String> = std::env::args().skip(1).collect();
     let words: Vec<&str> = words.iter().map(String::as_str).collect();
     let done = match words[..] {
-        ["check"] => TABLES.iter().try_for_each(|table| (table.check)()),
+        ["check"] => check(),
         ["runs"] => name_runs(),
         ["repeat", table, row, side] => repeat(table, row, side),
         ["tables"] => write_tables(),
@@ -28,6 +29,11 @@ fn main() -> ExitCode {
             ExitCode::FAILURE
         }
     }
+}
+
+fn check() -> Result<(), String> {
+    table::check()?;
+    TABLES.iter().try_for_each(|table| (table.check)())
 }
 
 fn name_runs() -> Result<(), String> {

@@ -7,10 +7,10 @@
 use host::calls::Calls;
 use host::comparison::{Comparison, Part};
 use host::images::Images;
-use host::library;
 use host::outside::Outside;
 use host::packing::Packs;
 use host::sequences::Sequences;
+use host::{library, table};
 use std::path::PathBuf;
 use std::process::ExitCode;
 
@@ -67,6 +67,7 @@ fn number_after(word: &str, next: Option<String>) -> Result<u64, String> {
 }
 
 fn run(arguments: &Arguments) -> Result<(), String> {
+    table::check()?;
     let outside = arguments.files.iter().map(|path| Outside::read(path));
     let outside = outside.collect::<Result<Vec<_>, _>>()?;
     list(&outside);

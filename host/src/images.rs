@@ -6,6 +6,7 @@ use crate::outside::Outside;
 use crate::random::Random;
 use crate::reference::{self, Descriptor, Form, Kind};
 use crate::suites::{edges_of_a_block, of_every_value, Batch, Image};
+use crate::table::JUDGE;
 use crate::tally::{hold, Tally};
 use crate::volumes::{Disk, File, MOST_BLOCKS, MOST_FILES, MOST_SECTORS, SECTOR_BYTES};
 use crate::{library, tuned};
@@ -51,13 +52,11 @@ impl Part for Images {
     const TITLE: &'static str = "images";
 
     fn new() -> Self {
-        let meant = [KNOWN].into_iter();
-        let meant = meant.chain(OF_DISKS.map(|(what, _)| what));
-        let meant = meant.chain(OF_FILES.map(|(what, _)| what));
-        Images {
-            tally: Tally::new(&[("judge", &[0, 1, 2, 3, 4, 5, 6])], meant),
-            buffer: Vec::new(),
-        }
+        let mut tally = Tally::of([&JUDGE].into_iter(), &[]);
+        tally.mean([KNOWN]);
+        tally.mean(OF_DISKS.map(|(what, _)| what));
+        tally.mean(OF_FILES.map(|(what, _)| what));
+        Images { tally, buffer: Vec::new() }
     }
 
     fn begin(&mut self, random: &mut Random) -> Result<(), String> {
@@ -117,7 +116,7 @@ impl Images {
         if !given.agree_with(image.number) {
             return Err(difference(image, &given));
         }
-        self.tally.give("judge", given.library);
+        self.tally.give(JUDGE.title, given.library);
         if image.number.is_some() {
             self.tally.meet(KNOWN);
         }

@@ -3,10 +3,10 @@
 //!
 //! `inputs SEED FOLDER [IMAGE...]`
 
-use host::calls::lines;
 use host::random::Random;
 use host::reference::catalogue;
 use host::suites::Batch;
+use host::table::lines;
 use host::volumes::{Disk, Order, Shape, MOST_FILES, MOST_SECTORS, SECTOR_BYTES};
 use std::path::{Path, PathBuf};
 use std::process::ExitCode;

@@ -16,6 +16,7 @@ pub mod reference;
 pub mod sequences;
 pub mod speed;
 pub mod suites;
+pub mod table;
 pub mod tally;
 pub mod tuned;
 pub mod volumes;

@@ -5,8 +5,8 @@
 mod comparison;
 mod pack;
 mod paper;
-mod planned;
 mod tally;
 mod twins;
 
 pub use comparison::{Comparison, Packs};
+pub(crate) use twins::moved;

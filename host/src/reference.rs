@@ -16,11 +16,11 @@ mod refusal;
 mod volume;
 mod writing;
 
-pub use format::{format, Geometry};
-pub use judge::{judge, number};
-pub use listing::{catalogue, listing};
-pub use packing::pack;
-pub use reading::{entry, free_count, load, read, summary, Entry, Row, Summary};
+pub use format::*;
+pub use judge::*;
+pub use listing::*;
+pub use packing::*;
+pub use reading::*;
 pub use refusal::Refusal;
 pub use volume::{Block, Chain, Descriptor, Form, Index, Kind, Label, Name, Sector, Volume};
-pub use writing::{append, create, delete, overwrite, protect, rename, store, unprotect};
+pub use writing::*;

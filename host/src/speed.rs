@@ -1,7 +1,6 @@
 //! What the benchmark measures, a table each: the judges on sound and damaged disks, the calls on
 //! full volumes, and how the library's calls grow with the volume.
 
-mod call;
 mod calls;
 mod growth;
 mod judges;
@@ -9,6 +8,9 @@ mod row;
 mod volume;
 
 pub use judges::write_times;
+pub(crate) use volume::{volume, Before, Full, Volume, ALL, MANY, ONE, PIECES, SECTORS};
+
+use crate::table::Arguments;
 
 /// How often a row's call is made in a run whose instructions are counted.
 pub const TIMES: usize = 4;
@@ -16,6 +18,13 @@ pub const TIMES: usize = 4;
 pub const NOBODY: &str = "nobody";
 /// A row that the reference settles in fewer instructions is shown and not held.
 const LEAST_HELD: f64 = 1000.0;
+
+/// What is measured of a call: with which arguments on a full volume, and on which volumes, with
+/// what stands behind the call's title and what the call finds of its file.
+pub(crate) struct Measured {
+    pub arguments: fn(&Full) -> Arguments,
+    pub on: &'static [(&'static str, Before, &'static [Volume])],
+}
 
 pub const TABLES: [Table; 3] = [judges::TABLE, calls::TABLE, growth::TABLE];
 

@@ -6,7 +6,7 @@
 //! that was filled with a pattern; afterwards the lowest byte that is not the pattern's is sought.
 
 use host::frames::Frames;
-use host::{calls, packing, sequences};
+use host::{calls, packing, sequences, table};
 use std::arch::global_asm;
 use std::cell::RefCell;
 use std::collections::BTreeMap;
@@ -35,6 +35,7 @@ fn main() -> ExitCode {
 }
 
 fn run(path: &str) -> Result<(), String> {
+    table::check()?;
     let header = std::fs::read_to_string(path).map_err(|error| format!("{}: {}", path, error))?;
     let mut disassembly = String::new();
     std::io::stdin().read_to_string(&mut disassembly).map_err(|error| error.to_string())?;
@@ -146,7 +147,7 @@ const PATTERNS: [u64; 2] = [0x5A5A_5A5A_5A5A_5A5A, 0xA5A5_A5A5_A5A5_A5A5];
 
 const WORDS: usize = 4096;
 /// How many of them `measured` writes before the call.
-const LAID: usize = 4;
+const LAID: usize = 8;
 
 #[repr(C, align(16))]
 struct Memory([u64; WORDS]);
@@ -188,8 +189,9 @@ fn with_measured<T>(call: *const c_char, job: impl FnOnce(&mut Measured) -> T) -
     MEASURED.with(|measured| job(measured.borrow_mut().entry(name).or_default()))
 }
 
-// A call comes with its arguments in registers and up to three on the stack. They are put by, and
-// laid anew for the call on the other stack: the three, and above them a word that aligns them.
+// A call comes with its arguments in registers and up to seven on the stack. They are put by, and
+// laid anew for the call on the other stack: the seven, and above them a word that aligns them. The
+// lines of `PNO_MEASURED` have the macro for each call of the header.
 global_asm!(
     r#"
     .macro measure call
@@ -201,25 +203,9 @@ __wrap_\call:
 2:
     .asciz "\call"
     .endm
-
-    measure pno_judge
-    measure pno_format
-    measure pno_free_count
-    measure pno_summary
-    measure pno_entry
-    measure pno_read
-    measure pno_load
-    measure pno_listing
-    measure pno_create
-    measure pno_append
-    measure pno_overwrite
-    measure pno_store
-    measure pno_delete
-    measure pno_rename
-    measure pno_protect
-    measure pno_unprotect
-    measure pno_pack
-
+    "#,
+    include_str!(env!("PNO_MEASURED")),
+    r#"
 measured:
     push rbp
     mov rbp, rsp
@@ -235,6 +221,10 @@ measured:
     call fill_memory
     mov rsp, rax
     push rax
+    push qword ptr [rbp + 64]
+    push qword ptr [rbp + 56]
+    push qword ptr [rbp + 48]
+    push qword ptr [rbp + 40]
     push qword ptr [rbp + 32]
     push qword ptr [rbp + 24]
     push qword ptr [rbp + 16]

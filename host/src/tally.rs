@@ -1,36 +1,82 @@
-//! How often each call gave each number, and how often a part of the comparison met what it is
-//! meant to meet. What came up too rarely ends the run: it would be compared in name only.
+//! How often each call gave each number, alone or with another one due as well, and how often a part
+//! of the comparison met what it is meant to meet. What came up too rarely ends the run: it would be
+//! compared in name only.
 
+use crate::table::{Call, Case, Meeting, NUMBERS};
 use crate::volumes::MOST_SECTORS;
 use std::collections::{BTreeMap, BTreeSet};
 
 /// How often everything that can be reached must at least have come up.
 pub(crate) const LEAST: u64 = 100;
 
-/// In the order of the paper's table.
-const NUMBERS: [u32; 16] = [0, 1, 2, 3, 4, 5, 6, 7, 8, 9, 10, 14, 15, 11, 12, 13];
+/// A row of the report, and the numbers that can be given in it.
+pub(crate) type Reachable = (&'static str, Vec<u32>);
 
-/// Calls, and the numbers that each can give.
-pub(crate) type Reachable = &'static [(&'static str, &'static [u32])];
-
+#[derive(Default)]
 pub struct Tally {
-    reachable: Reachable,
+    reachable: Vec<Reachable>,
+    /// The calls' numbers that can be due at once.
+    together: Vec<(&'static str, &'static [(u32, &'static [u32])])>,
+    /// What any call may meet.
+    meetings: &'static [Meeting],
     /// What is to be met besides the numbers, in the order of the report.
     meant: Vec<&'static str>,
     given: BTreeMap<(&'static str, u32), u64>,
+    pairs: BTreeMap<(&'static str, u32, u32), u64>,
     met: BTreeMap<&'static str, u64>,
     /// The sizes of sound volumes.
     sizes: BTreeSet<usize>,
 }
 
 impl Tally {
-    pub(crate) fn new(reachable: Reachable, meant: impl IntoIterator<Item = &'static str>) -> Self {
-        let (given, met, sizes) = (BTreeMap::new(), BTreeMap::new(), BTreeSet::new());
-        Tally { reachable, meant: meant.into_iter().collect(), given, met, sizes }
+    /// A row for each of these calls; they are meant to meet what all calls may, and what their own
+    /// rows of the table say.
+    pub(crate) fn of(
+        calls: impl Iterator<Item = &'static Call>,
+        meetings: &'static [Meeting],
+    ) -> Self {
+        let mut tally = Tally { meetings, ..Tally::default() };
+        tally.mean(meetings.iter().map(|(what, _)| *what));
+        for call in calls {
+            tally.reachable.push((call.title, call.numbers()));
+            tally.mean(call.met.iter().map(|(what, _)| *what));
+            if !call.together.is_empty() {
+                tally.together.push((call.title, call.together));
+            }
+        }
+        tally
     }
 
-    pub(crate) fn give(&mut self, call: &'static str, number: u32) {
-        *self.given.entry((call, number)).or_default() += 1;
+    /// One more row.
+    pub(crate) fn reach(&mut self, row: Reachable) {
+        self.reachable.push(row);
+    }
+
+    /// More that is to be met.
+    pub(crate) fn mean(&mut self, whats: impl IntoIterator<Item = &'static str>) {
+        for what in whats {
+            if !self.meant.contains(&what) {
+                self.meant.push(what);
+            }
+        }
+    }
+
+    /// Counts a case in the row of its call.
+    pub(crate) fn count(&mut self, case: &Case) {
+        let row = case.call.title;
+        self.give(row, case.number);
+        for due in &case.due {
+            *self.pairs.entry((row, case.number, *due)).or_default() += 1;
+        }
+        let meetings = self.meetings.iter().chain(case.call.met);
+        self.meet_all(meetings.map(|(what, is_met)| (*what, is_met(case))));
+        if let Some(disk) = case.asked.disk() {
+            self.size(disk.sectors);
+        }
+    }
+
+    pub(crate) fn give(&mut self, row: &'static str, number: u32) {
+        *self.given.entry((row, number)).or_default() += 1;
     }
 
     pub(crate) fn meet(&mut self, what: &'static str) {
@@ -67,31 +113,32 @@ impl Tally {
             return Err("a call gave a number that it cannot give".to_string());
         }
         hold(LEAST, self.numbers())?;
-        hold(LEAST, self.lines())
+        hold(LEAST, self.lines())?;
+        self.report_pairs()
     }
 
     fn write_numbers(&self) {
         let is_given = |number: &u32| self.reachable.iter().any(|(_, own)| own.contains(number));
         let columns: Vec<u32> = NUMBERS.into_iter().filter(is_given).collect();
         write_row("calls that gave", columns.iter().map(|number| number.to_string()));
-        for (call, reachable) in self.reachable {
+        for (row, reachable) in &self.reachable {
             let cell = |number: &u32| match reachable.contains(number) {
-                true => self.given(call, *number).to_string(),
+                true => self.given(row, *number).to_string(),
                 false => "-".to_string(),
             };
-            write_row(call, columns.iter().map(cell));
+            write_row(row, columns.iter().map(cell));
         }
     }
 
-    fn given(&self, call: &'static str, number: u32) -> u64 {
-        self.given.get(&(call, number)).copied().unwrap_or(0)
+    fn given(&self, row: &'static str, number: u32) -> u64 {
+        self.given.get(&(row, number)).copied().unwrap_or(0)
     }
 
-    /// Every number that a call can give, and how often it did.
+    /// Every number that can be given in a row, and how often it was.
     pub(crate) fn numbers(&self) -> Vec<(String, u64)> {
         let mut numbers = Vec::new();
-        for (call, reachable) in self.reachable {
-            let given = |number: &u32| (format!("{} {}", call, number), self.given(call, *number));
+        for (row, reachable) in &self.reachable {
+            let given = |number: &u32| (format!("{} {}", row, number), self.given(row, *number));
             numbers.extend(reachable.iter().map(given));
         }
         numbers
@@ -102,8 +149,27 @@ impl Tally {
         let line = |what: &&str| (what.to_string(), self.met.get(what).copied().unwrap_or(0));
         self.meant.iter().map(line).collect()
     }
-}
 
+    fn report_pairs(&self) -> Result<(), String> {
+        if !self.together.is_empty() {
+            println!("number given, and another one due as well");
+        }
+        for (row, together) in &self.together {
+            let pairs =
+                together.iter().flat_map(|(given, due)| due.iter().map(|due| (*given, *due)));
+            let count = |(given, due): (u32, u32)| {
+                let count = self.pairs.get(&(*row, given, due)).copied().unwrap_or(0);
+                (format!("{}+{}", given, due), count)
+            };
+            let counts: Vec<(String, u64)> = pairs.map(count).collect();
+            let cells: Vec<String> =
+                counts.iter().map(|(pair, count)| format!("{}: {}", pair, count)).collect();
+            println!("{:<19}  {}", row, cells.join("  "));
+            hold(LEAST, counts).map_err(|rare| format!("{}: {}", row, rare))?;
+        }
+        Ok(())
+    }
+}
 fn write_row(title: &str, cells: impl Iterator<Item = String>) {
     let cells: String = cells.map(|cell| format!("{:>7}", cell)).collect();
     println!("{:<19}{}", title, cells);

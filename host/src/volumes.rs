@@ -114,6 +114,7 @@ pub fn word(number: usize) -> [u8; 2] {
 }
 
 /// A planned disk and its image.
+#[derive(Clone)]
 pub struct Disk {
     pub sectors: usize,
     /// In the order of the index.

@@ -1,13 +1,11 @@
 //! Many calls on sound and unsound images, each compared with both answers and byte for byte.
 
-use super::lent::Lent;
-use super::tally::{self, Case};
-use super::{number_of, outside, paper, planned, Answer, Call, Written};
+use super::{outside, paper};
 use crate::comparison::Part;
 use crate::outside::Outside;
-use crate::pnoelithe::Refusal;
 use crate::random::Random;
 use crate::suites::{Batch, Image};
+use crate::table::{self, calls_in, compared, Arguments, Call, Desk, Meeting, CALLS, SINGLE};
 use crate::tally::Tally;
 use crate::volumes::{Disk, MOST_SECTORS, SECTOR_BYTES};
 use std::collections::BTreeMap;
@@ -16,6 +14,17 @@ pub type Comparison = crate::comparison::Comparison<Calls>;
 
 /// How many changes of one disk are tried, with a call on each.
 const CHANGES: usize = 60;
+
+/// What any of these calls is meant to meet. Where two faults come together the number is that of
+/// the first; the image's come before all others.
+const MET: &[Meeting] = &[
+    ("unsound image and bad name", |case| case.is_unsound() && case.due.contains(&7)),
+    ("unsound image and short buffer", |case| case.is_unsound() && case.due.contains(&15)),
+    ("place, offset or n of 2^31 or more", |case| case.asked.at >= 1 << 31),
+    ("buffer one byte short", |case| case.number == 15 && case.spare() == Some(-1)),
+    ("buffer of just the length", |case| case.is_done() && case.spare() == Some(0)),
+    ("buffer with bytes to spare", |case| case.is_done() && case.spare() > Some(0)),
+];
 
 pub struct Calls {
     tally: Tally,
@@ -31,7 +40,7 @@ impl Part for Calls {
 
     fn new() -> Self {
         let (buffer, on_outside) = (Vec::new(), BTreeMap::new());
-        Calls { tally: tally::new(), buffer, outside: 0, on_outside }
+        Calls { tally: Tally::of(calls_in(SINGLE), MET), buffer, outside: 0, on_outside }
     }
 
     fn begin(&mut self, random: &mut Random) -> Result<(), String> {
@@ -53,10 +62,13 @@ impl Part for Calls {
     /// All that can be read of it.
     fn on_outside(&mut self, outside: &Outside, random: &mut Random) -> Result<(), String> {
         let image = Image::of_outside(outside);
+        let files = outside::files(&outside.image);
         self.outside += 1;
-        for call in Call::all(&outside::files(&outside.image)) {
-            self.call(&call, &image, random)?;
-            *self.on_outside.entry(call.title()).or_default() += 1;
+        for (call, reading) in CALLS.iter().filter_map(|call| Some((call, call.reading()?))) {
+            for arguments in (reading.all)(&files) {
+                self.call(call, &arguments, &image, random)?;
+                *self.on_outside.entry(call.title).or_default() += 1;
+            }
         }
         outside::texts(outside)
     }
@@ -79,9 +91,10 @@ impl Calls {
     fn batch(&mut self, batch: &Batch, random: &mut Random) -> Result<(), String> {
         let mut buffer = std::mem::take(&mut self.buffer);
         batch.each_image(&mut buffer, |image| {
+            let desk = Desk { disk: &batch.disk, image_bytes: image.bytes.len(), pool: &[] };
             for _ in 0..image.planned.map_or(1, calls_as_planned) {
-                let call = Call::any(&batch.disk, image.bytes, random);
-                self.call(&call, image, random)?;
+                let (call, arguments) = table::any(SINGLE, &desk, random);
+                self.call(call, &arguments, image, random)?;
             }
             Ok(())
         })?;
@@ -89,43 +102,16 @@ impl Calls {
         Ok(())
     }
 
-    fn call(&mut self, call: &Call, image: &Image, random: &mut Random) -> Result<(), String> {
-        let answer = compared(call, image, random)?;
-        tally::count(&mut self.tally, &Case { call, image, answer: &answer });
+    fn call(
+        &mut self,
+        call: &'static Call,
+        arguments: &Arguments,
+        image: &Image,
+        random: &mut Random,
+    ) -> Result<(), String> {
+        self.tally.count(&compared(call, arguments, image, random)?);
         Ok(())
     }
-}
-
-/// What a call gives, if library, reference and plan agree on it, and else how they do not.
-pub(crate) fn compared(call: &Call, image: &Image, random: &mut Random) -> Result<Answer, String> {
-    let answer = call.by_reference(image.bytes);
-    let planned = planned::answer(call, image);
-    let mut lent = Lent::to(call, image.bytes, random);
-    let (mut of_host, mut expected) = (lent.clone(), lent.clone());
-    if let Ok(written) = &answer {
-        expected.write(call, written);
-    }
-    let number = lent.call(call);
-    let agreed = planned.as_ref().map_or(true, |planned| *planned == answer);
-    let is_right = agreed && number == number_of(&answer) && lent == expected;
-    // What a host calls takes the library at its word.
-    let by_host = is_right.then(|| of_host.call_of_host(call).map_or_else(Refusal::number, |()| 0));
-    if by_host == Some(number) && of_host == expected {
-        return Ok(answer);
-    }
-    let planned = planned.map_or("not known".to_string(), |answer| describe(&answer));
-    let by_host = by_host.map_or(String::new(), |number| format!(", by pnoelithe.rs {}", number));
-    let memory = if is_right { of_host } else { lent }.difference(&expected);
-    let memory = memory.unwrap_or_else(|| "memory as the reference has it".to_string());
-    let lines = [
-        format!("difference in {:?} on \"{}\"", call, image.what),
-        format!("library {}{}", number, by_host),
-        format!("reference {}", describe(&answer)),
-        format!("plan {}", planned),
-        memory,
-        format!("image kept as {}", image.keep()),
-    ];
-    Err(lines.join("\n  "))
 }
 
 /// How many calls are made on a disk as it was planned: few where there is little to read.
@@ -134,15 +120,5 @@ fn calls_as_planned(disk: &Disk) -> usize {
         4
     } else {
         60
-    }
-}
-
-fn describe(answer: &Answer) -> String {
-    match answer {
-        Ok(Written { bytes, numbers }) => {
-            let first = &bytes[..bytes.len().min(8)];
-            format!("0 with {} bytes {:?}.. and numbers {:?}", bytes.len(), first, numbers)
-        }
-        Err(number) => number.to_string(),
     }
 }

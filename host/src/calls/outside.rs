@@ -3,10 +3,10 @@
 use crate::outside::Outside;
 use crate::pnoelithe::{self, Refusal};
 use crate::reference;
-use crate::volumes::Name;
+use crate::table::Listed;
 
 /// The files of a volume, by the reference: names and numbers of sectors. Of an unsound image, none.
-pub(super) fn files(image: &[u8]) -> Vec<(Name, usize)> {
+pub(super) fn files(image: &[u8]) -> Vec<Listed> {
     let file = |(_, file): (usize, reference::Descriptor)| (*file.name(), file.sectors());
     reference::judge(image).map_or(Vec::new(), |volume| volume.files().map(file).collect())
 }

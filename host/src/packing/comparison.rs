@@ -1,16 +1,17 @@
 //! Many packs: of volumes of every size and in every state, of unsound images, and into targets of
 //! other lengths.
 
-use super::pack::{compared, Answer};
+use super::pack::{answer, compared, into_target, Answer};
 use super::paper;
-use super::tally::{self, Case, LEFT_BY_CALLS, RELAID};
+use super::tally::{self, LEFT_BY_CALLS, RELAID};
 use super::twins::{relaid, Difference};
 use crate::comparison::Part;
 use crate::outside::Outside;
 use crate::random::Random;
 use crate::reference;
-use crate::sequences::{built, damaged, left_by_calls, of_image};
+use crate::sequences::{built, damaged, left_by_calls};
 use crate::suites::Image;
+use crate::table::plan::of_image;
 use crate::tally::Tally;
 use crate::volumes::{Disk, MOST_SECTORS, SECTOR_BYTES};
 
@@ -115,7 +116,9 @@ impl Packs {
     fn unsound(&mut self, disk: &Disk, random: &mut Random) -> Result<(), String> {
         let image = damaged(disk, random)?;
         let number = Some(reference::number(&image));
-        let source = Image { what: "damaged disk", bytes: &image, number, planned: None };
+        let planned = of_image(&image);
+        let (what, planned) = ("damaged disk", planned.as_ref());
+        let source = Image { what, bytes: &image, number, planned };
         let length = match random.below(3) {
             0 => other_length(image.len(), random),
             // What the target of the disk itself would be.
@@ -141,10 +144,10 @@ impl Packs {
         target_bytes: usize,
         random: &mut Random,
     ) -> Result<Answer, String> {
-        let answer = compared(source, target_bytes, random)?;
-        let number = answer.as_ref().err().copied().unwrap_or(0);
-        tally::count(&mut self.tally, &Case { source, target_bytes, number });
-        Ok(answer)
+        let arguments = into_target(target_bytes);
+        let case = compared(source, &arguments, random)?;
+        self.tally.count(&case);
+        Ok(answer(case))
     }
 }
 

@@ -1,6 +1,6 @@
 //! What the paper says of packing in so many words: bench cases 8 and 14, by the library's calls.
 
-use super::pack::compared;
+use super::pack::{answer, compared, into_target};
 use crate::paper::{all_shown, formatted};
 use crate::pnoelithe::{append, create, delete, store, Refusal};
 use crate::random::Random;
@@ -67,8 +67,9 @@ fn told(refusal: Refusal) -> String {
 
 fn packed(image: &[u8], random: &mut Random) -> Result<Vec<u8>, String> {
     let source = Image { what: "a case of the paper", bytes: image, number: None, planned: None };
-    let packed = compared(&source, image.len(), random)?;
-    packed.map_err(|number| format!("a volume of the paper is refused: {}", number))
+    let arguments = into_target(image.len());
+    let case = compared(&source, &arguments, random)?;
+    answer(case).map_err(|number| format!("a volume of the paper is refused: {}", number))
 }
 
 fn is_all(bytes: &[u8], value: u8) -> bool {

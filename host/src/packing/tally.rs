@@ -1,68 +1,53 @@
 //! What packs are meant to give and to meet.
 
 use super::twins::Difference;
-use crate::suites::Image;
-use crate::tally::{Reachable, Tally};
+use crate::table::{Case, Meeting, PACK};
+use crate::tally::Tally;
 use crate::volumes::{Disk, File, MOST_BLOCKS, MOST_FILES, SECTOR_BYTES};
-
-/// The numbers of the source, and that the target has another length.
-const REACHABLE: Reachable = &[("pack", &[0, 1, 2, 3, 4, 5, 6, 15])];
 
 pub(super) const LEFT_BY_CALLS: &str = "volume left by calls packed";
 pub(super) const RELAID: &str = "laid out otherwise: the same bytes";
 
-/// A pack that was compared.
-pub(super) struct Case<'case> {
-    pub source: &'case Image<'case>,
-    pub target_bytes: usize,
-    pub number: u32,
-}
-
-/// What a pack may meet, and whether a case does.
-type Meeting = (&'static str, fn(&Case) -> bool);
-
 /// What the packs are meant to meet besides the numbers.
-const MET: [Meeting; 15] = [
-    ("empty volume packed", |case| case.packs(|disk| disk.files.is_empty())),
-    ("full volume packed", |case| case.packs(|disk| disk.free().is_empty())),
-    ("volume of 127 files packed", |case| case.packs(|disk| disk.files.len() == MOST_FILES)),
-    ("volume with remains in free sectors packed", |case| case.packs(has_remains)),
+const MET: &[Meeting] = &[
+    ("empty volume packed", |case| packs(case, |disk| disk.files.is_empty())),
+    ("full volume packed", |case| packs(case, |disk| disk.free().is_empty())),
+    ("volume of 127 files packed", |case| packs(case, |disk| disk.files.len() == MOST_FILES)),
+    ("volume with remains in free sectors packed", |case| packs(case, has_remains)),
     ("empty volume with remains packed", |case| {
-        case.packs(|disk| disk.files.is_empty() && has_remains(disk))
+        packs(case, |disk| disk.files.is_empty() && has_remains(disk))
     }),
-    ("file of 76 blocks packed", |case| case.packs_file(|file| file.runs.len() == MOST_BLOCKS)),
-    ("file of more than 256 sectors packed", |case| case.packs_file(|file| file.count() > 256)),
-    ("file without a sector packed", |case| case.packs_file(|file| file.count() == 0)),
+    ("file of 76 blocks packed", |case| packs_file(case, |file| file.runs.len() == MOST_BLOCKS)),
+    ("file of more than 256 sectors packed", |case| packs_file(case, |file| file.count() > 256)),
+    ("file without a sector packed", |case| packs_file(case, |file| file.count() == 0)),
     ("file with blocks that could be one packed", |case| {
-        case.packs_file(|file| pairs(file, |end, start| end == start))
+        packs_file(case, |file| pairs(file, |end, start| end == start))
     }),
     ("file with a block before the one it follows packed", |case| {
-        case.packs_file(|file| pairs(file, |end, start| start < end))
+        packs_file(case, |file| pairs(file, |end, start| start < end))
     }),
     ("unsound source and target of another length", |case| {
-        (1..=6).contains(&case.number) && !case.is_off_by(0)
+        case.is_unsound() && !is_off_by(case, 0)
     }),
-    ("target of no byte", |case| case.number == 15 && case.target_bytes == 0),
-    ("target a byte shorter or longer", |case| case.number == 15 && case.is_off_by(1)),
-    ("target a sector shorter or longer", |case| case.number == 15 && case.is_off_by(256)),
-    ("target 65,536 bytes shorter or longer", |case| case.number == 15 && case.is_off_by(65_536)),
+    ("target of no byte", |case| case.number == 15 && case.asked.room == 0),
+    ("target a byte shorter or longer", |case| case.number == 15 && is_off_by(case, 1)),
+    ("target a sector shorter or longer", |case| case.number == 15 && is_off_by(case, 256)),
+    ("target 65,536 bytes shorter or longer", |case| case.number == 15 && is_off_by(case, 65_536)),
 ];
 
-impl Case<'_> {
-    fn packs(&self, rule: fn(&Disk) -> bool) -> bool {
-        self.number == 0 && self.source.planned.map_or(false, rule)
-    }
+fn packs(case: &Case, rule: fn(&Disk) -> bool) -> bool {
+    case.is_done() && case.asked.disk().map_or(false, rule)
+}
 
-    fn packs_file(&self, rule: fn(&File) -> bool) -> bool {
-        let disk = self.source.planned;
-        self.number == 0 && disk.map_or(false, |disk| disk.files.iter().any(rule))
-    }
+fn packs_file(case: &Case, rule: fn(&File) -> bool) -> bool {
+    let disk = case.asked.disk();
+    case.is_done() && disk.map_or(false, |disk| disk.files.iter().any(rule))
+}
 
-    /// Whether the target has so many bytes more or less than the source.
-    fn is_off_by(&self, bytes: usize) -> bool {
-        let source = self.source.bytes.len();
-        source + bytes == self.target_bytes || self.target_bytes + bytes == source
-    }
+/// Whether the target has so many bytes more or less than the source.
+fn is_off_by(case: &Case, bytes: usize) -> bool {
+    let (source, target) = (case.asked.image.bytes.len(), case.asked.room);
+    source + bytes == target || target + bytes == source
 }
 
 /// Whether a free sector holds other bytes than a formatted one.
@@ -78,14 +63,8 @@ fn pairs(file: &File, rule: fn(usize, usize) -> bool) -> bool {
 }
 
 pub(super) fn new() -> Tally {
-    let meant = MET.map(|(what, _)| what).into_iter().chain([LEFT_BY_CALLS, RELAID]);
-    Tally::new(REACHABLE, meant.chain(Difference::ALL.map(Difference::title)))
-}
-
-pub(super) fn count(tally: &mut Tally, case: &Case) {
-    tally.give("pack", case.number);
-    tally.meet_all(MET.map(|(what, is_met)| (what, is_met(case))));
-    if case.number == 0 {
-        tally.size(case.source.bytes.len() / SECTOR_BYTES);
-    }
+    let mut tally = Tally::of([&PACK].into_iter(), MET);
+    tally.mean([LEFT_BY_CALLS, RELAID]);
+    tally.mean(Difference::ALL.map(Difference::title));
+    tally
 }

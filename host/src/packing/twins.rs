@@ -23,7 +23,7 @@ pub(super) fn relaid(disk: &Disk, random: &mut Random) -> Disk {
 }
 
 /// A disk's label area and its files, which lie elsewhere now, laid over other bytes.
-pub(super) fn moved(disk: &Disk, files: Vec<File>, background: Vec<u8>) -> Disk {
+pub(crate) fn moved(disk: &Disk, files: Vec<File>, background: Vec<u8>) -> Disk {
     let mut moved = Disk { sectors: disk.sectors, files, image: background };
     moved.image[..LABEL_AREA].copy_from_slice(&disk.image[..LABEL_AREA]);
     moved.lay_down();
@@ -122,8 +122,7 @@ impl Difference {
     /// The disk with this changed, and still sound; none where there is nothing to change, or no
     /// room.
     pub(super) fn of(self, disk: &Disk, random: &mut Random) -> Option<Disk> {
-        let (sectors, files, image) = (disk.sectors, disk.files.clone(), disk.image.clone());
-        let mut other = Disk { sectors, files, image };
+        let mut other = disk.clone();
         match self {
             Difference::Carried => change_header(&mut other, any_carried, random)?,
             Difference::Status => change_header(&mut other, any_status, random)?,

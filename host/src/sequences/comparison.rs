@@ -1,18 +1,17 @@
 //! Many sequences, on volumes of every size and in every state.
 
-use super::arguments::{Desk, Mood, EVEN, FILLING, WEARING};
 use super::paper;
-use super::sequence::Sequence;
+use super::sequence::{Sequence, READING};
 use super::starts::{self, Start};
-use super::tally::{Tally, LOADED_BACK, READ_BACK, SEQUENCES};
-use super::{plan, Write};
-use crate::calls::planned::is_good;
-use crate::calls::{Call, Given};
 use crate::comparison::Part;
 use crate::outside::Outside;
 use crate::random::Random;
-use crate::reference::{self, Geometry};
-use crate::tally;
+use crate::reference;
+use crate::table::arguments::four_bytes;
+use crate::table::plan::is_good;
+use crate::table::{self, calls_in, Arguments, Call, Desk, Given, Meeting, Mood};
+use crate::table::{EVEN, FILLING, FORMAT, NONE, NUMBERS, SINGLE, WEARING};
+use crate::tally::Tally;
 use crate::volumes::{names, Disk, Name, SECTOR_BYTES};
 
 pub type Comparison = crate::comparison::Comparison<Sequences>;
@@ -25,6 +24,13 @@ const CALLS_UNSOUND: usize = 12;
 /// How many names new files have for the most part.
 const POOL: usize = 16;
 
+/// What any call that writes is meant to meet.
+const MET: &[Meeting] = &[
+    ("unsound image and bad name", |case| case.is_unsound() && case.due.contains(&7)),
+    ("unsound image and bad argument", |case| case.is_unsound() && case.due.contains(&15)),
+];
+const SEQUENCES: &str = "sequences";
+
 pub struct Sequences {
     tally: Tally,
 }
@@ -33,7 +39,7 @@ impl Part for Sequences {
     const TITLE: &'static str = "calls in sequences";
 
     fn new() -> Self {
-        Sequences { tally: Tally::new() }
+        Sequences { tally: new_tally() }
     }
 
     fn begin(&mut self, random: &mut Random) -> Result<(), String> {
@@ -59,13 +65,22 @@ impl Part for Sequences {
         self.sequence(start, Some(&outside.image), random)
     }
 
-    fn tally(&self) -> &tally::Tally {
-        &self.tally.calls
+    fn tally(&self) -> &Tally {
+        &self.tally
     }
+}
 
-    fn report(&self) -> Result<(), String> {
-        self.tally.report()
-    }
+/// A row for each call that writes, one for formatting, and one for all that read.
+fn new_tally() -> Tally {
+    let mut tally = Tally::of(calls_in(EVEN), MET);
+    let looks = calls_in(EVEN).filter_map(|call| call.writing()?.look.as_ref());
+    tally.mean(looks.map(|(what, _)| *what).chain([SEQUENCES]));
+    tally.reach((FORMAT.title, FORMAT.numbers()));
+    let read: Vec<u32> =
+        calls_in(SINGLE).filter(|call| call.is_judging()).flat_map(|call| call.numbers()).collect();
+    let is_given = |number: &u32| read.contains(number);
+    tally.reach((READING, NUMBERS.into_iter().filter(is_given).collect()));
+    tally
 }
 
 impl Sequences {
@@ -76,11 +91,11 @@ impl Sequences {
         other: Option<&[u8]>,
         random: &mut Random,
     ) -> Result<(), String> {
-        self.tally.calls.meet(SEQUENCES);
+        self.tally.meet(SEQUENCES);
         let pool = names(POOL, random);
-        let mut sequence = Sequence::on(start.disk, random);
-        other.into_iter().for_each(|image| sequence.goes_on_with(image, random));
-        Steps { sequence, pool, random, tally: &mut self.tally }.run(&start.mood)
+        let mut sequence = Sequence::on(start.disk);
+        other.into_iter().for_each(|image| sequence.goes_on_with(image));
+        Steps { sequence, pool, random, tally: &mut self.tally }.run(start.mood)
     }
 }
 
@@ -95,10 +110,10 @@ pub(crate) fn left_by_calls(
     calls: usize,
     random: &mut Random,
 ) -> Result<Disk, String> {
-    let sequence = Sequence::on(built(sectors, random), random);
+    let sequence = Sequence::on(built(sectors, random));
     let pool = names(POOL, random);
-    let mut steps = Steps { sequence, pool, random, tally: &mut Tally::new() };
-    steps.steps(&WEARING, calls)?;
+    let mut steps = Steps { sequence, pool, random, tally: &mut new_tally() };
+    steps.steps(WEARING, calls)?;
     Ok(steps.sequence.disk)
 }
 
@@ -111,86 +126,69 @@ struct Steps<'comparison> {
 }
 
 impl Steps<'_> {
-    fn run(&mut self, mood: &Mood) -> Result<(), String> {
+    fn run(&mut self, mood: Mood) -> Result<(), String> {
         if self.sequence.number != 0 {
-            self.steps(&EVEN, CALLS_UNSOUND / 2)?;
+            self.steps(EVEN, CALLS_UNSOUND / 2)?;
             self.format()?;
         }
         if self.random.once_in(80) {
-            self.steps(&WEARING, CALLS_LONG)?;
+            self.steps(WEARING, CALLS_LONG)?;
         }
         self.steps(mood, CALLS)?;
         if self.random.once_in(2) {
             let image = starts::damaged(&self.sequence.disk, self.random)?;
-            self.sequence.goes_on_with(&image, self.random);
-            self.steps(&EVEN, CALLS_UNSOUND)?;
+            self.sequence.goes_on_with(&image);
+            self.steps(EVEN, CALLS_UNSOUND)?;
         }
         if self.random.once_in(8) {
             self.format()?;
-            self.steps(&FILLING, CALLS / 2)?;
+            self.steps(FILLING, CALLS / 2)?;
         }
         Ok(())
     }
 
-    fn steps(&mut self, mood: &Mood, calls: usize) -> Result<(), String> {
+    fn steps(&mut self, mood: Mood, calls: usize) -> Result<(), String> {
         for _ in 0..calls {
-            if self.random.once_in(8) {
-                let call = Call::any(&self.sequence.disk, self.sequence.image(), self.random);
-                // Too much formatting would leave no disk time to wear.
-                if !self.is_formatting(&call) || self.random.once_in(8) {
-                    self.sequence.call(&call, self.random, self.tally)?;
-                }
-            } else {
-                let desk = Desk { disk: &self.sequence.disk, pool: &self.pool };
-                let write = desk.any(mood, self.random);
-                self.write(&write)?;
+            let mood = if self.random.once_in(8) { SINGLE } else { mood };
+            let (disk, image_bytes) = (&self.sequence.disk, self.sequence.image().len());
+            let desk = Desk { disk, image_bytes, pool: &self.pool };
+            let (call, arguments) = table::any(mood, &desk, self.random);
+            // Too much formatting would leave no disk time to wear.
+            if !self.is_wiping(call, &arguments) || self.random.once_in(8) {
+                self.step(call, &arguments)?;
             }
         }
         Ok(())
     }
 
     /// Whether the call would wipe a sound volume.
-    fn is_formatting(&self, call: &Call) -> bool {
-        match call {
-            Call::Format { n, name, .. } => {
-                self.sequence.number == 0 && *n == self.sequence.disk.sectors && is_good(name)
-            }
-            _ => false,
-        }
+    fn is_wiping(&self, call: &Call, arguments: &Arguments) -> bool {
+        !call.is_judging()
+            && self.sequence.number == 0
+            && arguments.at == self.sequence.disk.sectors
+            && is_good(&arguments.name)
     }
 
     /// The call, and often a look at what it wrote.
-    fn write(&mut self, write: &Write) -> Result<(), String> {
-        let number = self.sequence.write(write, self.random, self.tally)?;
-        if number != 0 || self.random.once_in(2) {
-            return Ok(());
+    fn step(&mut self, call: &'static Call, arguments: &Arguments) -> Result<(), String> {
+        let number = self.sequence.call(call, arguments, self.random, self.tally)?;
+        let look = call.writing().and_then(|writing| writing.look.as_ref());
+        if let (0, Some((what, look))) = (number, look) {
+            if self.random.once_in(2) {
+                self.tally.meet(what);
+                let (call, arguments) = look(&self.sequence.disk, arguments);
+                self.sequence.call(call, &arguments, self.random, self.tally)?;
+            }
         }
-        let (random, tally) = (&mut *self.random, &mut *self.tally);
-        let name = write.name().clone();
-        let offset = match write {
-            Write::Store { bytes, .. } => {
-                tally.calls.meet(LOADED_BACK);
-                let call = Call::Load { name, room: bytes.lent().len() };
-                return self.sequence.call(&call, random, tally).map(|_| ());
-            }
-            Write::Overwrite { offset, .. } => *offset,
-            Write::Append { .. } => {
-                plan::find(&self.sequence.disk, &name).map_or(0, |file| file.count() - 1)
-            }
-            _ => return Ok(()),
-        };
-        tally.calls.meet(READ_BACK);
-        let call = Call::Read { name, offset, room: SECTOR_BYTES };
-        self.sequence.call(&call, random, tally).map(|_| ())
+        Ok(())
     }
 
     /// Formats the image, for as many sectors as it has; some lengths are of no volume.
     fn format(&mut self) -> Result<(), String> {
-        let n = self.sequence.image().len() / SECTOR_BYTES;
+        let at = self.sequence.image().len() / SECTOR_BYTES;
         let name = Given::whole(&names(1, self.random)[0]);
-        let [sectors_per_track, tracks, sides, density] = [(); 4].map(|()| self.random.byte());
-        let geometry = Geometry { sectors_per_track, tracks, sides, density };
-        let call = Call::Format { n, name, geometry };
-        self.sequence.call(&call, self.random, self.tally).map(|_| ())
+        let bytes = four_bytes(self.random);
+        let arguments = Arguments { name, at, bytes, ..NONE };
+        self.sequence.call(&FORMAT, &arguments, self.random, self.tally).map(|_| ())
     }
 }

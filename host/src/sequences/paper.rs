@@ -3,13 +3,11 @@
 //! out.
 
 use super::sequence::Sequence;
-use super::tally::Tally;
-use super::Write;
-use crate::calls::{Call, Given};
 use crate::paper::{all_shown, CASE_M};
 use crate::pnoelithe::{catalogue, padded};
 use crate::random::Random;
-use crate::reference::Geometry;
+use crate::table::{Arguments, Call, Given, APPEND, CREATE, FORMAT, NONE, STORE};
+use crate::tally::Tally;
 use crate::volumes::{Disk, MOST_FILES, SECTOR_BYTES};
 
 pub(super) fn cases(random: &mut Random, tally: &mut Tally) -> Result<(), String> {
@@ -33,31 +31,38 @@ impl Bench<'_> {
     fn formatted(&mut self, sectors: usize) -> Result<Sequence, String> {
         let image = self.random.bytes(SECTOR_BYTES * sectors);
         let disk = Disk { sectors, files: Vec::new(), image };
-        let mut sequence = Sequence::on(disk, self.random);
-        let geometry = Geometry { sectors_per_track: 9, tracks: 40, sides: 1, density: 1 };
-        let call = Call::Format { n: sectors, name: Given::whole(b"SHELF     "), geometry };
-        sequence.call(&call, self.random, self.tally)?;
+        let mut sequence = Sequence::on(disk);
+        let (name, bytes) = (named("SHELF"), [9, 40, 1, 1]);
+        let arguments = Arguments { name, at: sectors, bytes, ..NONE };
+        self.call(&mut sequence, &FORMAT, arguments)?;
         Ok(sequence)
     }
 
-    fn write(&mut self, sequence: &mut Sequence, write: Write) -> Result<u32, String> {
-        sequence.write(&write, self.random, self.tally)
+    fn call(
+        &mut self,
+        sequence: &mut Sequence,
+        call: &'static Call,
+        arguments: Arguments,
+    ) -> Result<u32, String> {
+        sequence.call(call, &arguments, self.random, self.tally)
     }
 
     fn store(&mut self, sequence: &mut Sequence, name: &str, length: usize) -> Result<u32, String> {
-        let bytes = Given::whole(&self.random.bytes(length));
-        self.write(sequence, Write::Store { name: named(name), bytes })
+        let other = Given::whole(&self.random.bytes(length));
+        let arguments = Arguments { name: named(name), other, ..NONE };
+        self.call(sequence, &STORE, arguments)
     }
 
     fn create(&mut self, sequence: &mut Sequence, name: &str, status: u8) -> Result<u32, String> {
-        let (record_length, records_per_sector) = (80, 3);
-        let name = named(name);
-        self.write(sequence, Write::Create { name, status, record_length, records_per_sector })
+        let bytes = [status, 80, 3, 0];
+        let arguments = Arguments { name: named(name), bytes, ..NONE };
+        self.call(sequence, &CREATE, arguments)
     }
 
     fn append(&mut self, sequence: &mut Sequence, name: &str) -> Result<u32, String> {
-        let data = Given::whole(&self.random.bytes(SECTOR_BYTES));
-        self.write(sequence, Write::Append { name: named(name), data })
+        let other = Given::whole(&self.random.bytes(SECTOR_BYTES));
+        let arguments = Arguments { name: named(name), other, ..NONE };
+        self.call(sequence, &APPEND, arguments)
     }
 
     /// "ALPHA's descriptor in sector 2, block 22 10 00; NOTES in 3, data in 36"; "byte 56 is 0F,

@@ -2,15 +2,15 @@
 //! many sectors are free. No sector has a number here, so a call that writes over another file, or
 //! loses a sector, is found whatever library, reference and plan agree on.
 
-use super::Write;
 use crate::reference;
+use crate::table::{Arguments, Writing};
 use crate::volumes::{word, Name, HEADER_BYTES, SECTOR_BYTES};
 use std::collections::BTreeMap;
 
-struct Shelved {
-    header: [u8; HEADER_BYTES],
+pub(crate) struct Shelved {
+    pub header: [u8; HEADER_BYTES],
     /// Whole sectors.
-    bytes: Vec<u8>,
+    pub bytes: Vec<u8>,
 }
 
 pub(crate) struct Shelf {
@@ -33,43 +33,19 @@ impl Shelf {
         shelf
     }
 
-    /// Does a call that is done.
-    pub(super) fn change(&mut self, write: &Write) {
-        let name: Name = write.name().lent().try_into().expect("ten bytes");
-        let mut file = self.files.remove(&name).unwrap_or_else(|| Shelved::new(&name));
-        let was = file.sectors();
-        match write {
-            Write::Create { status, record_length, records_per_sector, .. } => {
-                file.header[12] = *status;
-                file.header[13] = *records_per_sector;
-                file.header[17] = *record_length;
-                self.free -= 1;
-            }
-            Write::Store { bytes, .. } => {
-                file.header[12] = 0x01;
-                file.bytes = bytes.lent().to_vec();
-                file.header[16] = file.bytes.len() as u8;
-                file.bytes.push(0);
-                file.bytes.resize((file.bytes.len() + 255) / SECTOR_BYTES * SECTOR_BYTES, 0);
-                self.free -= 1;
-            }
-            Write::Append { data, .. } => file.bytes.extend(data.lent()),
-            Write::Overwrite { offset, data, .. } => {
-                file.bytes[SECTOR_BYTES * offset..][..SECTOR_BYTES].copy_from_slice(data.lent());
-            }
-            Write::Rename { new, .. } => file.header[..10].copy_from_slice(new.lent()),
-            Write::Protect { .. } => file.header[12] |= 0x08,
-            Write::Unprotect { .. } => file.header[12] &= 0xF7,
-            Write::Delete { .. } => {
-                self.free += 1 + was;
-                return;
-            }
+    /// Does a call that is done. What the file held is free, and then what it holds is taken.
+    pub(super) fn change(&mut self, writing: &Writing, arguments: &Arguments) {
+        let name = arguments.name.name();
+        let before = self.files.remove(&name);
+        self.free += before.as_ref().map_or(0, Shelved::holds);
+        let before = before.unwrap_or_else(|| Shelved::new(&name));
+        if let Some(mut file) = (writing.on_shelf)(before, arguments) {
+            let sectors = file.sectors();
+            self.free -= file.holds();
+            file.header[14..16].copy_from_slice(&word(sectors));
+            let name = file.header[..10].try_into().expect("ten bytes");
+            self.files.insert(name, file);
         }
-        let sectors = file.sectors();
-        self.free -= sectors - was;
-        file.header[14..16].copy_from_slice(&word(sectors));
-        let name = file.header[..10].try_into().expect("ten bytes");
-        self.files.insert(name, file);
     }
 
     /// Whether the reference finds just this on an image.
@@ -105,5 +81,10 @@ impl Shelved {
 
     fn sectors(&self) -> usize {
         self.bytes.len() / SECTOR_BYTES
+    }
+
+    /// With the descriptor's.
+    fn holds(&self) -> usize {
+        1 + self.sectors()
     }
 }

@@ -1,9 +1,9 @@
 //! The disks that sequences begin on, so that a few calls reach what a worn disk shows.
 
-use super::arguments::{Mood, APPENDING, FILLING, STORING, WEARING};
 use crate::damage::{Change, Damage};
 use crate::random::Random;
 use crate::reference;
+use crate::table::{Mood, APPENDING, FILLING, STORING, WEARING};
 use crate::volumes::{names, Disk, File, Order, Run, Shape};
 use crate::volumes::{MOST_BLOCKS, MOST_FILES};
 

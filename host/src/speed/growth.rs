@@ -1,9 +1,9 @@
 //! The library's calls on full volumes of all sizes.
 
-use super::call::{self, Call};
 use super::row::{self, Row};
 use super::volume::{Before, Extent, Volume};
 use super::Table;
+use crate::table::{Call, DELETE, JUDGE, PACK, STORE, SUMMARY};
 
 pub(super) const TABLE: Table = Table {
     name: "growth",
@@ -15,12 +15,12 @@ pub(super) const TABLE: Table = Table {
 };
 
 const SIZES: [usize; 6] = [90, 180, 360, 720, 1440, 1600];
-const CALLS: [(&Call, Before); 5] = [
-    (&call::JUDGE, Before::Data),
-    (&call::SUMMARY, Before::Data),
-    (&call::STORE, Before::Absent),
-    (&call::DELETE, Before::Data),
-    (&call::PACK, Before::Data),
+static CALLS: [(&Call, Before); 5] = [
+    (&JUDGE, Before::Data),
+    (&SUMMARY, Before::Data),
+    (&STORE, Before::Absent),
+    (&DELETE, Before::Data),
+    (&PACK, Before::Data),
 ];
 
 /// The sectors of the longest program.
@@ -32,7 +32,8 @@ const BLOCKS_A_FILE: usize = 10;
 /// Size by size, the calls in their order.
 fn rows() -> Vec<Row> {
     let on = |sectors| {
-        CALLS.map(|(call, before)| Row { call, volume: Volume { before, ..volume(sectors) } })
+        let volume = volume(sectors);
+        CALLS.map(|(call, before)| Row { call, what: "", volume: Volume { before, ..volume } })
     };
     SIZES.into_iter().flat_map(on).collect()
 }

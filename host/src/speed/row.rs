@@ -1,58 +1,60 @@
 //! A call on a volume, by the library or by the reference.
 
-use super::call::{Call, Lent};
-use super::volume::{Built, Volume};
+use super::volume::Volume;
 use super::{NOBODY, TIMES};
 use crate::random::Random;
 use crate::reference;
-use crate::volumes::SECTOR_BYTES;
+use crate::table::lent::{Lent, Memory};
+use crate::table::{Arguments, Call};
 
 pub(super) struct Row {
     pub call: &'static Call,
+    /// What stands behind the call's title.
+    pub what: &'static str,
     pub volume: Volume,
 }
 
+/// What the call is asked with, and the memory before it.
+struct Prepared {
+    arguments: Arguments,
+    memory: Memory,
+}
+
 impl Row {
-    pub(super) fn title(&self) -> String {
-        let Volume { what, sectors, .. } = self.volume;
-        format!("{} on {} sectors, {}", self.call.title, sectors, what)
+    pub(super) fn call_title(&self) -> String {
+        [self.call.title, self.what].concat()
     }
 
-    fn lent(&self) -> Lent {
-        let random = &mut Random::new(2);
-        let Built { disk, called, unused } = self.volume.build();
-        let sectors = disk.files.last().map_or(0, |file| file.count());
-        // A program to store takes as many sectors as the volume has for it.
-        let whole_sectors = self.volume.called.sectors.saturating_sub(1);
-        Lent {
-            name: called,
-            new_name: unused,
-            place: disk.files.len().saturating_sub(1),
-            offset: sectors.saturating_sub(1),
-            sector: random.bytes(SECTOR_BYTES),
-            program: random.bytes(SECTOR_BYTES * whole_sectors),
-            buffer: random.bytes(disk.image.len()),
-            numbers: [(); 4].map(|()| random.number() as usize),
-            image: disk.image,
-        }
+    pub(super) fn title(&self) -> String {
+        let Volume { what, sectors, .. } = self.volume;
+        format!("{} on {} sectors, {}", self.call_title(), sectors, what)
+    }
+
+    fn prepared(&self) -> Prepared {
+        let full = self.volume.build();
+        let arguments = (self.call.measured.arguments)(&full);
+        let memory = Memory::of(&arguments, &full.disk.image, &mut Random::new(3));
+        Prepared { arguments, memory }
     }
 
     /// Makes the call again and again, each time on a fresh copy of the image.
     pub(super) fn repeat(&self, side: &str) -> Result<(), String> {
         let call = match side {
-            NOBODY => |_: &Call, _: &mut Lent| {},
-            "library" => |call: &Call, lent: &mut Lent| {
-                (call.by_library)(lent);
+            NOBODY => |_: &Call, _: Lent, _: &Arguments| {},
+            "library" => |call: &Call, lent: Lent, arguments: &Arguments| {
+                (call.by_library)(lent, arguments);
             },
-            "reference" => |call: &Call, lent: &mut Lent| drop((call.by_reference)(lent)),
+            "reference" => |call: &Call, lent: Lent, arguments: &Arguments| {
+                drop((call.by_reference)(lent.image, arguments));
+            },
             _ => return Err(format!("no such side: {}", side)),
         };
-        let before = self.lent();
+        let before = self.prepared();
         self.check_with(&before)?;
-        let mut lent = before.clone();
+        let mut memory = before.memory.clone();
         for _ in 0..TIMES {
-            lent.image.copy_from_slice(&before.image);
-            call(self.call, &mut lent);
+            memory.image.lent().copy_from_slice(before.memory.image.seen());
+            call(self.call, memory.lent(), &before.arguments);
         }
         Ok(())
     }
@@ -60,26 +62,26 @@ impl Row {
     /// That both are done with the call and leave the same bytes, on a volume that is full before
     /// the call or after it.
     pub(super) fn check(&self) -> Result<(), String> {
-        self.check_with(&self.lent())
+        self.check_with(&self.prepared())
     }
 
-    fn check_with(&self, before: &Lent) -> Result<(), String> {
+    fn check_with(&self, prepared: &Prepared) -> Result<(), String> {
+        let Prepared { arguments, memory: before } = prepared;
         let wrong = |what: &str| Err(format!("{}: {}", self.title(), what));
         let (mut lent, mut expected) = (before.clone(), before.clone());
-        let written = match (self.call.by_reference)(&mut expected) {
+        let written = match (self.call.by_reference)(expected.image.lent(), arguments) {
             Ok(answer) => answer.written(),
             Err(_) => return wrong("refused by the reference"),
         };
-        expected.buffer[..written.bytes.len()].copy_from_slice(&written.bytes);
-        expected.numbers[..written.numbers.len()].copy_from_slice(&written.numbers);
-        if (self.call.by_library)(&mut lent) != 0 {
+        expected.write(&written);
+        if (self.call.by_library)(lent.lent(), arguments) != 0 {
             return wrong("refused by the library");
         }
         if lent != expected {
             return wrong("the library leaves other bytes than the reference");
         }
         let is_full = |image: &[u8]| reference::free_count(image) == Ok(0);
-        if is_full(&before.image) || is_full(&lent.image) {
+        if is_full(before.image.seen()) || is_full(lent.image.seen()) {
             Ok(())
         } else {
             wrong("the volume is not full")

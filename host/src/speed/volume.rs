@@ -1,11 +1,30 @@
 //! Full volumes, and such as a call makes full.
 
 use crate::random::Random;
-use crate::volumes::{names, Disk, File, Name, Run};
+use crate::table::{Arguments, Given, NONE};
+use crate::volumes::{names, Disk, File, Name, Run, SECTOR_BYTES};
+
+/// Of the volumes that all calls are measured on.
+pub(crate) const SECTORS: usize = 1440;
+
+pub(crate) const MANY: Volume = volume("127 files, a block each", (126, 1), (10, 1));
+pub(crate) const PIECES: Volume = volume("127 files of 10 blocks", (126, 10), (10, 10));
+pub(crate) const ONE: Volume = volume("one file of 76 blocks", (0, 0), (SECTORS - 3, 76));
+pub(crate) const ALL: [Volume; 3] = [MANY, PIECES, ONE];
+
+/// The other files and their blocks, then the called file's sectors and blocks.
+pub(crate) const fn volume(
+    what: &'static str,
+    (files, blocks): (usize, usize),
+    (called_sectors, called_blocks): (usize, usize),
+) -> Volume {
+    let called = Extent { sectors: called_sectors, blocks: called_blocks };
+    Volume { what, sectors: SECTORS, files, blocks, called, before: Before::Data }
+}
 
 /// A volume with a file that is called, the last in the order of names.
 #[derive(Clone, Copy)]
-pub(super) struct Volume {
+pub(crate) struct Volume {
     pub what: &'static str,
     pub sectors: usize,
     /// The other files, which share what the called one leaves, and the blocks of each.
@@ -16,14 +35,14 @@ pub(super) struct Volume {
 }
 
 #[derive(Clone, Copy)]
-pub(super) struct Extent {
+pub(crate) struct Extent {
     pub sectors: usize,
     pub blocks: usize,
 }
 
 /// What the call finds of its file.
 #[derive(Clone, Copy)]
-pub(super) enum Before {
+pub(crate) enum Before {
     /// A data file that is not protected.
     Data,
     /// A program of whole sectors and an empty last one, as the longest is.
@@ -34,18 +53,55 @@ pub(super) enum Before {
     LacksLowest,
 }
 
-pub(super) struct Built {
+/// A volume as it was built, and what a call may be asked with on it.
+pub(crate) struct Full {
     pub disk: Disk,
-    pub called: Name,
+    called: Name,
     /// A name before those of all files.
-    pub unused: Name,
+    unused: Name,
+    /// How many sectors the volume has for the called file.
+    room: usize,
+}
+
+impl Full {
+    pub(crate) fn name(&self) -> Given {
+        Given::whole(&self.called)
+    }
+
+    pub(crate) fn new_name(&self) -> Given {
+        Given::whole(&self.unused)
+    }
+
+    /// The last place in the catalogue.
+    pub(crate) fn place(&self) -> usize {
+        self.disk.files.len().saturating_sub(1)
+    }
+
+    /// The last sector of the file.
+    pub(crate) fn offset(&self) -> usize {
+        self.disk.files.last().map_or(0, |file| file.count().saturating_sub(1))
+    }
+
+    pub(crate) fn sector(&self) -> Given {
+        Given::whole(&Random::new(2).bytes(SECTOR_BYTES))
+    }
+
+    /// A program that takes as many sectors as the volume has for it.
+    pub(crate) fn program(&self) -> Given {
+        Given::whole(&Random::new(2).bytes(SECTOR_BYTES * self.room.saturating_sub(1)))
+    }
+
+    /// A buffer that everything fits into.
+    pub(crate) fn for_buffer(&self) -> Arguments {
+        Arguments { room: self.disk.image.len(), ..NONE }
+    }
 }
 
 impl Volume {
     /// Descriptors lie from sector 2 on and blocks behind them in any order. At the end of the disk
     /// lie the called file's first block and its descriptor, so that a search for what it leaves
     /// free passes the map.
-    pub(super) fn build(&self) -> Built {
+    pub(super) fn build(&self) -> Full {
         let random = &mut Random::new(1);
         let mut named = names(self.files + 2, random).into_iter();
         let unused = named.next().expect("the first name");
@@ -57,7 +113,8 @@ impl Volume {
         let file = files.pop().expect("the called file");
         let called = file.name();
         files.extend(self.before.of(file));
-        Built { disk: Disk::of_files(self.sectors, files, random), called, unused }
+        let disk = Disk::of_files(self.sectors, files, random);
+        Full { disk, called, unused, room: self.called.sectors }
     }
 
     /// The runs of each file, the called one last.

@@ -1,0 +1,188 @@
+//! Calls that look at a volume: judge, free count, summary, entry and listing.
+
+use super::answer::number_of_kind;
+use super::arguments::{around, room_for};
+use super::plan::{is_protected, length_of};
+use super::{Answer, Arguments, Call, Often, Plan, Reading, Written, NONE};
+use crate::library::ask;
+use crate::speed::{Before, Measured, ALL};
+use crate::volumes::{Disk, File, HEADER_BYTES, MOST_SECTORS, SECTOR_BYTES};
+use crate::{pnoelithe, reference};
+
+pub(crate) static JUDGE: Call = Call {
+    title: "judge",
+    tests: &[],
+    together: &[],
+    often: Often::single(1),
+    any: |_, _| NONE,
+    by_library: |lent, _| ask!(pno_judge, [lent.image]),
+    by_host: |lent, _| pnoelithe::judge(lent.image),
+    by_reference: |image, _| reference::judge(image).map(|_| Answer::Done),
+    by_plan: Plan::Reads(Reading { of_disk: |_, _| Some(Written::default()), all: |_| vec![NONE] }),
+    met: &[],
+    measured: Measured { arguments: |_| NONE, on: &[] },
+};
+
+pub(crate) static FREE_COUNT: Call = Call {
+    title: "free count",
+    tests: &[],
+    together: &[],
+    often: Often::single(1),
+    any: |_, _| NONE,
+    by_library: |lent, _| ask!(pno_free_count, [lent.image], &mut lent.numbers[0]),
+    by_host: |lent, _| {
+        lent.numbers[0] = pnoelithe::free_count(lent.image)?;
+        Ok(())
+    },
+    by_reference: |image, _| reference::free_count(image).map(Answer::Number),
+    by_plan: Plan::Reads(Reading {
+        of_disk: |disk, _| Some(Written::new(&[], &[disk.free().len()])),
+        all: |_| vec![NONE],
+    }),
+    met: &[],
+    measured: Measured { arguments: |_| NONE, on: &[("", Before::Data, &ALL)] },
+};
+
+/// The buffer has the ten bytes of the disk name.
+pub(crate) static SUMMARY: Call = Call {
+    title: "summary",
+    tests: &[],
+    together: &[],
+    often: Often::single(1),
+    any: |_, _| for_a_name(),
+    by_library: |lent, _| {
+        let [n, files, free_sectors, _] = lent.numbers;
+        let disk_name = lent.buffer.as_mut_ptr();
+        ask!(pno_summary, [lent.image], disk_name, n, files, free_sectors)
+    },
+    by_host: |lent, _| {
+        let summary = pnoelithe::summary(lent.image)?;
+        lent.buffer.copy_from_slice(&summary.disk_name);
+        let numbers = [summary.sectors, summary.files, summary.free_sectors];
+        lent.numbers[..3].copy_from_slice(&numbers);
+        Ok(())
+    },
+    by_reference: |image, _| reference::summary(image).map(Answer::Summary),
+    by_plan: Plan::Reads(Reading {
+        of_disk: |disk, _| {
+            let numbers = [disk.sectors, disk.files.len(), disk.free().len()];
+            Some(Written::new(&disk.image[..10], &numbers))
+        },
+        all: |_| vec![for_a_name()],
+    }),
+    met: &[],
+    measured: Measured { arguments: |_| for_a_name(), on: &[("", Before::Data, &ALL)] },
+};
+
+fn for_a_name() -> Arguments {
+    Arguments { room: 10, ..NONE }
+}
+
+pub(crate) static ENTRY: Call = Call {
+    title: "entry",
+    tests: &[
+        (8, |asked| asked.on_disk(|disk| asked.at >= disk.files.len())),
+        (15, |asked| asked.room < HEADER_BYTES),
+    ],
+    together: &[(8, &[15])],
+    often: Often::single(3),
+    any: |desk, random| {
+        let room = match random.below(3) {
+            0 => random.pick(&[0, 1, HEADER_BYTES - 2, HEADER_BYTES - 1]),
+            1 => random.pick(&[HEADER_BYTES, HEADER_BYTES + 1]),
+            _ => random.pick(&[HEADER_BYTES + 2, 255, 256, 257, 256 + HEADER_BYTES - 1]),
+        };
+        Arguments { at: around(desk.disk.files.len(), random), room, ..NONE }
+    },
+    by_library: |lent, asked| {
+        let [kind, length, sectors, is_protected] = lent.numbers;
+        ask!(pno_entry, [lent.image], asked.at, [lent.buffer], kind, length, sectors, is_protected)
+    },
+    by_host: |lent, asked| {
+        let pnoelithe::Entry { kind, sectors, is_protected } =
+            pnoelithe::entry(lent.image, asked.at, lent.buffer)?;
+        *lent.numbers = [number_of_kind(kind), kind.length(), sectors, is_protected.into()];
+        Ok(())
+    },
+    by_reference: |image, asked| reference::entry(image, asked.at, asked.room).map(Answer::Entry),
+    by_plan: Plan::Reads(Reading {
+        of_disk: |disk, asked| {
+            let file = disk.files.get(asked.at)?;
+            let numbers = [kind(file).0, length_of(file), file.count(), is_protected(file).into()];
+            Some(Written::new(&file.header, &numbers))
+        },
+        all: |files| {
+            let rooms = [HEADER_BYTES - 1, HEADER_BYTES, HEADER_BYTES + 2];
+            let at_place = |at| rooms.map(|room| Arguments { at, room, ..NONE });
+            (0..=files.len()).flat_map(at_place).collect()
+        },
+    }),
+    met: &[("place one past the last", |case| {
+        let places = case.asked.disk().map(|disk| disk.files.len());
+        case.number == 8 && places == Some(case.asked.at)
+    })],
+    measured: Measured {
+        arguments: |full| Arguments { at: full.place(), ..full.for_buffer() },
+        on: &[("", Before::Data, &ALL)],
+    },
+};
+
+/// The listing's buffer is not in the paper: it is held to the rule of the others.
+pub(crate) static LISTING: Call = Call {
+    title: "listing",
+    tests: &[(15, |asked| {
+        let room = asked.room;
+        asked.disk().map_or(room == 0, |disk| room < lines(disk).len())
+    })],
+    together: &[],
+    often: Often::single(2),
+    any: |desk, random| Arguments { room: room_for(lines(desk.disk).len(), random), ..NONE },
+    by_library: |lent, _| ask!(pno_listing, [lent.image], [lent.buffer], &mut lent.numbers[0]),
+    by_host: |lent, _| {
+        lent.numbers[0] = pnoelithe::listing(lent.image, lent.buffer)?.len();
+        Ok(())
+    },
+    by_reference: |image, asked| reference::listing(image, asked.room).map(Answer::Text),
+    by_plan: Plan::Reads(Reading {
+        of_disk: |disk, _| Some(Written::counted(lines(disk).as_bytes())),
+        all: |_| {
+            let rooms = [0, SECTOR_BYTES * MOST_SECTORS];
+            rooms.map(|room| Arguments { room, ..NONE }).into()
+        },
+    }),
+    met: &[],
+    measured: Measured { arguments: |full| full.for_buffer(), on: &[("", Before::Data, &ALL)] },
+};
+
+/// The number and the word for the kind of a file of a sound disk.
+fn kind(file: &File) -> (usize, &'static str) {
+    match file.status() {
+        0x00 | 0x08 => (1, "DIS/FIX"),
+        0x80 | 0x88 => (2, "DIS/VAR"),
+        0x02 | 0x0A => (3, "INT/FIX"),
+        0x82 | 0x8A => (4, "INT/VAR"),
+        _ => (0, "PROGRAM"),
+    }
+}
+
+/// The listing of a sound disk.
+pub fn lines(disk: &Disk) -> String {
+    let free = disk.free().len();
+    let mut lines = line(&[&unpadded(&disk.image[..10]), &disk.sectors, &free]);
+    for file in &disk.files {
+        let protection = if is_protected(file) { "P" } else { "U" };
+        let (_, kind) = kind(file);
+        let name = unpadded(&file.name());
+        lines += &line(&[&name, &kind, &length_of(file), &file.count(), &protection]);
+    }
+    lines
+}
+
+fn line(fields: &[&dyn ToString]) -> String {
+    let fields: Vec<String> = fields.iter().map(|field| field.to_string()).collect();
+    fields.join(" ") + "\n"
+}
+
+fn unpadded(name: &[u8]) -> String {
+    name.iter().filter(|byte| **byte != b' ').map(|byte| char::from(*byte)).collect()
+}

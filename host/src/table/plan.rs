@@ -1,0 +1,251 @@
+//! What a call must do by the plan of a disk, which knows the files and where everything lies. Every
+//! fault is looked for on its own, and the first in the paper's order gives the number. What is
+//! read comes from the plan, the disk name and the sectors of files apart; a call that writes
+//! changes the plan's files, and map, sector 1 and descriptors are laid down from these anew.
+
+use super::{Arguments, Call, Given, Written};
+use crate::reference;
+use crate::sequences::Shelved;
+use crate::suites::Image;
+use crate::volumes::{is_name, Disk, File, Name, Run, MOST_BLOCKS, MOST_FILES, SECTOR_BYTES};
+use std::ops::Deref;
+
+const FIRST_FOR_DATA: usize = 34;
+
+/// What a call that has no fault does.
+pub(crate) enum Plan {
+    Reads(Reading),
+    /// The disk that it makes of an image of so many bytes, whatever they were.
+    Formats(fn(usize, &Arguments) -> Disk),
+    Writes(Writing),
+}
+
+pub(crate) struct Reading {
+    /// What is given of a disk if the buffer is long enough; none where there is nothing to give.
+    pub of_disk: fn(&Disk, &Arguments) -> Option<Written>,
+    /// All that can be read of a volume with these files; at each end one step further, under names
+    /// that no file has, and with buffers that are too short.
+    pub all: fn(&[Listed]) -> Vec<Arguments>,
+}
+
+/// A file of a volume: its name and its number of sectors.
+pub(crate) type Listed = (Name, usize);
+
+pub(crate) struct Writing {
+    /// Changes the files and what lies in their sectors.
+    pub on_disk: fn(&mut Disk, &Arguments),
+    /// The file as the caller knows it: one without bytes where there was none, and none where
+    /// there is none then.
+    pub on_shelf: fn(Shelved, &Arguments) -> Option<Shelved>,
+    pub look: Option<Look>,
+}
+
+/// What is often done next, and the call that does it, to look at what was written: on the disk
+/// afterwards, by the arguments of the call that wrote.
+pub(crate) type Look = (&'static str, fn(&Disk, &Arguments) -> (&'static Call, Arguments));
+
+/// A call's arguments, and the image that they are for.
+#[derive(Clone, Copy)]
+pub(crate) struct Asked<'case> {
+    pub arguments: &'case Arguments,
+    pub image: &'case Image<'case>,
+}
+
+impl Deref for Asked<'_> {
+    type Target = Arguments;
+
+    fn deref(&self) -> &Arguments {
+        self.arguments
+    }
+}
+
+impl<'case> Asked<'case> {
+    pub(crate) fn disk(&self) -> Option<&'case Disk> {
+        self.image.planned
+    }
+
+    pub(crate) fn file(&self) -> Option<&'case File> {
+        find(self.disk()?, &self.name)
+    }
+
+    /// Whether the disk is known and keeps a rule.
+    pub(super) fn on_disk(&self, rule: impl FnOnce(&Disk) -> bool) -> bool {
+        self.disk().map_or(false, rule)
+    }
+
+    /// The same of the file.
+    pub(super) fn on_file(&self, rule: impl FnOnce(&File) -> bool) -> bool {
+        self.file().map_or(false, rule)
+    }
+
+    /// How far the offset lies past the last, where it does.
+    pub(super) fn past(&self) -> Option<usize> {
+        self.at.checked_sub(self.file()?.count())
+    }
+
+    /// Whether fewer sectors are free than are taken.
+    pub(super) fn lacks(&self, sectors: usize) -> bool {
+        self.on_disk(|disk| disk.free().len() < sectors)
+    }
+}
+
+/// Tests that several calls have, by their numbers.
+pub(super) fn bad_name(asked: &Asked) -> bool {
+    !is_good(&asked.name)
+}
+
+pub(super) fn absent(asked: &Asked) -> bool {
+    !bad_name(asked) && asked.disk().is_some() && asked.file().is_none()
+}
+
+pub(super) fn present(asked: &Asked) -> bool {
+    asked.file().is_some()
+}
+
+pub(super) fn protected(asked: &Asked) -> bool {
+    asked.on_file(is_protected)
+}
+
+pub(super) fn program(asked: &Asked) -> bool {
+    asked.on_file(is_program)
+}
+
+/// Data that is to be one sector is not.
+pub(super) fn not_a_sector(asked: &Asked) -> bool {
+    asked.other.lent().len() != SECTOR_BYTES
+}
+
+pub(super) fn full_index(asked: &Asked) -> bool {
+    asked.on_disk(|disk| disk.files.len() == MOST_FILES)
+}
+
+/// Whether a chain would have too many blocks; none is where the file cannot grow for other reasons.
+pub(super) fn is_too_long(runs: Option<Vec<Run>>) -> bool {
+    runs.map_or(false, |runs| runs.len() > MOST_BLOCKS)
+}
+
+pub(crate) fn is_good(name: &Given) -> bool {
+    name.lent().try_into().map_or(false, is_name)
+}
+
+pub(crate) fn is_program(file: &File) -> bool {
+    file.status() & 0x01 != 0
+}
+
+pub(crate) fn is_protected(file: &File) -> bool {
+    file.status() & 0x08 != 0
+}
+
+/// A program's bytes or else the record length; of a program without a sector, on no sound disk,
+/// any number will do.
+pub(super) fn length_of(file: &File) -> usize {
+    let [end_offset, record_length] = [16, 17].map(|byte| usize::from(file.header[byte]));
+    if is_program(file) {
+        SECTOR_BYTES * file.count().saturating_sub(1) + end_offset
+    } else {
+        record_length
+    }
+}
+
+/// A file of a name that keeps the rule: no other has one.
+pub(super) fn find<'disk>(disk: &'disk Disk, name: &Given) -> Option<&'disk File> {
+    disk.files.iter().find(|file| file.name()[..] == *name.lent())
+}
+
+/// The file that a call without fault changes.
+pub(super) fn called<'disk>(disk: &'disk mut Disk, arguments: &Arguments) -> &'disk mut File {
+    let name = arguments.name.name();
+    disk.files.iter_mut().find(|file| file.name() == name).expect("a call without fault has one")
+}
+
+/// The runs of a file that takes so many sectors more, of those that are free; none where they are
+/// fewer.
+pub(super) fn grown(mut runs: Vec<Run>, free: &[usize], more: usize) -> Option<Vec<Run>> {
+    let (high, low): (Vec<usize>, Vec<usize>) =
+        free.iter().partition(|sector| **sector >= FIRST_FOR_DATA);
+    for place in [high, low].concat().get(..more)? {
+        match runs.last_mut() {
+            Some(run) if run.start + run.length == *place => run.length += 1,
+            _ => runs.push(Run { start: *place, length: 1 }),
+        }
+    }
+    Some(runs)
+}
+
+/// Fills sectors with the bytes, and what is left of them with zeros: the last sector of a program
+/// may have no byte of it.
+pub(super) fn fill(disk: &mut Disk, places: impl Iterator<Item = usize>, bytes: &[u8]) {
+    let parts = bytes.chunks(SECTOR_BYTES).chain([&[][..]]);
+    for (place, part) in places.zip(parts) {
+        let sector = &mut disk.image[SECTOR_BYTES * place..][..SECTOR_BYTES];
+        sector[..part.len()].copy_from_slice(part);
+        sector[part.len()..].fill(0);
+    }
+}
+
+/// All that is known to be wrong with a call, in the order in which it is tested.
+pub(super) fn faults(call: &Call, asked: &Asked) -> Vec<u32> {
+    let of_image = asked.image.number.filter(|number| call.is_judging() && *number != 0);
+    let due = call.tests.iter().filter(|(_, is_due)| is_due(asked));
+    of_image.into_iter().chain(due.map(|(number, _)| *number)).collect()
+}
+
+/// What a call gives by the plan.
+pub(super) struct Planned {
+    pub number: u32,
+    pub written: Written,
+    /// The disk that the call makes or changes.
+    pub disk: Option<Disk>,
+}
+
+/// None where it is not settled what the image holds.
+pub(super) fn planned(call: &Call, asked: &Asked, faults: &[u32]) -> Option<Planned> {
+    let Asked { arguments, image } = asked;
+    let number = faults.first().copied().unwrap_or(0);
+    let (mut written, mut disk) = (Written::default(), None);
+    let is_known = image.planned.is_some() || image.number.map_or(false, |number| number != 0);
+    if call.is_judging() && !is_known {
+        return None;
+    }
+    match (number, &call.by_plan, image.planned) {
+        (0, Plan::Reads(reading), Some(disk)) => {
+            written = (reading.of_disk)(disk, arguments).unwrap_or_default();
+        }
+        (0, Plan::Formats(formats), _) => disk = Some(formats(image.bytes.len(), arguments)),
+        (0, Plan::Writes(writing), Some(planned)) => {
+            let mut changed = planned.clone();
+            (writing.on_disk)(&mut changed, arguments);
+            changed.files.sort_by_key(File::name);
+            changed.lay_down();
+            disk = Some(changed);
+        }
+        _ => {}
+    }
+    Some(Planned { number, written, disk })
+}
+
+/// How many bytes a reading call gives where its buffer is long enough, and the plan knows.
+pub(super) fn takes(call: &Call, asked: &Asked) -> Option<usize> {
+    match &call.by_plan {
+        Plan::Reads(reading) => {
+            Some((reading.of_disk)(asked.disk()?, asked.arguments)?.bytes.len())
+        }
+        _ => None,
+    }
+}
+
+/// The plan of an image that was not built from one, as the reference reads it.
+pub(crate) fn of_image(image: &[u8]) -> Option<Disk> {
+    let volume = reference::judge(image).ok()?;
+    let file = |(descriptor, described): (usize, reference::Descriptor)| File {
+        descriptor,
+        header: *described.header(),
+        runs: described.chain().blocks().map(run).collect(),
+    };
+    let files = volume.files().map(file).collect();
+    Some(Disk { sectors: volume.sectors(), files, image: image.to_vec() })
+}
+
+fn run(block: reference::Block) -> Run {
+    Run { start: block.start, length: block.last - block.first + 1 }
+}
