@@ -7,7 +7,7 @@
 // reason on standard error, and the images after it are judged all the same.
 use input::ARGUMENT_ROOM;
 use input::IMAGE_ROOM;
-use input::Reading;
+use input::Received;
 use input::read_file;
 use input::read_or_tell;
 use libc::STDIN_FILENO;
@@ -21,10 +21,10 @@ enum Verdict {
     Unread,
 }
 
-fn judge_reading(reading: Reading, buffer: &[u8]) -> Verdict {
-    match reading {
-        Reading::Bytes(length) => Verdict::Number(judge::judge(part(buffer, 0, length))),
-        Reading::Failed => Verdict::Unread,
+fn judge_received(received: Received, buffer: &[u8]) -> Verdict {
+    match received {
+        Received::Bytes(length) => Verdict::Number(judge::judge(part(buffer, 0, length))),
+        Received::Failed => Verdict::Unread,
     }
 }
 
@@ -56,8 +56,8 @@ fn judge_argument(position: usize, argument: &mut [u8], buffer: &mut [u8]) -> bo
         return write_line(Verdict::Unread, b"", buffer);
     }
     let path = &argument[..length];
-    let reading = read_file(path, buffer);
-    write_line(judge_reading(reading, buffer), path, buffer)
+    let received = read_file(path, buffer);
+    write_line(judge_received(received, buffer), path, buffer)
 }
 
 // Argument 0 is the program's own name.
@@ -75,8 +75,8 @@ fn judge_arguments(
 }
 
 fn judge_standard_input(buffer: &mut [u8]) -> bool {
-    let reading = read_or_tell(STDIN_FILENO, b"standard input", buffer);
-    let line = [mark_of(judge_reading(reading, buffer)), b'\n'];
+    let received = read_or_tell(STDIN_FILENO, b"standard input", buffer);
+    let line = [mark_of(judge_received(received, buffer)), b'\n'];
     io::write_all(STDOUT_FILENO, &line)
 }
 

@@ -9,7 +9,7 @@ ghost use Prim.Native.Nat.{_≤_};
 ghost use lib.ListN.{length};
 ghost use Rattle.rules.specs.Bytes.{part};
 ghost use Rattle.catalogue.specs.Output.{output};
-use input::Reading;
+use input::Received;
 use input::read_or_tell;
 use libc::STDIN_FILENO;
 use libc::STDOUT_FILENO;
@@ -46,8 +46,8 @@ fn put_text(image: &[u8], text: &mut [u8]) -> usize
 fn run(buffer: &mut [u8], text: &mut [u8])
     requires { ⌜ 4593 ≤ length (now text) ⌝ }
 {
-    let reading = read_or_tell(STDIN_FILENO, b"standard input", buffer);
-    let Reading::Bytes(length) = reading else {
+    let received = read_or_tell(STDIN_FILENO, b"standard input", buffer);
+    let Received::Bytes(length) = received else {
         return;
     };
     let size = put_text(part(buffer, 0, length), text);

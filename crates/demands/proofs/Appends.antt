@@ -28,7 +28,7 @@ use Rattle.rules.proofs.Opening.{IsOpened, opened-is, open-refused, changed-don
 use Rattle.rules.proofs.Written.{Whole, written-length, Apart, written-apart, written-at}
 use Rattle.rules.proofs.Listed.{label-long, sector-inside, held-inside, opened-listed}
 use Rattle.rules.proofs.Altered.{Altered, place-other}
-use Rattle.rules.proofs.Kept.{file-holds, free-unheld, map-agree}
+use Rattle.rules.proofs.Staying.{file-holds, free-unheld, map-agree}
 use Rattle.demands.specs.Catalogue.{changed}
 use Rattle.demands.specs.Call.{append}
 use Rattle.demands.specs.Ours.{outcome}

@@ -16,7 +16,7 @@ use Rattle.rules.specs.Calls.Pack.{labelArea, packed, packTests, packNumber, af
 use Rattle.rules.proofs.Tests.{all-passed, none-met, passed-both, unless-passed, unless-met}
 use Rattle.rules.proofs.Verdict.{sound, passes, unsound-first, sound-first}
 use Rattle.demands.specs.Demand3.{Packable, Demand3, packs}
-use Rattle.demands.proofs.Packing.{label-byte, packedImage, same-size, same-label, same-catalogue, packed-sound}
+use Rattle.demands.proofs.PackedSound.{label-byte, packedImage, same-size, same-label, same-catalogue, packed-sound}
 
 -- the number
 module _ (source target : List ℕ) where

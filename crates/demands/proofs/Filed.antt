@@ -18,7 +18,7 @@ use Rattle.rules.specs.Sound.{Sound}
 use Rattle.rules.proofs.Map.{count-here, count-more, count-none, count-other}
 use Rattle.rules.proofs.Bytes.{is-same, not-same}
 use Rattle.rules.proofs.Indexed.{without-none, without-here, without-later}
-use Rattle.rules.proofs.Kept.{files-kept}
+use Rattle.rules.proofs.Staying.{files-kept}
 use Rattle.rules.proofs.Listed.{listed-name}
 use Rattle.demands.specs.Catalogue.{fileName, putIn, takenOut, changed, named}
 

@@ -2,7 +2,7 @@
 mod Computed
 pub mod Bench
 pub mod Formatting
-pub mod Reading
+pub mod Faithful
 mod Filed
 mod Replacing
 pub mod Protects
@@ -20,13 +20,13 @@ mod Faults
 mod Opening
 pub mod Progress
 mod Refusals
-mod Given
+mod Shown
 mod Plain
 pub mod Ours
 pub mod Demand2
 pub mod Wrong
 pub mod Unique
-mod Packed
-mod Packing
+mod PackedSectors
+mod PackedSound
 pub mod Demand3
 pub mod WrongPacking

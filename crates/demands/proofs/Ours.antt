@@ -46,7 +46,7 @@ use Rattle.demands.proofs.Renames.{renames}
 use Rattle.demands.proofs.Refusals.{Writes, Puts, reported-puts, on-file-puts, change-writes}
 use Rattle.demands.proofs.Demand3.{packing-demand}
 use Rattle.demands.proofs.Plain.{answer-number, amount-number, summary-number, plain}
-use Rattle.demands.proofs.Given.{catalogue-length, entry-bytes, entry-answers, read-is, load-is, listing-is}
+use Rattle.demands.proofs.Shown.{catalogue-length, entry-bytes, entry-answers, read-is, load-is, listing-is}
 
 -- what a refusal leaves: of the image, and of the buffer lent
 refused-image : (image : List ℕ) (outcome : Outcome) → Writes outcome → (answerNumber (answerOf (outcome .number)) ≡ 0 → ⊥) → written image (outcome .writes) ≡ image

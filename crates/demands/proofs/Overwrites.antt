@@ -18,7 +18,7 @@ use Rattle.rules.proofs.Map.{count-more, count-at}
 use Rattle.rules.proofs.Volume.{places-count}
 use Rattle.rules.proofs.Tests.{all-passed, unless-passed}
 use Rattle.rules.proofs.Opening.{IsOpened, opened-is, open-refused, changed-done}
-use Rattle.rules.proofs.Kept.{places-kept, map-changed}
+use Rattle.rules.proofs.Staying.{places-kept, map-changed}
 use Rattle.rules.proofs.Written.{sector-other}
 use Rattle.rules.proofs.Listed.{opened-listed}
 use Rattle.rules.proofs.Altered.{own-once, place-other, own-here, own-altered}

@@ -16,9 +16,9 @@ use Rattle.rules.specs.Outcome.{gives}
 use Rattle.rules.specs.Calls.Load.{joined, loadOf}
 use Rattle.rules.proofs.Splice.{splice-length, splice-front}
 use Rattle.demands.specs.Catalogue.{fileName, putIn}
-use Rattle.demands.specs.Reading.{noFile, fileOf, nameIs, lengthIs, Loads, Reading}
+use Rattle.demands.specs.Faithful.{noFile, fileOf, nameIs, lengthIs, Loads, Faithful}
 use Rattle.demands.specs.Effects.{pieces}
-use Rattle.demands.proofs.Reading.{reading-holds}
+use Rattle.demands.proofs.Faithful.{faithful}
 
 -- a sector of the data
 pub piece-length : (bytes : List ℕ) → length (over (replicate 256 0) bytes) ≡ 256
@@ -81,9 +81,9 @@ put-stands file (first ∷ more) = go (precedes (fileName file) (fileName first)
 -- so it is found under its name
 pub put-loads : (image : List ℕ) (file : File) (listed : List File) → Sound image → catalogue image ≡ putIn file listed → isProgram (byteAt (file .header) 12) ≡ true
     → loadOf image (nameIs file) (lengthIs file) ≡ gives (lengthIs file) (take (lengthIs file) (joined (file .contents)))
-unfolding Reading Loads
+unfolding Faithful Loads
 put-loads image file listed is put program =
     let there = put-stands file listed in
     let found : fileOf image (there .place) ≡ file = ap (λ (l : List File). getD l (there .place) noFile) put ∙ there .is in
-    let load = reading-holds image is .loads (there .place) (lengthIs file) (rw put (there .inside)) in
+    let load = faithful image is .loads (there .place) (lengthIs file) (rw put (there .inside)) in
     rw found at load program (omega arith)

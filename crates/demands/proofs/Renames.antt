@@ -28,7 +28,7 @@ use Rattle.rules.proofs.Name.{name-is}
 use Rattle.rules.proofs.Descriptor.{chain-same, front-changed}
 use Rattle.rules.proofs.Map.{count-here, count-more}
 use Rattle.rules.proofs.Indexed.{without-length, placed-length, index-length}
-use Rattle.rules.proofs.Kept.{map-agree}
+use Rattle.rules.proofs.Staying.{map-agree}
 use Rattle.rules.proofs.Opening.{name-passed, opening-met, find-looks, opened-by, refused-by, unfound, changed-done, added-done, place-many}
 use Rattle.rules.proofs.Written.{Whole, written-length, Apart, written-apart, written-at}
 use Rattle.rules.proofs.Listed.{sector-inside, listed-range, listed-descriptor, rest-apart, opened-listed}

@@ -9,7 +9,7 @@ use Rattle.rules.specs.Index.{without}
 use Rattle.rules.specs.Volume.{File, files, nameIn, placesIn, fileIn, catalogue}
 use Rattle.rules.proofs.Map.{count-other, count-more}
 use Rattle.rules.proofs.Indexed.{without-count, placed-count}
-use Rattle.rules.proofs.Kept.{files-kept}
+use Rattle.rules.proofs.Staying.{files-kept}
 use Rattle.rules.proofs.Listed.{listed-name}
 use Rattle.rules.proofs.Replaced.{Slot, none, at, staying, coming, held, IsListed, IsNew, Replaced, descriptor-stands, sector-stands, name-stands, file-stands, sound-after, free-after}
 use Rattle.rules.proofs.Altered.{Altered, files-same, altered}

@@ -27,7 +27,7 @@ use Rattle.rules.proofs.Opening.{IsAbsent, absent-is, open-refused, added-done}
 use Rattle.demands.specs.Catalogue.{putIn}
 use Rattle.demands.specs.Call.{store}
 use Rattle.demands.specs.Ours.{outcome}
-use Rattle.demands.specs.Reading.{lengthIs}
+use Rattle.demands.specs.Faithful.{lengthIs}
 use Rattle.demands.specs.Effects.{effect, Done, newHeader, pieces, newProgram, Does, StoredLoads}
 use Rattle.demands.proofs.NewFile.{header-name, header-status, header-end, with-chain-made}
 use Rattle.demands.proofs.Entering.{new-file-done}

@@ -15,7 +15,7 @@ use Rattle.rules.proofs.Tests.{unless-passed, unless-met}
 use Rattle.rules.proofs.Splice.{splice-none}
 use Rattle.rules.proofs.Outcome.{says-answer, says-amount}
 use Rattle.demands.specs.Call as call
-use Rattle.demands.specs.Call.{Form, Given, Look, Result}
+use Rattle.demands.specs.Call.{Form, Answered, Look, Result}
 use Rattle.demands.specs.Ours.{seen, ours}
 use Rattle.demands.specs.Unique.{LookPromised, Promised, IsOurs, Unique}
 
@@ -30,11 +30,11 @@ same-entry entry row report said = go (entry .answer) (entry .row) (says-answer 
     go : (answer : Answer) (is : Row) → answer ≡ answerOf (report .number) → is ≡ row → _≡_ {A = Entry} (record { answer = answer; row = is }) (record { answer = answerOf (report .number); row = row })
     go answer is e f = rw (e, f)
 
-same-result : (form : Form) (answer answer′ : Given form) (buffer buffer′ image image′ : List ℕ) → answer ≡ answer′ → buffer ≡ buffer′ → image ≡ image′
+same-result : (form : Form) (answer answer′ : Answered form) (buffer buffer′ image image′ : List ℕ) → answer ≡ answer′ → buffer ≡ buffer′ → image ≡ image′
     → _≡_ {A = Result form} (record { answer = answer; buffer = buffer; image = image }) (record { answer = answer′; buffer = buffer′; image = image′ })
 same-result form answer answer′ buffer buffer′ image image′ a b i = rw (a, b, i)
 
-look-ours : {form : Form} (look : Look form) (buffer image : List ℕ) (given : Given form) (after : List ℕ) → LookPromised look buffer image given after
+look-ours : {form : Form} (look : Look form) (buffer image : List ℕ) (given : Answered form) (after : List ℕ) → LookPromised look buffer image given after
     → (given ≡ seen look buffer image .answer) × (after ≡ seen look buffer image .buffer)
 unfolding LookPromised seen
 look-ours call.judge buffer image given after p = (p .0, p .1 ∙ sym (splice-none buffer 0))

@@ -20,12 +20,12 @@ pub data Form : Type 0 where
   summary : Form
   row : Form
 
-abbrev pub Given : Form → Type 0
-Given number = ℕ
-Given answer = Answer
-Given amount = Amount
-Given summary = Summary
-Given row = Entry
+abbrev pub Answered : Form → Type 0
+Answered number = ℕ
+Answered answer = Answer
+Answered amount = Amount
+Answered summary = Summary
+Answered row = Entry
 
 -- the paper's number of an answer, case by case
 unfoldable pub answerNumber : Answer → ℕ
@@ -40,7 +40,7 @@ unfoldable pub summaryNumber : Summary → ℕ
 summaryNumber (summaries.Given sectors listed free) = 0
 summaryNumber (summaries.Refused refused) = refused
 
-abbrev pub numberIn : (form : Form) → Given form → ℕ
+abbrev pub numberIn : (form : Form) → Answered form → ℕ
 numberIn number given = given
 numberIn answer given = answerNumber given
 numberIn amount given = amountNumber given
@@ -48,7 +48,7 @@ numberIn summary given = summaryNumber given
 numberIn row given = answerNumber (given .answer)
 
 -- no refusal has the number 0, so that 0 always stands for done
-abbrev pub Plain : (form : Form) → Given form → Type 0
+abbrev pub Plain : (form : Form) → Answered form → Type 0
 Plain number given = Unit {0}
 Plain answer given = given ≡ answers.Refused 0 → ⊥
 Plain amount given = given ≡ amounts.Refused 0 → ⊥
@@ -96,7 +96,7 @@ lent (change name this) = []
 lent (format n name geometry) = []
 
 pub record Result (form : Form) : Type 0 where
-  pub answer : Given form
+  pub answer : Answered form
   pub buffer : List ℕ
   pub image : List ℕ
 

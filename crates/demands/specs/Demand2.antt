@@ -20,7 +20,7 @@ use Rattle.rules.specs.declared.Summary.the-variants as summary
 use Rattle.demands.specs.Catalogue.{named}
 use Rattle.demands.specs.Effects.{Kept, Changed, LoadGives}
 use Rattle.demands.specs.Formatting.{EmptyVolume}
-use Rattle.demands.specs.Reading.{fileOf, lengthIs}
+use Rattle.demands.specs.Faithful.{fileOf, lengthIs}
 use Rattle.demands.specs.Call as call
 use Rattle.demands.specs.Call.{Form, Look, Call, Result, Version, Plain, formOf, lent, numberOf, run}
 use Rattle.demands.specs.Grounds.{First, grounds}

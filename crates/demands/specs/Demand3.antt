@@ -14,15 +14,15 @@ pub record Packed : Type 0 where
   pub number : ℕ
   pub target : List ℕ
 
-abbrev pub Packing : Type 0
-Packing = (source target : List ℕ) → Packed
+abbrev pub Packer : Type 0
+Packer = (source target : List ℕ) → Packed
 
 -- a source and a target that can be packed: the source is sound, and the target has its length
 pub record Packable (source target : List ℕ) : Type 0 where
   pub sound : Sound source
   pub long : length target ≡ length source
 
-pub record Demand3 (pack : Packing) : Type 0 where
+pub record Demand3 (pack : Packer) : Type 0 where
   -- 0 exactly where it can be packed; otherwise the number of the source, 1 to 6, and 15 for a target of another length
   pub done : (source target : List ℕ) → (pack source target .number ≡ 0) ↔ Packable source target
   pub judged : (source target : List ℕ) → (Sound source → ⊥) → pack source target .number ≡ verdict source
@@ -44,5 +44,5 @@ pub record Demand3 (pack : Packing) : Type 0 where
   pub fresh : (source target other : List ℕ) → Packable source target → Packable source other → pack source target .target ≡ pack source other .target
 
 -- the software's version: the rules
-unfoldable pub packs : Packing
+unfoldable pub packs : Packer
 packs source target = record { number = packNumber source target; target = afterPack source target }

@@ -7,7 +7,7 @@ pub mod Grounds
 pub mod CaseM
 pub mod Bench
 pub mod Formatting
-pub mod Reading
+pub mod Faithful
 pub mod Demand2
 pub mod Wrong
 pub mod Unique

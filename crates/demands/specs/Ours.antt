@@ -21,14 +21,14 @@ use Rattle.rules.specs.Calls.Delete.{deleteOf}
 use Rattle.rules.specs.Calls.Rename.{renameOf}
 use Rattle.rules.specs.Calls.Pack.{packNumber, afterPack}
 use Rattle.demands.specs.Call as call
-use Rattle.demands.specs.Call.{Form, Given, Look, Change, Version}
+use Rattle.demands.specs.Call.{Form, Answered, Look, Change, Version}
 
 -- what a look gives: its answer, and the bytes that it puts at the front of the buffer; packing fills the whole of it
 pub record Seen (form : Form) : Type 0 where
-  pub answer : Given form
+  pub answer : Answered form
   pub buffer : List ℕ
 
-abbrev putting : {form : Form} → Given form → (bytes buffer : List ℕ) → Seen form
+abbrev putting : {form : Form} → Answered form → (bytes buffer : List ℕ) → Seen form
 putting answer bytes buffer = record { answer = answer; buffer = splice buffer 0 bytes }
 
 unfoldable pub seen : {form : Form} → Look form → (buffer image : List ℕ) → Seen form

@@ -14,11 +14,11 @@ use Rattle.rules.specs.Calls.Load.{loadOf}
 use Rattle.rules.specs.Calls.Listing.{listingOf}
 use Rattle.rules.specs.Calls.Pack.{packNumber, afterPack}
 use Rattle.demands.specs.Call as call
-use Rattle.demands.specs.Call.{Form, Given, Look, Call, Result, formOf}
+use Rattle.demands.specs.Call.{Form, Answered, Look, Call, Result, formOf}
 use Rattle.demands.specs.Ours.{outcome, ours}
 
 -- the contract of a look in the code: what its answer says, and the buffer afterwards; where none is lent, it stays
-unfoldable pub LookPromised : {form : Form} → Look form → (buffer image : List ℕ) → Given form → (after : List ℕ) → Type 0
+unfoldable pub LookPromised : {form : Form} → Look form → (buffer image : List ℕ) → Answered form → (after : List ℕ) → Type 0
 LookPromised call.judge buffer image given after = (given ≡ verdict image) × (after ≡ buffer)
 LookPromised call.freeCount buffer image given after = AmountSays given (freeCountOf image) × (after ≡ buffer)
 LookPromised call.summarize buffer image given after = Gives (SummarySays image) (summaryOf image) given buffer after

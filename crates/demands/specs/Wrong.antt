@@ -17,12 +17,12 @@ use Rattle.rules.specs.declared.Amount.the-variants as amount
 use Rattle.rules.specs.declared.Summary.the-variants as summary
 use Rattle.demands.specs.Catalogue.{named}
 use Rattle.demands.specs.Call as call
-use Rattle.demands.specs.Call.{Form, Given, Look, Version, formOf, lent}
+use Rattle.demands.specs.Call.{Form, Answered, Look, Version, formOf, lent}
 use Rattle.demands.specs.Ours.{Seen, seen, ours}
 use Rattle.demands.specs.Effects.{effectOf}
 
 -- one answer for every call of a form
-unfoldable pub fixed : ℕ → Answer → Amount → Summary → (form : Form) → Given form
+unfoldable pub fixed : ℕ → Answer → Amount → Summary → (form : Form) → Answered form
 fixed number answered counted summed call.number = number
 fixed number answered counted summed call.answer = answered
 fixed number answered counted summed call.amount = counted

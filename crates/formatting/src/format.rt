@@ -8,7 +8,7 @@ ghost use Rattle.rules.specs.Outcome.{AnswerSays};
 ghost use Rattle.rules.specs.Calls.Format.{newLabel, formatted, formatNumber, afterFormat};
 ghost use Rattle.formatting.specs.Geometry.{geometryOf};
 use descriptor::name::name_rule;
-use mapping::new_map;
+use map::laid::new_map;
 use rules::Answer;
 use sector::buffer::fill;
 use sector::buffer::lay;

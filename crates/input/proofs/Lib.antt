@@ -1,2 +1,2 @@
 -- The law that belongs to no one function.
-pub mod Readings
+pub mod Receiving

@@ -10,60 +10,60 @@ pub const IMAGE_ROOM: usize = 409601;
 pub const ARGUMENT_ROOM: usize = 131072;
 
 // What a reading gives: how many bytes it put at the start of the buffer.
-pub enum Reading {
+pub enum Received {
     Bytes(usize),
     Failed,
 }
 
 // One read. At the end of the input it gives 0 bytes.
-fn read_once(descriptor: i32, buffer: &mut [u8]) -> Reading
+fn read_once(descriptor: i32, buffer: &mut [u8]) -> Received
     ensures { λ r. ⌜ Filled r (now (buffer .exit)) ⌝ }
 {
     let got = libc::read(descriptor, buffer);
     if got < 0 {
-        return Reading::Failed;
+        return Received::Failed;
     }
-    Reading::Bytes(io::count(got, buffer))
+    Received::Bytes(io::count(got, buffer))
 }
 
 // Reads until the input ends or the buffer is full. `io::read_full` answers a short count where a
 // read fails, as if the input ended there, and the bytes before a failure are no image.
-pub fn read_image(descriptor: i32, buffer: &mut [u8]) -> Reading
+pub fn read_image(descriptor: i32, buffer: &mut [u8]) -> Received
     ensures { λ r. ⌜ Filled r (now (buffer .exit)) ⌝ }
 {
     let mut filled = 0;
     while filled < buffer.len() {
         let reading = read_once(descriptor, &mut buffer[filled..]);
-        let Reading::Bytes(more) = reading else {
-            return Reading::Failed;
+        let Received::Bytes(more) = reading else {
+            return Received::Failed;
         };
         if more == 0 {
-            return Reading::Bytes(filled);
+            return Received::Bytes(filled);
         }
         filled += more;
     }
-    Reading::Bytes(filled)
+    Received::Bytes(filled)
 }
 
 // The same, with the reason on standard error where it fails, which begins with `name`.
-pub fn read_or_tell(descriptor: i32, name: &[u8], buffer: &mut [u8]) -> Reading
+pub fn read_or_tell(descriptor: i32, name: &[u8], buffer: &mut [u8]) -> Received
     ensures { λ r. ⌜ Filled r (now (buffer .exit)) ⌝ }
 {
     let reading = read_image(descriptor, buffer);
-    if let Reading::Failed = reading {
+    if let Received::Failed = reading {
         os::fail(name);
     }
     reading
 }
 
 // The image in a file. A reason is written before the descriptor is closed, since closing can set errno anew.
-pub fn read_file(path: &[u8], buffer: &mut [u8]) -> Reading
+pub fn read_file(path: &[u8], buffer: &mut [u8]) -> Received
     ensures { λ r. ⌜ Filled r (now (buffer .exit)) ⌝ }
 {
     let descriptor = os::open_read(path);
     if descriptor < 0 {
         os::fail(path);
-        return Reading::Failed;
+        return Received::Failed;
     }
     let reading = read_or_tell(descriptor, path, buffer);
     libc::close(descriptor);

@@ -7,7 +7,7 @@
 // after it are listed all the same.
 use input::ARGUMENT_ROOM;
 use input::IMAGE_ROOM;
-use input::Reading;
+use input::Received;
 use input::read_file;
 use libc::STDOUT_FILENO;
 use listing::listing;
@@ -34,10 +34,10 @@ fn put_unread(text: &mut [u8]) -> usize {
 }
 
 fn put_file(path: &[u8], buffer: &mut [u8], text: &mut [u8]) -> usize {
-    let reading = read_file(path, buffer);
-    match reading {
-        Reading::Bytes(length) => put_listing(part(buffer, 0, length), text),
-        Reading::Failed => put_unread(text),
+    let received = read_file(path, buffer);
+    match received {
+        Received::Bytes(length) => put_listing(part(buffer, 0, length), text),
+        Received::Failed => put_unread(text),
     }
 }
 

@@ -1,4 +1,5 @@
 -- The laws that the proofs share.
 mod FreeSteps
 mod BitLaws
+mod HeldBytes
 pub mod SearchLaws

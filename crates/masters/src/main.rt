@@ -10,7 +10,7 @@
 // read again for every comparison.
 use input::ARGUMENT_ROOM;
 use input::IMAGE_ROOM;
-use input::Reading;
+use input::Received;
 use input::read_image;
 use libc::STDOUT_FILENO;
 use packing::pack;
@@ -29,8 +29,8 @@ enum Master {
 }
 
 // Packs what was read. What is longer than the packed form can be is no volume.
-fn pack_reading(reading: Reading, source: &[u8], packed: &mut [u8]) -> Master {
-    let Reading::Bytes(length) = reading else {
+fn pack_received(received: Received, source: &[u8], packed: &mut [u8]) -> Master {
+    let Received::Bytes(length) = received else {
         return Master::Unread;
     };
     if length > packed.len() {
@@ -49,9 +49,9 @@ fn pack_file(path: &[u8], source: &mut [u8], packed: &mut [u8]) -> Master {
     if descriptor < 0 {
         return Master::Unread;
     }
-    let reading = read_image(descriptor, source);
+    let received = read_image(descriptor, source);
     libc::close(descriptor);
-    pack_reading(reading, source, packed)
+    pack_received(received, source, packed)
 }
 
 // Packs the image that an argument names.

@@ -12,7 +12,7 @@ use Rattle.rules.specs.Volume.{files, placesIn, headerIn, contentsIn, fileIn, c
 use Rattle.rules.specs.Sound.{Sound}
 use Rattle.rules.specs.Calls.Pack.{oneBlock, packedDescriptor, packedData, packedSectors}
 use Rattle.rules.proofs.Volume.{places-count}
-use Rattle.rules.proofs.Packing.{data-length, catalogue-whole}
+use Rattle.rules.proofs.Pack.{data-length, catalogue-whole}
 
 -- the numbers of files whose descriptors keep their rules
 pub record Kept (image ks : List ℕ) : Type 0 where

@@ -15,7 +15,7 @@ use Rattle.rules.specs.Calls.Pack.{packedDescriptor, packedDescriptors, packedD
 use Rattle.rules.proofs.Bytes.{part-short}
 use Rattle.rules.proofs.Pieces.{Pieces, pieces-first, pieces-next, pieces-last}
 use Rattle.rules.proofs.Indexed.{numbers-read}
-use Rattle.rules.proofs.Packing.{descriptor-length, file-whole}
+use Rattle.rules.proofs.Pack.{descriptor-length, file-whole}
 use Rattle.packing.proofs.FileLaws.{Kept, all-kept, first-kept, rest-kept, contents-count}
 
 abbrev pub filesFrom : List ℕ → List ℕ → ℕ → List File

@@ -23,7 +23,7 @@ use Rattle.rules.proofs.Splice.{splice-length, splice-whole, put-back}
 use Rattle.rules.proofs.Formatted.{laid-next, map-length}
 use Rattle.rules.proofs.Indexed.{index-length}
 use Rattle.rules.proofs.Verdict.{unsound-first, sound-first}
-use Rattle.rules.proofs.Packing.{label-length, descriptors-length, catalogue-whole, used-inside}
+use Rattle.rules.proofs.Pack.{label-length, descriptors-length, catalogue-whole, used-inside}
 use Rattle.packing.proofs.FileLaws.{data-ends}
 
 -- sectors 0 and 1

@@ -9,7 +9,7 @@ ghost use Rattle.rules.specs.Map.{mapOf};
 ghost use Rattle.rules.specs.Chain.{run};
 ghost use Rattle.rules.specs.Index.{indexOf};
 ghost use Rattle.rules.specs.Calls.Pack.{labelArea};
-use mapping::new_map;
+use map::laid::new_map;
 use sector::buffer::lay;
 use sector::bytes::part;
 use sector::bytes::sector_of;

@@ -16,7 +16,7 @@ use Rattle.rules.proofs.Splice.{splice-length}
 use Rattle.rules.proofs.Map.{count-none, count-here, count-append}
 use Rattle.rules.proofs.Choice.{Chosen}
 use Rattle.rules.proofs.Indexed.{placed-back}
-use Rattle.rules.proofs.Kept.{holders-without, map-agree}
+use Rattle.rules.proofs.Staying.{holders-without, map-agree}
 use Rattle.rules.proofs.Listed.{sector-inside, held-inside, file-once, holders-split, rest-apart, listed-name, not-listed}
 use Rattle.rules.proofs.Written.{sector-same, sector-other}
 use Rattle.rules.proofs.Replaced.{at, stayed, Replaced, taken-mapped}

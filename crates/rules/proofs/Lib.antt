@@ -16,7 +16,7 @@ pub mod Index
 pub mod Volume
 pub mod Indexed
 pub mod Written
-pub mod Kept
+pub mod Staying
 pub mod Listed
 pub mod Verdict
 pub mod Free
@@ -31,4 +31,4 @@ pub mod Opening
 pub mod Formatted
 pub mod MapMade
 pub mod Listing
-pub mod Packing
+pub mod Pack

@@ -16,7 +16,7 @@ use Rattle.rules.proofs.Sectors.{sector-length}
 use Rattle.rules.proofs.Name.{before-irrefl}
 use Rattle.rules.proofs.Map.{bits-taken, counted-all, count-here, count-at, count-append}
 use Rattle.rules.proofs.Volume.{file-holders-inside}
-use Rattle.rules.proofs.Kept.{holders-without, file-holds}
+use Rattle.rules.proofs.Staying.{holders-without, file-holds}
 use Rattle.rules.proofs.Opening.{IsOpened}
 use Rattle.rules.proofs.Indexed.{Ascending}
 

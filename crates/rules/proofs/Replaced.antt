@@ -20,7 +20,7 @@ use Rattle.rules.proofs.Free.{free-holders}
 use Rattle.rules.proofs.Marking.{all-label, marked-holders, cleared-holders}
 use Rattle.rules.proofs.Choice.{Chosen}
 use Rattle.rules.proofs.Indexed.{Ascending, counts-length, without-count, without-all, placed-all, without-ascending, placed-ascending, numbers-index, index-is-index}
-use Rattle.rules.proofs.Kept.{holders-kept, file-kept, holders-placed, holders-without, file-holds, free-unheld}
+use Rattle.rules.proofs.Staying.{holders-kept, file-kept, holders-placed, holders-without, file-holds, free-unheld}
 use Rattle.rules.proofs.Listed.{system-and, label-long, map-is, listed-descriptor}
 use Rattle.rules.proofs.Written.{Rebuilt, sound-again}
 

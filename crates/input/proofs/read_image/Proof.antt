@@ -7,7 +7,7 @@ use native.Mathlib.Omega.{arith}
 use lib.ListN.{length, length-take, length-drop}
 use borrow.Author.Needs.{needs}
 use Rattle.io.proofs.Counting.{counts}
-use Rattle.input.proofs.Readings.{counted}
+use Rattle.input.proofs.Receiving.{counted}
 use Rattle.input.proofs.read_image.Statement.{statement}
 use Rattle.input.proofs.read_image.Tie as tie
 

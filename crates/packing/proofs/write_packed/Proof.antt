@@ -4,7 +4,7 @@ use Prim.Native.Nat.{_*_, _≤_}
 use native.Mathlib.Omega.{arith}
 use lib.ListN.{length}
 use Rattle.rules.proofs.Splice.{splice-length}
-use Rattle.rules.proofs.Packing.{label-length, used-inside}
+use Rattle.rules.proofs.Pack.{label-length, used-inside}
 use Rattle.packing.proofs.FileLaws.{files-few}
 use Rattle.packing.proofs.PackedLaws.{laid-packed}
 use borrow.Author.Needs.{needs}

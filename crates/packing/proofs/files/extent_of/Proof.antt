@@ -6,7 +6,7 @@ use native.Mathlib.Omega.{arith}
 use lib.ListN.{length}
 use Rattle.rules.specs.Bytes.{wordAt}
 use Rattle.rules.proofs.Index.{numbers-end, numbers-short}
-use Rattle.rules.proofs.Packing.{used-inside}
+use Rattle.rules.proofs.Pack.{used-inside}
 use Rattle.packing.proofs.FileSteps.{Counted, rest-read, counted-start, counted-step, counted-end}
 use borrow.Author.Needs.{needs}
 use Rattle.packing.proofs.files.extent_of.Statement.{statement}

@@ -10,7 +10,7 @@ use Rattle.rules.specs.Chain.{places}
 use Rattle.rules.specs.Volume.{fileIn}
 use Rattle.rules.specs.Calls.Load.{joined}
 use Rattle.rules.proofs.Index.{numbers-end, numbers-short}
-use Rattle.rules.proofs.Packing.{used-inside}
+use Rattle.rules.proofs.Pack.{used-inside}
 use Rattle.packing.proofs.FileLaws.{contents-read, files-few, data-ends}
 use Rattle.packing.proofs.FileSteps.{Read, Joined, rest-read, joined-start, joined-ahead, joined-step, joined-end}
 use borrow.Author.Needs.{needs}

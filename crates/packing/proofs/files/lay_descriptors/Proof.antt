@@ -9,7 +9,7 @@ use Rattle.rules.specs.Sectors.{sectorOf}
 use Rattle.rules.specs.Descriptor.{sectorsOf}
 use Rattle.rules.specs.Volume.{headerIn}
 use Rattle.rules.proofs.Index.{numbers-end, numbers-short}
-use Rattle.rules.proofs.Packing.{header-length, used-inside}
+use Rattle.rules.proofs.Pack.{header-length, used-inside}
 use Rattle.packing.proofs.FileLaws.{header-read, contents-count, descriptor-packed, files-few}
 use Rattle.packing.proofs.FileSteps.{Read, Described, rest-read, described-start, described-ahead, described-step, described-end}
 use borrow.Author.Needs.{needs}

@@ -56,5 +56,5 @@ pub record ReadsWhatIsThere (image : List ℕ) : Type 0 where
   pub loads : Loads image
   pub free : Free image
 
-unfoldable pub Reading : Type 0
-Reading = (image : List ℕ) → Sound image → ReadsWhatIsThere image
+unfoldable pub Faithful : Type 0
+Faithful = (image : List ℕ) → Sound image → ReadsWhatIsThere image

@@ -23,12 +23,12 @@ use Rattle.rules.proofs.Volume.{places-count}
 use Rattle.rules.proofs.Formatted.{map-length}
 use Rattle.rules.proofs.Indexed.{Ascending, index-length, numbers-index, index-is-index}
 use Rattle.rules.proofs.Written.{sound-again}
-use Rattle.rules.proofs.Packing.{descriptors-length, data-length, file-whole, label-length, used-inside}
+use Rattle.rules.proofs.Pack.{descriptors-length, data-length, file-whole, label-length, used-inside}
 use Rattle.demands.specs.Catalogue.{fileName}
-use Rattle.demands.specs.Reading.{noFile}
-use Rattle.demands.proofs.Reading.{get-mapped}
+use Rattle.demands.specs.Faithful.{noFile}
+use Rattle.demands.proofs.Faithful.{get-mapped}
 use Rattle.demands.proofs.Filed.{file-name}
-use Rattle.demands.proofs.Packed.{count-runs, sector-behind, IsListed, Each, each-whole, Laid, laid, laid-files, laid-descriptor, laid-holders}
+use Rattle.demands.proofs.PackedSectors.{count-runs, sector-behind, IsListed, Each, each-whole, Laid, laid, laid-files, laid-descriptor, laid-holders}
 
 -- A file of a sound volume, as its catalogue lists it.
 module _ (n : ℕ) (image : List ℕ) (whole : length image ≡ 256 * n) where

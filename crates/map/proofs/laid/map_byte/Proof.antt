@@ -1,9 +1,9 @@
--- `mapping::map_byte` meets its contract: the bits that are not past `used` and those past the end have no sector in common. Assumes nothing.
+-- `map::laid::map_byte` meets its contract: the bits that are not past `used` and those past the end have no sector in common. Assumes nothing.
 use native.Mathlib.Omega.{arith}
-use Rattle.mapping.proofs.HeldBytes.{byte-beside}
+use Rattle.map.proofs.HeldBytes.{byte-beside}
 use borrow.Author.Needs.{needs}
-use Rattle.mapping.proofs.map_byte.Statement.{statement}
-use Rattle.mapping.proofs.map_byte.Tie as tie
+use Rattle.map.proofs.laid.map_byte.Statement.{statement}
+use Rattle.map.proofs.laid.map_byte.Tie as tie
 
 add-result : tie.Need-add-result
 add-result c =

@@ -1,10 +1,10 @@
--- `mapping::new_map` meets its contract. The loop's invariant: the first i bytes are the map's (`MapMade`). The measure is what is left of the 200. Assumes nothing.
+-- `map::laid::new_map` meets its contract. The loop's invariant: the first i bytes are the map's (`MapMade`). The measure is what is left of the 200. Assumes nothing.
 use Prim.Native.Nat.{_-_}
 use Rattle.rules.specs.Chain.{run}
 use Rattle.rules.proofs.MapMade.{MapMade, made-none, made-byte, map-made}
 use borrow.Author.Needs.{needs}
-use Rattle.mapping.proofs.new_map.Statement.{statement}
-use Rattle.mapping.proofs.new_map.Tie as tie
+use Rattle.map.proofs.laid.new_map.Statement.{statement}
+use Rattle.map.proofs.laid.new_map.Tie as tie
 
 abbrev Inv-loop : tie.InvT-loop
 Inv-loop n used map₀ i₀ map i = MapMade n (run 0 used) map i

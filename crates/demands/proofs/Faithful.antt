@@ -30,7 +30,7 @@ use Rattle.rules.proofs.Verdict.{passes, sound-first}
 use Rattle.rules.proofs.Outcome.{reported-given}
 use Rattle.rules.proofs.Opening.{opening-passed}
 use Rattle.rules.proofs.Free.{free-holders}
-use Rattle.demands.specs.Reading.{noFile, fileOf, Entries, Reads, Loads, Free, Reading}
+use Rattle.demands.specs.Faithful.{noFile, fileOf, Entries, Reads, Loads, Free, Faithful}
 
 -- an element of a mapped list, inside
 pub get-mapped : {A B : Type 0} (f : A → B) (l : List A) (p : ℕ) (d : A) (e : B) → p < length l → getD (map f l) p e ≡ f (getD l p d)
@@ -158,6 +158,6 @@ module _ (image : List ℕ) (is : Sound image) where
       rw (file-of p there, name-in p there, length-in image (fileAt image p) (is .descriptors p there))
       (load-in p there room (rw (file-of p there, header-at image (fileAt image p) 12 (omega arith)) at program) (rw (file-of p there, length-in image (fileAt image p) (is .descriptors p there)) at large))
 
-pub reading-holds : Reading
-unfolding Reading Free
-reading-holds image is = record { entries = entries image is; reads = reads image is; loads = loads image is; free = free-holders image is }
+pub faithful : Faithful
+unfolding Faithful Free
+faithful image is = record { entries = entries image is; reads = reads image is; loads = loads image is; free = free-holders image is }

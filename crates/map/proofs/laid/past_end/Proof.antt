@@ -1,10 +1,10 @@
--- `mapping::past_end` meets its contract: 255 shifted up by the number of the eight sectors that are below the end. Assumes nothing.
+-- `map::laid::past_end` meets its contract: 255 shifted up by the number of the eight sectors that are below the end. Assumes nothing.
 use Prim.Native.Nat.{_-_}
 use native.Mathlib.Omega.{arith}
-use Rattle.mapping.proofs.HeldBytes.{past-byte}
+use Rattle.map.proofs.HeldBytes.{past-byte}
 use borrow.Author.Needs.{needs}
-use Rattle.mapping.proofs.past_end.Statement.{statement}
-use Rattle.mapping.proofs.past_end.Tie as tie
+use Rattle.map.proofs.laid.past_end.Statement.{statement}
+use Rattle.map.proofs.laid.past_end.Tie as tie
 
 returns : tie.Need-returns
 returns c = past-byte _ _ 0 (omega arith) (λ j h. absurd (omega arith)) (λ j h l. omega arith)

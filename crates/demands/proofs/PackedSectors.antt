@@ -19,7 +19,7 @@ use Rattle.rules.specs.Calls.Pack.{oneBlock, packedDescriptor, packedDescriptor
 use Rattle.rules.specs.declared.Block.{Block}
 use Rattle.rules.proofs.Map.{count-append}
 use Rattle.rules.proofs.Extended.{chainWith, chain-with-length, chain-with-past, blocks-over, linked-writable}
-use Rattle.rules.proofs.Packing.{Full, joined-length, Whole, AllWhole, descriptor-length}
+use Rattle.rules.proofs.Pack.{Full, joined-length, Whole, AllWhole, descriptor-length}
 
 -- a run in two parts
 pub count-runs : (k s first second : ℕ) → count k (run s (first + second)) ≡ count k (run s first) + count k (run (s + first) second)
