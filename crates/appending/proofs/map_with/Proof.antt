@@ -1,4 +1,4 @@
--- `appending::map_with` meets its contract. Assumes nothing.
+-- `appending::map_with` meets its contract: a copy of sector 0, with the bit that `mark` makes. Assumes nothing.
 use mathlib.Core.Path.{sym, ap, _∙_}
 use mathlib.Core.List.{List}
 use Prim.Native.Nat.{ℕ}
@@ -16,8 +16,9 @@ copy-requires c κs =
 returns : tie.Need-returns
 returns c =
     let marking = c .before .before in
-    let copying = c .before .before .before .before .before .before in
-    marking .mark .ensures ∙ ap (λ (s : List ℕ). marked 1 s (c .before .before .before .before .before .before .before .before .before .before .before .args .new)) (copying .copy .ensures ∙ copying .before .sector-of .ensures)
+    let copying = marking .before .before .before .before in
+    let start = copying .before .before .before .before .before in
+    marking .mark .ensures ∙ ap (λ (s : List ℕ). marked 1 s (start .args .new)) (copying .copy .ensures ∙ copying .before .sector-of .ensures)
 
 pub map-with-spec : {M : Type 1} → statement M
 map-with-spec =

@@ -50,15 +50,33 @@ module _ (image name : List ℕ) (status recordLength recordsPerSector : ℕ) wh
       unfolding creating createTests firstOf unlessMet
       passed some k is = rw (is, asked, lt-leb 127 (length (files image)) few, le-ltb (freeCount (sectorOf image 0)) 1 (omega (arith, some)))
 
-asked : (c : tie.Else1) → createStatus (c .before .before .before .before .args .status) ≡ true
+-- the ways back: past each test, and to the choice
+abbrev start : tie.Else1 → tie.Start
+start c = c .before .before .before .before
+
+abbrev status : tie.After-word → tie.Else1
+status c = c .before .before .before
+
+abbrev place : tie.After-free-count-of → tie.Else2
+place c = c .before .before .before
+
+abbrev counted : tie.After-descriptor-choice → tie.Else3
+counted c = c .before .before .before
+
+abbrev start₂ : tie.Else2 → tie.Start
+start₂ c = start (status (c .before))
+
+abbrev start₃ : tie.After-descriptor-choice → tie.Start
+start₃ c = start₂ (place (counted c .before))
+
+asked : (c : tie.Else1) → createStatus (start c .args .status) ≡ true
 asked c = sym (c .before .create-status .ensures) ∙ not-false (c .before .create-status .result) (c .if1 .left)
 
-last-is : (c : tie.After-word) → c .word .result ≡ wordAt (sectorOf (c .before .before .before .before .before .before .before .args .image .now) 1) 252
-last-is c = rw (c .word .ensures .0, c .before .sector-of .ensures)
+last-is : (c : tie.After-word) → c .word .result ≡ wordAt (sectorOf (start (status c) .args .image .now) 1) 252
+last-is c = c .word .ensures .0 ∙ ap (λ (s : List ℕ). wordAt s 252) (c .before .sector-of .ensures)
 
-free-is : (c : tie.After-free-count-of) → c .free-count-of .result
-    ≡ freeCount (sectorOf (c .before .before .before .before .before .before .before .before .before .before .before .args .image .now) 0)
-free-is c = rw (c .free-count-of .ensures .0, c .before .sector-of2 .ensures)
+free-is : (c : tie.After-free-count-of) → c .free-count-of .result ≡ freeCount (sectorOf (start₂ (place c) .args .image .now) 0)
+free-is c = c .free-count-of .ensures .0 ∙ ap freeCount (c .before .sector-of2 .ensures)
 
 returns : tie.Need-returns
 returns c =
@@ -69,25 +87,24 @@ returns c =
 
 returns-2 : tie.Need-returns-2
 returns-2 c =
-    let start = c .before .before .before .before .before .before .before .before in
-    let a = start .args in
+    let e = status (c .before) in
+    let a = start e .args in
     refusal-meets (a .image .now) (creating (a .image .now) (a .name .now) (a .status) (a .record-length) (a .records-per-sector)) 11 (λ z. omega arith)
-    (full _ _ _ _ _ (start .pre .0) (asked (c .before .before .before .before)) (λ z. c .if2 .taken (last-is (c .before) ∙ z)))
+    (full _ _ _ _ _ (start e .pre .0) (asked e) (λ z. c .if2 .taken (last-is (c .before) ∙ z)))
 
 returns-3 : tie.Need-returns-3
 returns-3 c =
-    let room = c .before .before .before .before in
-    let start = room .before .before .before .before .before .before .before .before in
-    let a = start .args in
+    let room = place (c .before) in
+    let a = start₂ room .args in
     refusal-meets (a .image .now) (creating (a .image .now) (a .name .now) (a .status) (a .record-length) (a .records-per-sector)) 12 (λ z. omega arith)
-    (taken _ _ _ _ _ (start .pre .0) (asked (room .before .before .before .before)) (sym (last-is (room .before)) ∙ room .if2 .left) (sym (free-is (c .before)) ∙ c .if3 .taken))
+    (taken _ _ _ _ _ (start₂ room .pre .0) (asked (status (room .before))) (sym (last-is (room .before)) ∙ room .if2 .left) (sym (free-is (c .before)) ∙ c .if3 .taken))
 
 new-descriptor-requires : tie.Need-new-descriptor-requires
-new-descriptor-requires c κs = (refl, name-is _ (c .before .before .before .before .before .before .before .before .before .before .before .before .before .before .before .before .pre .1) .ten)
+new-descriptor-requires c κs = (refl, name-is _ (start₃ (c .before) .pre .1) .ten)
 
 copy-requires : tie.Need-copy-requires
 copy-requires c κs =
-    let whole = c .before .before .before .before .before .before .before .before .before .before .before .before .before .before .before .before .before .before .before .before .pre .0 in
+    let whole = start₃ (c .before .before .before .before .before) .pre .0 in
     sym (ap length (c .sector-of4 .ensures) ∙ file-long _ 0 whole (omega (arith, whole .size)))
 
 returns-4 : tie.Need-returns-4
@@ -100,10 +117,9 @@ returns-4 c =
     let copied = marking .before .before .before in
     let descriptor = copied .before .before .before .before in
     let choice = descriptor .before .before in
-    let some = choice .before .before .before in
-    let room = some .before .before .before .before in
-    let start = room .before .before .before .before .before .before .before .before in
-    let a = start .args in
+    let some = counted choice in
+    let room = place (some .before) in
+    let a = start₃ choice .args in
     let image = a .image .now in
     let name = a .name .now in
     let k = choice .descriptor-choice .result in
@@ -112,7 +128,7 @@ returns-4 c =
     let indexed = index .index-with .ensures ∙ ap (λ (s : List ℕ). indexOf (placed image name k (numbers s))) (sector1 .sector-of5 .ensures) in
     let met =
     done-meets image (creating image name (a .status) (a .record-length) (a .records-per-sector)) _
-    (passed _ _ _ _ _ (start .pre .0) (asked (room .before .before .before .before)) (sym (last-is (room .before)) ∙ room .if2 .left) (λ z. some .if3 .left (free-is (some .before) ∙ z)) k chosen)
+    (passed _ _ _ _ _ (start₃ choice .pre .0) (asked (status (room .before))) (sym (last-is (room .before)) ∙ room .if2 .left) (λ z. some .if3 .left (free-is (some .before) ∙ z)) k chosen)
     in
     record {
       said = met .said;

@@ -1,4 +1,4 @@
--- `creating::create_status` meets its contract. Assumes nothing.
+-- `creating::create_status` meets its contract: a test of the code for each of the four. Assumes nothing.
 use borrow.Author.Tests.{eq-eqb, ne-eqb}
 use Rattle.rules.specs.Calls.Create.{createStatus}
 use Rattle.creating.proofs.create_status.Statement.{statement}

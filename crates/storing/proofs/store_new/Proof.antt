@@ -27,9 +27,24 @@ use borrow.Author.Needs.{needs}
 use Rattle.storing.proofs.store_new.Statement.{statement}
 use Rattle.storing.proofs.store_new.Tie as tie
 
--- the way back to the start, to the choice of the descriptor's sector, to the spreading, and to the test of the length
+-- the ways back: past the tests of the length, of the place and of the free sectors, to the choice of the descriptor's sector, and to the spreading
+abbrev start : tie.Else1 → tie.Start
+start c = c .before .before .before .before
+
+abbrev length-tested : tie.After-word → tie.Else1
+length-tested c = c .before .before .before
+
+abbrev start₂ : tie.Else2 → tie.Start
+start₂ c = start (length-tested (c .before))
+
+abbrev place : tie.After-free-count-of → tie.Else2
+place c = c .before .before .before
+
+abbrev free-tested : tie.After-descriptor-choice → tie.Else3
+free-tested c = c .before .before .before
+
 abbrev at-start : tie.After-descriptor-choice → tie.Start
-at-start c = c .before .before .before .before .before .before .before .before .before .before .before .before .before .before .before
+at-start c = start₂ (place (free-tested c .before))
 
 abbrev at-choice : tie.After-spread → tie.After-descriptor-choice
 at-choice c = c .before .before .before .before .before .before .before .before .before .before .before
@@ -38,41 +53,41 @@ abbrev at-spread : tie.Else4 → tie.After-spread
 at-spread c = c .before .before .before
 
 abbrev at-length : tie.Else4 → tie.Else1
-at-length c = at-choice (at-spread c) .before .before .before .before .before .before .before .before .before .before .before
+at-length c = length-tested (place (free-tested (at-choice (at-spread c)) .before) .before)
 
 returns : tie.Need-returns
 returns c = refusal-meets _ _ 15 (λ z. omega arith) (too-long _ _ _ (omega (arith, c .if1 .taken)))
 
 -- the bytes are not too many
-short : (c : tie.Else1) → length (c .before .before .before .before .args .bytes .now) ≤ 32768
+short : (c : tie.Else1) → length (start c .args .bytes .now) ≤ 32768
 short c = omega (arith, c .if1 .left)
 
 -- the number at the last place of sector 1, and the free sectors
-word-is : (c : tie.After-word) → c .word .result ≡ wordAt (sectorOf (c .before .before .before .before .before .before .before .args .image .now) 1) (2 * 126)
+word-is : (c : tie.After-word) → c .word .result ≡ wordAt (sectorOf (start (length-tested c) .args .image .now) 1) (2 * 126)
 word-is c = c .word .ensures .0 ∙ ap (λ (sector : List ℕ). wordAt sector 252) (c .before .sector-of .ensures)
 
-free-is : (c : tie.After-free-count-of) → c .free-count-of .result ≡ freeCount (sectorOf (c .before .before .before .before .before .before .before .before .before .before .before .args .image .now) 0)
+free-is : (c : tie.After-free-count-of) → c .free-count-of .result ≡ freeCount (sectorOf (start₂ (place c) .args .image .now) 0)
 free-is c = c .free-count-of .ensures .0 ∙ ap freeCount (c .before .sector-of2 .ensures)
 
 returns-2 : tie.Need-returns-2
 returns-2 c =
-    let start = c .before .before .before .before .before .before .before .before in
-    let full = place-some (start .args .image .now) 126 (start .pre .0) (λ z. c .if2 .taken (word-is (c .before) ∙ z)) in
-    refusal-meets _ _ 11 (λ z. omega arith) (no-place _ _ _ (short (c .before .before .before .before)) (full .0))
+    let e = length-tested (c .before) in
+    let full = place-some (start e .args .image .now) 126 (start e .pre .0) (λ z. c .if2 .taken (word-is (c .before) ∙ z)) in
+    refusal-meets _ _ 11 (λ z. omega arith) (no-place _ _ _ (short e) (full .0))
 
 -- the tests that have passed
-has-place : (c : tie.Else2) → length (files (c .before .before .before .before .before .before .before .before .args .image .now)) ≤ 126
-has-place c = let start = c .before .before .before .before .before .before .before .before in place-none (start .args .image .now) 126 (start .pre .0) (sym (word-is (c .before)) ∙ c .if2 .left)
+has-place : (c : tie.Else2) → length (files (start₂ c .args .image .now)) ≤ 126
+has-place c = place-none (start₂ c .args .image .now) 126 (start₂ c .pre .0) (sym (word-is (c .before)) ∙ c .if2 .left)
 
 has-free : (c : tie.Else3) →
-    let a = c .before .before .before .before .before .before .before .before .before .before .before .before .args in
+    let a = start₂ (place (c .before)) .args in
     1 + sectorsFor (length (a .bytes .now)) ≤ freeCount (sectorOf (a .image .now) 0)
 has-free c = omega (arith, free-is (c .before), c .if3 .left)
 
 returns-3 : tie.Need-returns-3
 returns-3 c =
-    let passed = c .before .before .before .before in
-    refusal-meets _ _ 12 (λ z. omega arith) (too-few-free _ _ _ (short (passed .before .before .before .before)) (has-place passed) (omega (arith, free-is (c .before), c .if3 .taken)))
+    let passed = place (c .before) in
+    refusal-meets _ _ 12 (λ z. omega arith) (too-few-free _ _ _ (short (length-tested (passed .before))) (has-place passed) (omega (arith, free-is (c .before), c .if3 .taken)))
 
 copy-requires : tie.Need-copy-requires
 copy-requires c κs =
@@ -106,10 +121,10 @@ spread-was c enough e = subst (SpreadAt c) e (spread-is c)
 returns-4 : tie.Need-returns-4
 returns-4 c =
     let spreading = c .before .before .before in
-    let counted = at-choice spreading .before .before .before in
-    let placing = counted .before .before .before .before in
+    let counted = free-tested (at-choice spreading) in
+    let placing = place (counted .before) in
     refusal-meets _ _ 13 (λ z. omega arith)
-    (too-scattered _ _ _ (short (placing .before .before .before .before)) (has-place placing) (has-free counted) _ (chosen (at-choice spreading)) _ _ (spread-was spreading false (not-true _ (c .if4 .taken))))
+    (too-scattered _ _ _ (short (length-tested (placing .before))) (has-place placing) (has-free counted) _ (chosen (at-choice spreading)) _ _ (spread-was spreading false (not-true _ (c .if4 .taken))))
 
 -- all of them are in the chain
 all-spread : (c : tie.Else4) → SpreadAt (at-spread c) true
@@ -154,13 +169,13 @@ returns-5 c =
     let passed = describing .before .before .before in
     let spreading = at-spread passed in
     let choosing = at-choice spreading in
-    let counted = choosing .before .before .before in
+    let counted = free-tested choosing in
     let a = at-start choosing .args in
     let k = choosing .descriptor-choice .result in
     let chain = spreading .spread .last .1 .0 in
     let first = dataWrites (a .bytes .now) (places chain) in
     let descriptor = withChain (newDescriptor (a .name .now) 0x01 0 (length (a .bytes .now) % 256) 0) (sectorsFor (length (a .bytes .now))) (blocks chain) in
-    let whole = done-meets _ _ _ (stored _ _ _ (short (at-length passed)) (has-place (counted .before .before .before .before)) (has-free counted) k (chosen choosing) _ _ (all-spread passed)) in
+    let whole = done-meets _ _ _ (stored _ _ _ (short (at-length passed)) (has-place (place (counted .before))) (has-free counted) k (chosen choosing) _ _ (all-spread passed)) in
     record {
       said = whole .said;
       left =

@@ -1,4 +1,4 @@
--- `cataloguing::row::no_row` meets its contract. Assumes nothing.
+-- `cataloguing::row::no_row` meets its contract: its fields are those of the definition. Assumes nothing.
 use mathlib.Core.Path.{refl}
 use Rattle.rules.specs.Calls.Entry.{noRow}
 use Rattle.cataloguing.proofs.row.no_row.Statement.{statement}

@@ -1,4 +1,4 @@
--- `cataloguing::row::row_of` meets its contract. Assumes nothing.
+-- `cataloguing::row::row_of` meets its contract: field by field, each from the bytes that were read. Assumes nothing.
 use mathlib.Core.Path.{_≡_, ap, _∙_}
 use mathlib.Core.Bool.{Bool}
 use mathlib.Core.List.{List}

@@ -1,4 +1,4 @@
--- `pnoelithe::crossing::amount_number` meets its contract. Assumes nothing.
+-- `pnoelithe::crossing::amount_number` meets its contract: a case of the code for each case of the definition. Assumes nothing.
 use Rattle.pnoelithe.specs.Crossing.{amountNumber, amountBehind}
 use borrow.Author.Needs.{needs}
 use Rattle.pnoelithe.proofs.crossing.amount_number.Statement.{statement}

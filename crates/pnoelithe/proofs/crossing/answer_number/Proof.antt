@@ -1,4 +1,4 @@
--- `pnoelithe::crossing::answer_number` meets its contract. Assumes nothing.
+-- `pnoelithe::crossing::answer_number` meets its contract: a case of the code for each case of the definition. Assumes nothing.
 use Rattle.pnoelithe.specs.Crossing.{answerNumber}
 use borrow.Author.Needs.{needs}
 use Rattle.pnoelithe.proofs.crossing.answer_number.Statement.{statement}

@@ -1,4 +1,4 @@
--- `pnoelithe::crossing::flag_of` meets its contract. Assumes nothing.
+-- `pnoelithe::crossing::flag_of` meets its contract: a case of the code for each case of the definition. Assumes nothing.
 use Rattle.pnoelithe.specs.Crossing.{flag}
 use Rattle.pnoelithe.proofs.crossing.flag_of.Statement.{statement}
 use Rattle.pnoelithe.proofs.crossing.flag_of.Tie as tie

@@ -1,4 +1,4 @@
--- `pnoelithe::crossing::kind_number` meets its contract. Assumes nothing.
+-- `pnoelithe::crossing::kind_number` meets its contract: a case of the code for each case of the definition. Assumes nothing.
 use Rattle.pnoelithe.specs.Crossing.{kindNumber}
 use borrow.Author.Needs.{needs}
 use Rattle.pnoelithe.proofs.crossing.kind_number.Statement.{statement}
