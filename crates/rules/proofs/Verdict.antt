@@ -22,7 +22,7 @@ use Rattle.rules.specs.Sound.{Sound, fileAt}
 use Rattle.rules.proofs.Tests.{both, neither, all-passed, first-passed, first-met}
 use Rattle.rules.proofs.Name.{precedes-is, is-precedes, before-trans}
 use Rattle.rules.proofs.Label.{label-is, is-label}
-use Rattle.rules.proofs.Map.{count-none, count-here, count-other, count-more, taken-below, taken-past, map-at, at-map}
+use Rattle.rules.proofs.Map.{count-none, count-here, count-other, count-more, taken-below, taken-past, bits-taken, map-at, at-map}
 use Rattle.rules.proofs.Descriptor.{descriptor-is, is-descriptor}
 use Rattle.rules.proofs.Index.{index-is, is-index}
 
@@ -169,15 +169,8 @@ passes image is =
       are-descriptors n image [] (files image) (is .descriptors)
           (λ p h. precedes-none (nameIn image (fileAt image p)) (name-long n image (fileAt image p) (is .descriptors p h))) (is .ascending),
       once-held (holders image) (is .single),
-      at-map n (holders image) (sectorOf image 0) (bits image is),
+      at-map n (holders image) (sectorOf image 0) (bits-taken n (holders image) (sectorOf image 0) (is .marked) (is .filled)),
     )
-  where
-    bits : (image : List ℕ) (is : Sound image) (k : ℕ) → k < 1600 → mapBit (sectorOf image 0) k ≡ taken (sectorCount image) (holders image) k
-    bits image is k h =
-        elim (decLt k (sectorCount image)) [
-          | yes below ↦ is .marked k below ∙ sym (taken-below (sectorCount image) (holders image) k below)
-          | no past ↦ is .filled k (omega arith) h ∙ sym (taken-past (sectorCount image) (holders image) k (omega arith))
-        ]
 
 pub verdict-sound : (image : List ℕ) → (verdict image ≡ 0) ↔ Sound image
 verdict-sound image = (sound image, passes image)
