@@ -64,9 +64,6 @@ loop-holds c =
     let z : a .size - 0 ≡ a .size = omega arith in
     (refl, search needs, rw (c .first .ensures) (record { inside = omega arith; small = omega arith }), rw (c .first .ensures, at-first (a .chain .now), z))
 
-step-requires : tie.Need-step-requires Inv-loop μ-loop
-step-requires c κs = c .before .loop .inv .2
-
 returns : tie.Need-returns Inv-loop μ-loop
 returns c =
     let s = c .before .before in
@@ -115,7 +112,7 @@ join-spec =
     μ-loop
     (λ c κs. search needs)
     loop-holds
-    step-requires
+    (λ c κs. search needs)
     (λ c. search needs)
     (λ c. search needs)
     (λ c. search needs)

@@ -30,9 +30,6 @@ loop-holds c = (search needs, search needs, rw (c .sector-of .ensures))
 returns : tie.Need-returns Inv-loop μ-loop
 returns c = let k = c .before in sym (sym (k .before .loop .inv .2) ∙ find-past _ _ _ _ (k .number-at .ensures .none (c .if1 .taken)))
 
-sector-of-requires-2 : tie.Need-sector-of-requires-2 Inv-loop μ-loop
-sector-of-requires-2 c κs = c .before .number-at .ensures .small
-
 -- the way back from the comparison of names to the number read
 abbrev number : tie.After-same Inv-loop μ-loop → tie.Else1 Inv-loop μ-loop
 number c = c .before .before .before
@@ -57,9 +54,6 @@ returns-2 c = sym (stepped (c .before) ∙ rw (sym (c .before .same .ensures) �
 inside : (c : tie.Else2 Inv-loop μ-loop) → let l = number (c .before) .before .before in l .loop .at + 2 ≤ length (l .before .sector-of .result .now)
 inside c = let k = number (c .before) in k .before .number-at .ensures .inside (k .if1 .left)
 
-add-at : tie.Need-add-at Inv-loop μ-loop
-add-at c = omega (arith, inside c)
-
 loop-less : tie.Need-loop-less Inv-loop μ-loop
 loop-less c = omega (arith, inside c)
 
@@ -76,11 +70,11 @@ find-in-spec =
     loop-holds
     (λ c κs. search needs)
     returns
-    sector-of-requires-2
+    (λ c κs. search needs)
     (λ c κs. search needs)
     (λ c κs. search needs)
     returns-2
     (λ c. search needs)
-    add-at
+    (λ c. search needs)
     loop-less
     loop-again)

@@ -51,16 +51,8 @@ loop-holds c =
     let all = at-first (c .before .before .before .before .args .chain .now) in
     (refl, rw e (record { inside = omega arith; small = omega arith }), rw (e, all) (omega arith), rw (e, all))
 
-step-requires : tie.Need-step-requires Inv-loop μ-loop
-step-requires c κs = c .loop .inv .1
-
 write-sector-requires : tie.Need-write-sector-requires Inv-loop μ-loop
 write-sector-requires c κs = omega (arith, stepped (placed (c .before .before .before)) .2)
-
-add-at : tie.Need-add-at Inv-loop μ-loop
-add-at c =
-    let l = placed (laid (c .before .before)) .before .before .before in
-    omega (arith, l .loop .inv .2, start l .pre)
 
 loop-less : tie.Need-loop-less Inv-loop μ-loop
 loop-less c = omega (arith, ap length (stepped (placed (laid (c .before .before))) .0))
@@ -75,9 +67,6 @@ loop-again c =
     let piece = y .lay .ensures ∙ ap (splice (replicate 256 0) 0) (y .before .part .ensures) in
     (ap length (w .write-sector .ensures) ∙ splice-length (l .loop .image) _ _ ∙ is .0, e .1, omega (arith, ap length (e .0), is .2), piece-written (l .loop .image) (start l .args .bytes .now) (l .loop .at) (e .0) piece (w .write-sector .ensures) ∙ is .3)
 
-same-length : tie.Need-same-length Inv-loop μ-loop
-same-length c = c .before .before .before .loop .inv .0
-
 returns : tie.Need-returns Inv-loop μ-loop
 returns c =
     let l = c .before .before .before in
@@ -91,16 +80,16 @@ write-data-spec =
     μ-loop
     (λ c κs. search needs)
     loop-holds
-    step-requires
+    (λ c κs. search needs)
     (λ c. search needs)
     (λ c. search needs)
     (λ c κs. search needs)
     (λ c κs. search needs)
     (λ c. search needs)
     write-sector-requires
-    add-at
+    (λ c. search needs)
     loop-less
     loop-again
     (λ c. search needs)
-    same-length
+    (λ c. search needs)
     returns)

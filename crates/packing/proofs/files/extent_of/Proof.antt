@@ -36,27 +36,13 @@ stepped c =
 loop-holds : tie.Need-loop-holds Inv-loop μ-loop
 loop-holds c = counted-start _ _ (c .before .before .pre) (c .sector-of .ensures)
 
-number-at-requires : tie.Need-number-at-requires Inv-loop μ-loop
-number-at-requires c κs = c .loop .inv .rest .inside
-
 returns : tie.Need-returns Inv-loop μ-loop
 returns c = counted-end (c .before .before .loop .inv) (c .before .number-at .ensures .none (c .if1 .taken))
-
-add-files : tie.Need-add-files Inv-loop μ-loop
-add-files c =
-    let is = c .before .before .loop .inv in
-    omega (arith, is .few, is .rest .inside, is .rest .short)
-
-sector-of-requires-2 : tie.Need-sector-of-requires-2 Inv-loop μ-loop
-sector-of-requires-2 c κs = c .before .number-at .ensures .small
 
 add-used-2 : tie.Need-add-used-2 Inv-loop μ-loop
 add-used-2 c =
     let is = start (number c .before) .pre in
     omega (arith, stepped c .used-is, used-inside _ is, is .size)
-
-add-at : tie.Need-add-at Inv-loop μ-loop
-add-at c = omega (arith, stepped c .rest .inside)
 
 loop-less : tie.Need-loop-less Inv-loop μ-loop
 loop-less c = omega (arith, stepped c .rest .inside)
@@ -72,13 +58,13 @@ extent-of-spec =
     μ-loop
     (λ c κs. search needs)
     loop-holds
-    number-at-requires
+    (λ c κs. search needs)
     returns
-    add-files
-    sector-of-requires-2
+    (λ c. search needs)
+    (λ c κs. search needs)
     (λ c κs. search needs)
     (λ c. search needs)
     add-used-2
-    add-at
+    (λ c. search needs)
     loop-less
     loop-again)

@@ -52,17 +52,8 @@ add-to c = omega (arith, c .before .before .before .pre .1, files-few _ (c .befo
 loop-holds : tie.Need-loop-holds Inv-loop μ-loop
 loop-holds c = joined-start _ _ _ _ (c .before .before .before .pre .0) (c .sector-of .ensures)
 
-number-at-requires : tie.Need-number-at-requires Inv-loop μ-loop
-number-at-requires c κs = c .loop .inv .rest .inside
-
-same-length : tie.Need-same-length Inv-loop μ-loop
-same-length c = c .before .before .loop .inv .pieces .kept
-
 returns : tie.Need-returns Inv-loop μ-loop
 returns c = joined-end (c .before .before .loop .inv) (c .before .number-at .ensures .none (c .if1 .taken))
-
-sector-of-requires-2 : tie.Need-sector-of-requires-2 Inv-loop μ-loop
-sector-of-requires-2 c κs = c .before .number-at .ensures .small
 
 lay-sectors-requires : tie.Need-lay-sectors-requires Inv-loop μ-loop
 lay-sectors-requires c κs =
@@ -71,9 +62,6 @@ lay-sectors-requires c κs =
     let l = e .before .before in
     let is = start l .pre .0 in
     omega (arith, joined-ahead (read e) (l .loop .inv), ap length (contents p), start l .pre .1, data-ends _ is, used-inside _ is, is .size)
-
-add-at : tie.Need-add-at Inv-loop μ-loop
-add-at c = omega (arith, read (number (c .before .before)) .rest .inside)
 
 loop-less : tie.Need-loop-less Inv-loop μ-loop
 loop-less c = omega (arith, read (number (c .before .before)) .rest .inside)
@@ -97,12 +85,12 @@ lay-data-spec =
     mul-to
     add-to
     loop-holds
-    number-at-requires
-    same-length
+    (λ c κs. search needs)
+    (λ c. search needs)
     returns
-    sector-of-requires-2
+    (λ c κs. search needs)
     (λ c κs. search needs)
     lay-sectors-requires
-    add-at
+    (λ c. search needs)
     loop-less
     loop-again)

@@ -63,19 +63,10 @@ loop-holds c =
     let pre = c .before .before .before .pre in
     described-start _ _ _ _ (pre .0) (c .sector-of .ensures) (omega (arith, pre .1))
 
-number-at-requires : tie.Need-number-at-requires Inv-loop μ-loop
-number-at-requires c κs = c .loop .inv .rest .inside
-
-same-length : tie.Need-same-length Inv-loop μ-loop
-same-length c = c .before .before .loop .inv .pieces .kept
-
 returns : tie.Need-returns Inv-loop μ-loop
 returns c =
     let l = c .before .before in
     rw (start l .pre .1) (described-end (l .loop .inv) (c .before .number-at .ensures .none (c .if1 .taken)))
-
-sector-of-requires-2 : tie.Need-sector-of-requires-2 Inv-loop μ-loop
-sector-of-requires-2 c κs = c .before .number-at .ensures .small
 
 packed-descriptor-requires : tie.Need-packed-descriptor-requires Inv-loop μ-loop
 packed-descriptor-requires c κs =
@@ -84,14 +75,6 @@ packed-descriptor-requires c κs =
 
 add-start-2 : tie.Need-add-start-2 Inv-loop μ-loop
 add-start-2 c = omega (arith, few (sized (made (c .before .before) .before)))
-
-add-to : tie.Need-add-to Inv-loop μ-loop
-add-to c =
-    let is = number (sized (made (c .before .before) .before)) .before .loop .inv in
-    omega (arith, is .to-is, is .rest .inside, is .rest .short)
-
-add-at : tie.Need-add-at Inv-loop μ-loop
-add-at c = omega (arith, read (sized (made (c .before .before) .before)) .rest .inside)
 
 loop-less : tie.Need-loop-less Inv-loop μ-loop
 loop-less c = omega (arith, read (sized (made (c .before .before) .before)) .rest .inside)
@@ -116,10 +99,10 @@ lay-descriptors-spec =
     (λ c κs. search needs)
     add-start
     loop-holds
-    number-at-requires
-    same-length
+    (λ c κs. search needs)
+    (λ c. search needs)
     returns
-    sector-of-requires-2
+    (λ c κs. search needs)
     (λ c κs. search needs)
     (λ c. search needs)
     (λ c κs. search needs)
@@ -127,7 +110,7 @@ lay-descriptors-spec =
     (λ c. search needs)
     (λ c κs. search needs)
     add-start-2
-    add-to
-    add-at
+    (λ c. search needs)
+    (λ c. search needs)
     loop-less
     loop-again)

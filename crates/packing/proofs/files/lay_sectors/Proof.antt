@@ -68,16 +68,8 @@ loop-holds c =
     let e = c .first .ensures in
     (rw e (record { inside = omega arith; small = omega arith }), rw (e, at-first (s .args .chain .now)) (pieces-first _ (s .args .target .now) (s .args .at)))
 
-step-requires : tie.Need-step-requires Inv-loop μ-loop
-step-requires c κs = c .loop .inv .0
-
 sector-of-requires : tie.Need-sector-of-requires Inv-loop μ-loop
 sector-of-requires c κs = omega (arith, stepped (c .before) .2)
-
-add-to : tie.Need-add-to Inv-loop μ-loop
-add-to c =
-    let y = c .before .before in
-    omega (arith, further y .ends, start (placed (taken y) .before .before .before) .pre)
 
 loop-less : tie.Need-loop-less Inv-loop μ-loop
 loop-less c = omega (arith, ap length (stepped (placed (taken (c .before .before))) .0))
@@ -86,9 +78,6 @@ loop-again : tie.Need-loop-again Inv-loop μ-loop
 loop-again c =
     let y = c .before .before in
     (stepped (placed (taken y)) .1, further y)
-
-same-length : tie.Need-same-length Inv-loop μ-loop
-same-length c = c .before .before .before .loop .inv .1 .kept
 
 returns : tie.Need-returns Inv-loop μ-loop
 unfolding joined
@@ -104,13 +93,13 @@ lay-sectors-spec =
     μ-loop
     (λ c κs. search needs)
     loop-holds
-    step-requires
+    (λ c κs. search needs)
     (λ c. search needs)
     sector-of-requires
     (λ c κs. search needs)
-    add-to
+    (λ c. search needs)
     loop-less
     loop-again
     (λ c. search needs)
-    same-length
+    (λ c. search needs)
     returns)
