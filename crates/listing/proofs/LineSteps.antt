@@ -4,14 +4,13 @@ use mathlib.Core.List.{List, []}
 use Prim.Native.Nat.{ℕ, _+_, _*_, _≤_}
 use native.Mathlib.Omega.{arith}
 use lib.ListN.{length, drop}
-use Rattle.rules.specs.Bytes.{wordAt}
 use Rattle.rules.specs.Sectors.{sectorOf}
 use Rattle.rules.specs.Index.{numbers}
 use Rattle.rules.specs.Volume.{files}
 use Rattle.rules.specs.Calls.Listing.{fileLine, fileLines}
 use Rattle.rules.proofs.Bytes.{part-short}
 use Rattle.rules.proofs.Pieces.{Pieces, pieces-first, pieces-next, pieces-last}
-use Rattle.rules.proofs.Indexed.{numbers-read}
+use Rattle.sector.specs.Numbers.{NumbersFrom}
 use Rattle.listing.specs.Laid.{Laid}
 
 abbrev pub linesFrom : List ℕ → List ℕ → ℕ → List ℕ
@@ -27,14 +26,13 @@ unfolding files
 ahead-start image sector1 text at e = record { inside = omega arith; near = omega arith; pieces = rw e (pieces-first _ text at) }
 
 pub ahead-step : {image sector1 before after later descriptor : List ℕ} {at next further place k : ℕ} → Ahead image sector1 before after at next place
-    → place + 2 ≤ length sector1 → k ≡ wordAt sector1 place → (k ≡ 0 → ⊥) → descriptor ≡ sectorOf image k → Laid 63 after later next further (fileLine descriptor)
-    → Ahead image sector1 before later at further (place + 2)
+    → NumbersFrom sector1 place k → (k ≡ 0 → ⊥) → descriptor ≡ sectorOf image k → Laid 63 after later next further (fileLine descriptor) → Ahead image sector1 before later at further (place + 2)
 unfolding fileLines
-ahead-step {sector1 = sector1} {descriptor = descriptor} {place = place} {k = k} ahead here is some ed laid =
+ahead-step {descriptor = descriptor} ahead from some ed laid =
     record {
-      inside = here;
+      inside = from .inside some;
       near = omega (arith, ahead .near, laid .ends, laid .short);
-      pieces = pieces-next (ahead .pieces) (fileLine descriptor) (rw (numbers-read sector1 place k here is some, ed)) (laid .left) (laid .ends);
+      pieces = pieces-next (ahead .pieces) (fileLine descriptor) (rw (from .some some, ed)) (laid .left) (laid .ends);
     }
 
 pub ahead-end : {image sector1 before after : List ℕ} {at next place : ℕ} → Ahead image sector1 before after at next place → numbers (drop place sector1) ≡ [] → length sector1 ≤ 256

@@ -14,6 +14,7 @@ use sector::bytes::byte;
 use sector::bytes::part;
 use sector::bytes::sector_of;
 use sector::bytes::word;
+use sector::numbers::number_at;
 
 // Disk name, number of sectors, free count.
 fn put_disk_line(text: &mut [u8], image: &[u8]) -> usize
@@ -48,15 +49,14 @@ fn put_file_lines(text: &mut [u8], at: usize, image: &[u8]) -> usize
     let sector1 = sector_of(image, 1);
     let mut next = at;
     let mut place = 0;
-    while place + 2 <= sector1.len() {
-        let k = word(sector1, place);
+    loop {
+        let k = number_at(sector1, place);
         if k == 0 {
             return next;
         }
         next = put_file_line(text, next, sector_of(image, k));
         place += 2;
     }
-    next
 }
 
 pub(crate) fn put_listing(text: &mut [u8], image: &[u8]) -> usize

@@ -7,7 +7,7 @@ use rules::Opened;
 use sector::bytes::part;
 use sector::bytes::same;
 use sector::bytes::sector_of;
-use sector::bytes::word;
+use sector::numbers::number_at;
 
 // The first file of that name, by its place in the catalogue and its descriptor's sector.
 pub fn find_in(image: &[u8], name: &[u8]) -> Opened
@@ -16,8 +16,8 @@ pub fn find_in(image: &[u8], name: &[u8]) -> Opened
     let sector1 = sector_of(image, 1);
     let mut place = 0;
     let mut at = 0;
-    while at + 2 <= sector1.len() {
-        let k = word(sector1, at);
+    loop {
+        let k = number_at(sector1, at);
         if k == 0 {
             return Opened::Absent;
         }
@@ -27,7 +27,6 @@ pub fn find_in(image: &[u8], name: &[u8]) -> Opened
         place += 1;
         at += 2;
     }
-    Opened::Absent
 }
 
 // The file of that name in a sound volume, or the number 1 to 7 that is due.

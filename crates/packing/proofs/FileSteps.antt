@@ -4,7 +4,7 @@ use mathlib.Core.List.{List, [], _∷_, _++_, map}
 use Prim.Native.Nat.{ℕ, _+_, _*_, _≤_, _<_}
 use native.Mathlib.Omega.{arith}
 use lib.ListN.{length, drop, length-append, length-map}
-use Rattle.rules.specs.Bytes.{wordAt, splice}
+use Rattle.rules.specs.Bytes.{splice}
 use Rattle.rules.specs.Sectors.{sectorOf, sectorCount}
 use Rattle.rules.specs.Descriptor.{sectorsOf, IsDescriptor}
 use Rattle.rules.specs.Index.{numbers}
@@ -14,8 +14,8 @@ use Rattle.rules.specs.Calls.Load.{joined}
 use Rattle.rules.specs.Calls.Pack.{packedDescriptor, packedDescriptors, packedData, dataSectors, packedSectors}
 use Rattle.rules.proofs.Bytes.{part-short}
 use Rattle.rules.proofs.Pieces.{Pieces, pieces-first, pieces-next, pieces-last}
-use Rattle.rules.proofs.Indexed.{numbers-read}
 use Rattle.rules.proofs.Pack.{descriptor-length, file-whole}
+use Rattle.sector.specs.Numbers.{NumbersFrom}
 use Rattle.packing.proofs.FileLaws.{Kept, all-kept, first-kept, rest-kept, contents-count}
 
 abbrev pub filesFrom : List ℕ → List ℕ → ℕ → List File
@@ -38,11 +38,10 @@ pub rest-start : (image sector1 : List ℕ) → Sound image → sector1 ≡ sect
 unfolding files sectorOf
 rest-start image sector1 is e = record { inside = omega arith; short = rw e (part-short image 256 256); kept = rw e (all-kept image is) }
 
-pub rest-read : {image sector1 : List ℕ} {at k : ℕ} → Rest image sector1 at → at + 2 ≤ length sector1 → k ≡ wordAt sector1 at → (k ≡ 0 → ⊥) → Read image sector1 at k
-rest-read {image} {sector1} {at} {k} rest here is some =
-    let ahead = numbers-read sector1 at k here is some in
-    let kept : Kept image (k ∷ numbers (drop (at + 2) sector1)) = rw ahead at (rest .kept) in
-    record { ahead = ahead; inside = first-kept kept .0; descriptor = first-kept kept .1; rest = record { inside = here; short = rest .short; kept = rest-kept kept } }
+pub rest-read : {image sector1 : List ℕ} {at k : ℕ} → Rest image sector1 at → NumbersFrom sector1 at k → (k ≡ 0 → ⊥) → Read image sector1 at k
+rest-read {image} {sector1} {at} {k} rest from some =
+    let kept : Kept image (k ∷ numbers (drop (at + 2) sector1)) = rw (from .some some) at (rest .kept) in
+    record { ahead = from .some some; inside = first-kept kept .0; descriptor = first-kept kept .1; rest = record { inside = from .inside some; short = rest .short; kept = rest-kept kept } }
 
 -- counting: what was counted, with what the files from `at` on are to add, is the whole
 pub record Counted (image sector1 : List ℕ) (at many used : ℕ) : Type 0 where

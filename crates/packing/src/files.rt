@@ -12,10 +12,12 @@ ghost use Rattle.rules.specs.Calls.Load.{joined};
 ghost use Rattle.rules.specs.Calls.Pack.{oneBlock, packedDescriptors, packedData, packedSectors};
 use descriptor::chain::Cursor;
 use descriptor::chain::Step;
+use descriptor::chain::block_bytes;
 use sector::buffer::lay;
 use sector::bytes::part;
 use sector::bytes::sector_of;
 use sector::bytes::word;
+use sector::numbers::number_at;
 
 // How many files there are, and how many sectors are held.
 pub struct Extent {
@@ -31,8 +33,8 @@ pub(crate) fn extent_of(source: &[u8]) -> Extent
     let mut files = 0;
     let mut used = 2;
     let mut at = 0;
-    while at + 2 <= sector1.len() {
-        let k = word(sector1, at);
+    loop {
+        let k = number_at(sector1, at);
         if k == 0 {
             return Extent { files, used };
         }
@@ -40,7 +42,6 @@ pub(crate) fn extent_of(source: &[u8]) -> Extent
         used += 1 + word(sector_of(source, k), 14);
         at += 2;
     }
-    Extent { files, used }
 }
 
 // A descriptor with that header, and one block for the file's sectors from `start` on, laid into 256 zeros.
@@ -52,11 +53,7 @@ fn packed_descriptor(descriptor: &mut [u8], header: &[u8], start: usize, sectors
     if sectors == 0 {
         return;
     }
-    let last = sectors - 1;
-    let low = (start % 256) as u8;
-    let middle = (start / 256 + 16 * (last % 16)) as u8;
-    let high = (last / 16) as u8;
-    let block = [low, middle, high];
+    let block = block_bytes(start, sectors - 1);
     lay(descriptor, 28, &block);
 }
 
@@ -69,8 +66,8 @@ pub(crate) fn lay_descriptors(source: &[u8], target: &mut [u8], many: usize)
     let mut start = 2 + many;
     let mut to = 512;
     let mut at = 0;
-    while at + 2 <= sector1.len() {
-        let k = word(sector1, at);
+    loop {
+        let k = number_at(sector1, at);
         if k == 0 {
             return;
         }
@@ -110,8 +107,8 @@ pub(crate) fn lay_data(source: &[u8], target: &mut [u8], many: usize)
     let sector1 = sector_of(source, 1);
     let mut to = 512 + 256 * many;
     let mut at = 0;
-    while at + 2 <= sector1.len() {
-        let k = word(sector1, at);
+    loop {
+        let k = number_at(sector1, at);
         if k == 0 {
             return;
         }

@@ -8,9 +8,9 @@ use Prim.Native.Nat.{ℕ, zero, suc, _+_, _*_, _/_, _%_, _≤_, _<_}
 use native.Mathlib.Omega.{arith}
 use native.Mathlib.Decide.{decLt, ℕ-discrete}
 use lib.Dec.{eqb}
-use lib.ListN.{length, drop, getD, replicate, getD-replicate, List·getD-eq-default}
+use lib.ListN.{length, getD, replicate, getD-replicate, List·getD-eq-default}
 use borrow.Author.Tests.{eq-eqb, ne-eqb}
-use Rattle.rules.specs.Bytes.{byteAt, wordAt, wordBytes, over, splice}
+use Rattle.rules.specs.Bytes.{byteAt, wordBytes, over, splice}
 use Rattle.rules.specs.Name.{precedes, Before}
 use Rattle.rules.specs.Map.{count}
 use Rattle.rules.specs.Index.{numbers, numbersBytes, indexOf, without, IsIndex}
@@ -20,7 +20,6 @@ use Rattle.rules.proofs.Tests.{absurd-test}
 use Rattle.rules.proofs.Splice.{splice-length, splice-none, splice-above, splice-append}
 use Rattle.rules.proofs.Name.{precedes-is, is-precedes, not-precedes, before-trans, before-total}
 use Rattle.rules.proofs.Map.{counted-all, count-none, count-here, count-other, count-more, count-at}
-use Rattle.rules.proofs.Index.{numbers-step, numbers-end}
 
 -- numbers laid into a buffer: where none are left it stands as it is to be, and one is followed by the rest
 module _ (buffer : List ℕ) (at : ℕ) (left : List ℕ) where
@@ -36,14 +35,6 @@ module _ (buffer : List ℕ) (at : ℕ) (left : List ℕ) where
 pub laid-index : (ks : List ℕ) → splice (replicate 256 0) 0 (numbersBytes ks) ≡ indexOf ks
 unfolding indexOf splice
 laid-index ks = refl
-
--- the numbers from a byte of sector 1 on, by the one that was read there
-module _ (sector1 : List ℕ) (at k : ℕ) (here : at + 2 ≤ length sector1) (is : k ≡ wordAt sector1 at) where
-  pub numbers-read : (k ≡ 0 → ⊥) → numbers (drop at sector1) ≡ k ∷ numbers (drop (at + 2) sector1)
-  numbers-read some = rw (numbers-step sector1 at here (λ z. some (is ∙ z)), is)
-
-  pub numbers-zero : k ≡ 0 → numbers (drop at sector1) ≡ []
-  numbers-zero z = numbers-end sector1 at here (sym is ∙ z)
 
 -- a number taken out, a number at a time
 module _ (k : ℕ) where

@@ -30,25 +30,20 @@ use Rattle.rules.proofs.Tests.{absurd-test, all-passed, passed-both, fi
 use Rattle.rules.proofs.Bytes.{same-is, is-same}
 use Rattle.rules.proofs.Map.{count-none, count-other}
 use Rattle.rules.proofs.Sectors.{sector-length}
-use Rattle.rules.proofs.Index.{numbers-step, numbers-end, numbers-short, number-at, number-past}
+use Rattle.rules.proofs.Index.{number-at, number-past}
 use Rattle.rules.proofs.Volume.{place-inside}
 use Rattle.rules.proofs.Verdict.{sound, unsound-first, sound-first}
 use Rattle.rules.proofs.Outcome.{refusal-meets, amount-refused, read-refused}
 
 -- the search, a number at a time
-module _ (image name : List ℕ) (p : ℕ) (sector1 : List ℕ) (at : ℕ) where
-  pub find-step : (k : ℕ) (there : List ℕ) → at + 2 ≤ length sector1 → k ≡ wordAt sector1 at → (k ≡ 0 → ⊥) → there ≡ nameIn image k
-      → findIn image name p (numbers (drop at sector1)) ≡ cond (same name there) (At p k) (findIn image name (p + 1) (numbers (drop (at + 2) sector1)))
+module _ (image name : List ℕ) (p : ℕ) (ks : List ℕ) where
+  pub find-step : (k : ℕ) (more there : List ℕ) → ks ≡ k ∷ more → there ≡ nameIn image k → findIn image name p ks ≡ cond (same name there) (At p k) (findIn image name (p + 1) more)
   unfolding findIn
-  find-step k there here is some e = rw (numbers-step sector1 at here (λ z. some (is ∙ z)), ← is, e)
+  find-step k more there here e = rw (here, e)
 
-  pub find-zero : (k : ℕ) → at + 2 ≤ length sector1 → k ≡ wordAt sector1 at → k ≡ 0 → findIn image name p (numbers (drop at sector1)) ≡ Absent
+  pub find-past : ks ≡ [] → findIn image name p ks ≡ Absent
   unfolding findIn
-  find-zero k here is z = rw (numbers-end sector1 at here (sym is ∙ z))
-
-  pub find-past : length sector1 < at + 2 → findIn image name p (numbers (drop at sector1)) ≡ Absent
-  unfolding findIn
-  find-past h = rw (numbers-short sector1 at h)
+  find-past none = rw none
 
 -- what is found is there, under that name
 record Found (image name ks : List ℕ) (p q k : ℕ) : Type 0 where

@@ -8,6 +8,7 @@ use Rattle.rules.specs.Sectors.{sectorOf}
 use Rattle.rules.specs.Descriptor.{chainOf, fileKind}
 use Rattle.rules.specs.Volume.{placesIn, contentsIn}
 use Rattle.rules.specs.Calls.Load.{programIn}
+use Rattle.rules.proofs.Fields.{kind-read}
 use Rattle.rules.proofs.Outcome.{amount-refused, amount-given}
 use Rattle.loading.proofs.LoadLaws.{fixed-apart, variable-apart, load-data, load-size, load-short, load-given}
 use borrow.Author.Needs.{needs}
@@ -17,13 +18,12 @@ use Rattle.loading.proofs.load_at.Tie as tie
 kind-is : (c : tie.After-kind-of) →
     let a = c .before .before .before .before .before .before .before .before .args in
     fileKind (sectorOf (a .image .now) (a .k)) ≡ c .kind-of .result
-unfolding fileKind
 kind-is c =
     let b3 = c .before in
     let b2 = b3 .before in
     let w = b2 .before in
     let b = w .before in
-    sym (c .kind-of .ensures ∙ rw (b .byte .ensures .0, w .word .ensures .0, b2 .byte2 .ensures .0, b3 .byte3 .ensures .0, b .before .sector-of .ensures))
+    ap fileKind (sym (b .before .sector-of .ensures)) ∙ sym (kind-read _ (b .byte .ensures .0) (w .word .ensures .0) (b2 .byte2 .ensures .0) (b3 .byte3 .ensures .0) (c .kind-of .ensures))
 
 returns : tie.Need-returns
 returns c =

@@ -4,6 +4,7 @@ use mathlib.Core.Path.{_≡_, sym, ap, _∙_}
 use mathlib.Core.Bool.{cond}
 use mathlib.Core.List.{List}
 use Prim.Native.Nat.{ℕ, _≤_, _-_, _+_}
+use native.Mathlib.Omega.{arith}
 use lib.ListN.{length, drop}
 use Rattle.rules.specs.Bytes.{part, same}
 use Rattle.rules.specs.Index.{numbers}
@@ -11,7 +12,7 @@ use Rattle.rules.specs.Descriptor.{nameOf}
 use Rattle.rules.specs.Volume.{files, nameIn}
 use Rattle.rules.specs.Opening.{findIn}
 use Rattle.rules.specs.declared.Opened.the-variants.{At}
-use Rattle.rules.proofs.Opening.{find-step, find-zero, find-past}
+use Rattle.rules.proofs.Opening.{find-step, find-past}
 use borrow.Author.Needs.{needs}
 use Rattle.opening.proofs.find_in.Statement.{statement}
 use Rattle.opening.proofs.find_in.Tie as tie
@@ -27,34 +28,37 @@ unfolding files
 loop-holds c = (search needs, search needs, rw (c .sector-of .ensures))
 
 returns : tie.Need-returns Inv-loop μ-loop
-returns c =
-    let l = c .before .before in
-    sym (sym (l .before .loop .inv .2) ∙ find-zero _ _ _ _ _ _ (l .loop-test .taken) (c .before .word .ensures .0) (c .if1 .taken))
+returns c = let k = c .before in sym (sym (k .before .loop .inv .2) ∙ find-past _ _ _ _ (k .number-at .ensures .none (c .if1 .taken)))
+
+-- the way back from the comparison of names to the number read
+abbrev number : tie.After-same Inv-loop μ-loop → tie.Else1 Inv-loop μ-loop
+number c = c .before .before .before
 
 -- the whole search, with the file that stands here taken off
 stepped : (c : tie.After-same Inv-loop μ-loop) →
-    let w = c .before .before .before .before in
-    let l = w .before .before in
+    let k = number c .before in
+    let l = k .before in
     let a = l .before .before .before .before .args in
-    let k = w .word .result in
     findIn (a .image .now) (a .name .now) 0 (files (a .image .now))
-    ≡ cond (same (a .name .now) (c .before .part .result .now)) (At (l .loop .place) k) (findIn (a .image .now) (a .name .now) (l .loop .place + 1) (numbers (drop (l .loop .at + 2) (l .before .sector-of .result .now))))
+    ≡ cond (same (a .name .now) (c .before .part .result .now)) (At (l .loop .place) (k .number-at .result)) (findIn (a .image .now) (a .name .now) (l .loop .place + 1) (numbers (drop (l .loop .at + 2) (l .before .sector-of .result .now))))
 unfolding nameIn nameOf
 stepped c =
-    let s = c .before .before in
-    let e = s .before in
-    let l = e .before .before in
-    sym (l .before .loop .inv .2)
-    ∙ find-step _ _ _ _ _ _ _ (l .loop-test .taken) (e .before .word .ensures .0) (e .if1 .left) (c .before .part .ensures ∙ ap (λ (d : List ℕ). part d 0 10) (s .sector-of2 .ensures))
+    let k = number c .before in
+    sym (k .before .loop .inv .2)
+    ∙ find-step _ _ _ _ _ _ _ (k .number-at .ensures .some (number c .if1 .left)) (c .before .part .ensures ∙ ap (λ (d : List ℕ). part d 0 10) (c .before .before .sector-of2 .ensures))
 
 returns-2 : tie.Need-returns-2 Inv-loop μ-loop
 returns-2 c = sym (stepped (c .before) ∙ rw (sym (c .before .same .ensures) ∙ c .if2 .taken))
 
-loop-again : tie.Need-loop-again Inv-loop μ-loop
-loop-again c = (search needs, search needs, sym (stepped (c .before) ∙ rw (sym (c .before .same .ensures) ∙ c .if2 .left)))
+-- two bytes are there
+inside : (c : tie.Else2 Inv-loop μ-loop) → let l = number (c .before) .before .before in l .loop .at + 2 ≤ length (l .before .sector-of .result .now)
+inside c = let k = number (c .before) in k .before .number-at .ensures .inside (k .if1 .left)
 
-returns-3 : tie.Need-returns-3 Inv-loop μ-loop
-returns-3 c = sym (sym (c .before .loop .inv .2) ∙ find-past _ _ _ _ _ (c .loop-test .left))
+loop-less : tie.Need-loop-less Inv-loop μ-loop
+loop-less c = omega (arith, inside c)
+
+loop-again : tie.Need-loop-again Inv-loop μ-loop
+loop-again c = (inside c, search needs, sym (stepped (c .before) ∙ rw (sym (c .before .same .ensures) ∙ c .if2 .left)))
 
 pub find-in-spec : {M : Type 1} → statement M
 find-in-spec =
@@ -64,7 +68,6 @@ find-in-spec =
     μ-loop
     (λ c κs. search needs)
     loop-holds
-    (λ c. search needs)
     (λ c κs. search needs)
     returns
     (λ c κs. search needs)
@@ -73,6 +76,5 @@ find-in-spec =
     returns-2
     (λ c. search needs)
     (λ c. search needs)
-    (λ c. search needs)
-    loop-again
-    returns-3)
+    loop-less
+    loop-again)

@@ -1,8 +1,8 @@
 -- `storing::write_data` meets its contract. The loop's invariant: writing the bytes from `at` on to the places ahead of the cursor gives what writing all of them gives.
 -- The measure is the number of places ahead. Assumes nothing.
 use mathlib.Core.Path.{_≡_, refl, sym, ap, _∙_}
-use mathlib.Core.List.{List, []}
-use Prim.Native.Nat.{ℕ, _+_, _*_}
+use mathlib.Core.List.{List, _∷_}
+use Prim.Native.Nat.{ℕ, _+_, _*_, _<_}
 use native.Mathlib.Omega.{arith}
 use lib.ListN.{length, drop, replicate}
 use Rattle.rules.specs.Bytes.{splice}
@@ -10,9 +10,8 @@ use Rattle.rules.specs.Sectors.{written}
 use Rattle.rules.specs.Chain.{places}
 use Rattle.rules.specs.Calls.Store.{dataWrites}
 use Rattle.rules.proofs.Splice.{splice-length}
-use Rattle.descriptor.specs.Cursor.{ahead, Steady, Stepped}
-use Rattle.descriptor.specs.declared.chain.Step.the-variants.{Place}
-use Rattle.descriptor.proofs.Ahead.{at-first}
+use Rattle.descriptor.specs.Cursor.{ahead, Steady}
+use Rattle.descriptor.proofs.Ahead.{at-first, at-place, at-end}
 use Rattle.storing.proofs.Laying.{piece-written, none-written}
 use borrow.Author.Needs.{needs}
 use Rattle.storing.proofs.write_data.Statement.{statement}
@@ -39,13 +38,12 @@ placed c = c .before .before .before .before
 abbrev laid : tie.After-write-sector Inv-loop μ-loop → tie.After-lay Inv-loop μ-loop
 laid c = c .before .before .before .before
 
--- at a place of the chain, and at its end
-stepped : (c : tie.After-place Inv-loop μ-loop) → let s = c .before .before in Stepped (chain s) (s .before .loop .cursor) (Place (c .place .given .0 .0) (c .place .given .0 .1 .0))
-stepped c = rw (c .place .given .1) at (c .before .before .step .ensures)
-
-ended : (c : tie.After-enum-told Inv-loop μ-loop) → let s = c .before .before in ahead (chain s) (s .before .loop .cursor) ≡ []
-unfolding Stepped
-ended c = rw (c .enum-told .given .1) at (c .before .before .step .ensures)
+-- at a place of the chain
+stepped : (c : tie.After-place Inv-loop μ-loop) →
+    let s = c .before .before in
+    let next = c .place .given .0 .1 .0 in
+    (ahead (chain s) (s .before .loop .cursor) ≡ c .place .given .0 .0 ∷ ahead (chain s) next) × Steady (chain s) next × (c .place .given .0 .0 < 8192)
+stepped c = at-place _ _ _ (c .before .before .step .ensures) (c .place .given .1)
 
 loop-holds : tie.Need-loop-holds Inv-loop μ-loop
 loop-holds c =
@@ -53,24 +51,13 @@ loop-holds c =
     let all = at-first (c .before .before .before .before .args .chain .now) in
     (refl, rw e (record { inside = omega arith; small = omega arith }), rw (e, all) (omega arith), rw (e, all))
 
-step-requires : tie.Need-step-requires Inv-loop μ-loop
-step-requires c κs = c .loop .inv .1
-
 write-sector-requires : tie.Need-write-sector-requires Inv-loop μ-loop
-unfolding Stepped
 write-sector-requires c κs = omega (arith, stepped (placed (c .before .before .before)) .2)
 
-add-at : tie.Need-add-at Inv-loop μ-loop
-add-at c =
-    let l = placed (laid (c .before .before)) .before .before .before in
-    omega (arith, l .loop .inv .2, start l .pre)
-
 loop-less : tie.Need-loop-less Inv-loop μ-loop
-unfolding Stepped
 loop-less c = omega (arith, ap length (stepped (placed (laid (c .before .before))) .0))
 
 loop-again : tie.Need-loop-again Inv-loop μ-loop
-unfolding Stepped
 loop-again c =
     let w = c .before .before in
     let y = laid w in
@@ -80,13 +67,10 @@ loop-again c =
     let piece = y .lay .ensures ∙ ap (splice (replicate 256 0) 0) (y .before .part .ensures) in
     (ap length (w .write-sector .ensures) ∙ splice-length (l .loop .image) _ _ ∙ is .0, e .1, omega (arith, ap length (e .0), is .2), piece-written (l .loop .image) (start l .args .bytes .now) (l .loop .at) (e .0) piece (w .write-sector .ensures) ∙ is .3)
 
-same-length : tie.Need-same-length Inv-loop μ-loop
-same-length c = c .before .before .before .loop .inv .0
-
 returns : tie.Need-returns Inv-loop μ-loop
 returns c =
     let l = c .before .before .before in
-    sym (none-written (drop (l .loop .at) (start l .args .bytes .now)) (ended c)) ∙ l .loop .inv .3
+    sym (none-written (drop (l .loop .at) (start l .args .bytes .now)) (at-end _ _ _ (c .before .before .step .ensures) (c .enum-told .given .1))) ∙ l .loop .inv .3
 
 pub write-data-spec : {M : Type 1} → statement M
 write-data-spec =
@@ -96,16 +80,16 @@ write-data-spec =
     μ-loop
     (λ c κs. search needs)
     loop-holds
-    step-requires
+    (λ c κs. search needs)
     (λ c. search needs)
     (λ c. search needs)
     (λ c κs. search needs)
     (λ c κs. search needs)
     (λ c. search needs)
     write-sector-requires
-    add-at
+    (λ c. search needs)
     loop-less
     loop-again
     (λ c. search needs)
-    same-length
+    (λ c. search needs)
     returns)

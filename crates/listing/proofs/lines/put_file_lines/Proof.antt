@@ -1,10 +1,8 @@
 -- `listing::lines::put_file_lines` meets its contract. The loop's invariant: the lines of the numbers from byte `place` on are left, and go to `next` (`Ahead`).
 -- The measure is what is left of sector 1. Assumes nothing.
-use mathlib.Core.Path.{sym, _∙_}
 use Prim.Native.Nat.{_-_, _≤_}
 use native.Mathlib.Omega.{arith}
 use lib.ListN.{length}
-use Rattle.rules.proofs.Index.{numbers-end, numbers-short}
 use Rattle.listing.proofs.LineSteps.{Ahead, ahead-start, ahead-step, ahead-end, sector-short}
 use borrow.Author.Needs.{needs}
 use Rattle.listing.proofs.lines.put_file_lines.Statement.{statement}
@@ -19,44 +17,37 @@ abbrev μ-loop : tie.MeasureT-loop
 loop-holds : tie.Need-loop-holds Inv-loop μ-loop
 loop-holds c = ahead-start _ _ _ _ (c .sector-of .ensures)
 
--- a turn of the loop, the start of the call, and that sector 1 is short
-abbrev turn : tie.After-word Inv-loop μ-loop → tie.At-loop Inv-loop μ-loop
-turn c = c .before .before
-
+-- the start of the call, and the number that was read; that sector 1 is short
 abbrev start : tie.At-loop Inv-loop μ-loop → tie.Start Inv-loop μ-loop
 start c = c .before .before .before .before
+
+abbrev number : tie.After-sector-of2 Inv-loop μ-loop → tie.Else1 Inv-loop μ-loop
+number c = c .before .before
 
 short : (c : tie.At-loop Inv-loop μ-loop) → length (c .before .sector-of .result .now) ≤ 256
 short c = sector-short _ _ _ (c .before .sector-of .ensures)
 
-same-length : tie.Need-same-length Inv-loop μ-loop
-same-length c = c .before .before .before .loop .inv .pieces .kept
-
 returns : tie.Need-returns Inv-loop μ-loop
 returns c =
-    let w = c .before in
-    let l = turn w in
-    ahead-end (l .loop .inv) (numbers-end _ _ (w .before .loop-test .taken) (sym (w .word .ensures .0) ∙ c .if1 .taken)) (short l)
+    let l = c .before .before in
+    ahead-end (l .loop .inv) (c .before .number-at .ensures .none (c .if1 .taken)) (short l)
 
 put-file-line-requires : tie.Need-put-file-line-requires Inv-loop μ-loop
 put-file-line-requires c κs =
-    let l = turn (c .before .before .before) in
+    let l = number c .before .before in
     omega (arith, start l .pre, l .loop .inv .near, l .loop .inv .inside, short l)
+
+loop-less : tie.Need-loop-less Inv-loop μ-loop
+loop-less c =
+    let e = number (c .before .before .before) in
+    omega (arith, e .before .number-at .ensures .inside (e .if1 .left))
 
 loop-again : tie.Need-loop-again Inv-loop μ-loop
 loop-again c =
     let p = c .before .before in
     let d = p .before in
-    let e = d .before .before in
-    let w = e .before in
-    ahead-step (turn w .loop .inv) (w .before .loop-test .taken) (w .word .ensures .0) (e .if1 .left) (d .sector-of2 .ensures) (p .put-file-line .ensures)
-
-same-length-2 : tie.Need-same-length-2 Inv-loop μ-loop
-same-length-2 c = c .before .loop .inv .pieces .kept
-
-returns-2 : tie.Need-returns-2 Inv-loop μ-loop
-returns-2 c =
-    ahead-end (c .before .loop .inv) (numbers-short _ _ (c .loop-test .left)) (short (c .before))
+    let e = number d in
+    ahead-step (e .before .before .loop .inv) (e .before .number-at .ensures) (e .if1 .left) (d .sector-of2 .ensures) (p .put-file-line .ensures)
 
 pub put-file-lines-spec : {M : Type 1} → statement M
 put-file-lines-spec =
@@ -66,14 +57,11 @@ put-file-lines-spec =
     μ-loop
     (λ c κs. search needs)
     loop-holds
-    (λ c. search needs)
     (λ c κs. search needs)
-    same-length
+    (λ c. search needs)
     returns
     (λ c κs. search needs)
     put-file-line-requires
     (λ c. search needs)
-    (λ c. search needs)
-    loop-again
-    same-length-2
-    returns-2)
+    loop-less
+    loop-again)

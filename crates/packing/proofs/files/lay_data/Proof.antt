@@ -1,5 +1,5 @@
 -- `packing::files::lay_data` meets its contract. The loop's invariant: the data of the files from byte `at` of sector 1 on, laid from `to` on, gives what all data gives (`Joined`). The measure is what is left of sector 1. Assumes nothing.
-use mathlib.Core.Path.{_≡_, sym, ap, _∙_}
+use mathlib.Core.Path.{_≡_, ap, _∙_}
 use mathlib.Core.List.{List, map}
 use Prim.Native.Nat.{ℕ, _+_, _*_, _-_}
 use native.Mathlib.Omega.{arith}
@@ -9,7 +9,6 @@ use Rattle.rules.specs.Sectors.{sectorOf}
 use Rattle.rules.specs.Chain.{places}
 use Rattle.rules.specs.Volume.{fileIn}
 use Rattle.rules.specs.Calls.Load.{joined}
-use Rattle.rules.proofs.Index.{numbers-end, numbers-short}
 use Rattle.rules.proofs.Pack.{used-inside}
 use Rattle.packing.proofs.FileLaws.{contents-read, files-few, data-ends}
 use Rattle.packing.proofs.FileSteps.{Read, Joined, rest-read, joined-start, joined-ahead, joined-step, joined-end}
@@ -23,28 +22,26 @@ Inv-loop source target₀ many sector1 to₀ at₀ target to at = Joined source 
 abbrev μ-loop : tie.MeasureT-loop
 μ-loop source target₀ many sector1 to₀ at₀ target to at = length sector1 - at
 
--- the start of the call, and a turn of the loop
+-- the start of the call, and the number that was read, each found from what is behind it
 abbrev start : tie.At-loop Inv-loop μ-loop → tie.Start Inv-loop μ-loop
 start c = c .before .before .before .before
 
-abbrev turn : tie.After-word Inv-loop μ-loop → tie.At-loop Inv-loop μ-loop
-turn c = c .before .before
+abbrev number : tie.After-lay-sectors Inv-loop μ-loop → tie.Else1 Inv-loop μ-loop
+number c = c .before .before .before .before
 
--- the number that was read, and the contents of its file
+-- it is of a file; the contents of that file
 read : (c : tie.Else1 Inv-loop μ-loop) →
-    let l = turn (c .before) in
-    Read (start l .args .source .now) (l .before .sector-of .result .now) (l .loop .at) (c .before .word .result)
-read c =
-    let w = c .before in
-    rest-read (turn w .loop .inv .rest) (w .before .loop-test .taken) (w .word .ensures .0) (c .if1 .left)
+    let l = c .before .before in
+    Read (start l .args .source .now) (l .before .sector-of .result .now) (l .loop .at) (c .before .number-at .result)
+read c = rest-read (c .before .before .loop .inv .rest) (c .before .number-at .ensures) (c .if1 .left)
 
 contents : (c : tie.After-part Inv-loop μ-loop) →
-    let w = c .before .before .before in
-    let source = start (turn w) .args .source .now in
-    joined (map (sectorOf source) (places (c .part .result .now))) ≡ joined (fileIn source (w .word .result) .contents)
+    let k = c .before .before .before in
+    let source = start (k .before) .args .source .now in
+    joined (map (sectorOf source) (places (c .part .result .now))) ≡ joined (fileIn source (k .number-at .result) .contents)
 contents c =
     let d = c .before in
-    ap joined (contents-read (start (turn (d .before .before)) .args .source .now) _ _ (d .sector-of2 .ensures) _ (c .part .ensures))
+    ap joined (contents-read (start (d .before .before .before) .args .source .now) _ _ (d .sector-of2 .ensures) _ (c .part .ensures))
 
 mul-to : tie.Need-mul-to Inv-loop μ-loop
 mul-to c = omega (arith, c .before .before .before .pre .1, files-few _ (c .before .before .before .pre .0))
@@ -55,39 +52,28 @@ add-to c = omega (arith, c .before .before .before .pre .1, files-few _ (c .befo
 loop-holds : tie.Need-loop-holds Inv-loop μ-loop
 loop-holds c = joined-start _ _ _ _ (c .before .before .before .pre .0) (c .sector-of .ensures)
 
-add-loop : tie.Need-add-loop Inv-loop μ-loop
-add-loop c = omega (arith, c .loop .inv .rest .inside, c .loop .inv .rest .short)
-
-same-length : tie.Need-same-length Inv-loop μ-loop
-same-length c = turn (c .before) .loop .inv .pieces .kept
-
 returns : tie.Need-returns Inv-loop μ-loop
-returns c =
-    let w = c .before in
-    joined-end (turn w .loop .inv) (numbers-end _ _ (w .before .loop-test .taken) (sym (w .word .ensures .0) ∙ c .if1 .taken))
+returns c = joined-end (c .before .before .loop .inv) (c .before .number-at .ensures .none (c .if1 .taken))
 
 lay-sectors-requires : tie.Need-lay-sectors-requires Inv-loop μ-loop
 lay-sectors-requires c κs =
     let p = c .before in
     let e = p .before .before in
-    let l = turn (e .before) in
+    let l = e .before .before in
     let is = start l .pre .0 in
     omega (arith, joined-ahead (read e) (l .loop .inv), ap length (contents p), start l .pre .1, data-ends _ is, used-inside _ is, is .size)
+
+loop-less : tie.Need-loop-less Inv-loop μ-loop
+loop-less c = omega (arith, read (number (c .before .before)) .rest .inside)
 
 loop-again : tie.Need-loop-again Inv-loop μ-loop
 loop-again c =
     let y = c .before .before in
     let p = y .before .before in
-    let e = p .before .before in
-    let l = turn (e .before) .loop in
+    let e = number y in
+    let l = e .before .before .loop in
     let laid = y .lay-sectors .ensures in
     joined-step (read e) (l .inv) (laid .0 ∙ ap (λ (bytes : List ℕ). l .to + length bytes) (contents p)) (laid .1 ∙ ap (splice (l .target) (l .to)) (contents p))
-
-same-length-2 : tie.Need-same-length-2 Inv-loop μ-loop
-same-length-2 c = c .before .loop .inv .pieces .kept
-
-returns-2 : tie.Need-returns-2 Inv-loop μ-loop
-returns-2 c = joined-end (c .before .loop .inv) (numbers-short _ _ (c .loop-test .left))
 
 pub lay-data-spec : {M : Type 1} → statement M
 lay-data-spec =
@@ -99,15 +85,12 @@ lay-data-spec =
     mul-to
     add-to
     loop-holds
-    add-loop
     (λ c κs. search needs)
-    same-length
+    (λ c. search needs)
     returns
     (λ c κs. search needs)
     (λ c κs. search needs)
     lay-sectors-requires
     (λ c. search needs)
-    (λ c. search needs)
-    loop-again
-    same-length-2
-    returns-2)
+    loop-less
+    loop-again)

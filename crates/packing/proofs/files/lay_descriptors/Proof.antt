@@ -8,7 +8,6 @@ use Rattle.rules.specs.Bytes.{wordAt}
 use Rattle.rules.specs.Sectors.{sectorOf}
 use Rattle.rules.specs.Descriptor.{sectorsOf}
 use Rattle.rules.specs.Volume.{headerIn}
-use Rattle.rules.proofs.Index.{numbers-end, numbers-short}
 use Rattle.rules.proofs.Pack.{header-length, used-inside}
 use Rattle.packing.proofs.FileLaws.{header-read, contents-count, descriptor-packed, files-few}
 use Rattle.packing.proofs.FileSteps.{Read, Described, rest-read, described-start, described-ahead, described-step, described-end}
@@ -22,43 +21,38 @@ Inv-loop source target₀ files sector1 start₀ to₀ at₀ target start to at 
 abbrev μ-loop : tie.MeasureT-loop
 μ-loop source target₀ files sector1 start₀ to₀ at₀ target start to at = length sector1 - at
 
--- the start of the call, a turn of the loop, the number that was read, and the descriptor made, each found from what is behind it
+-- the start of the call, the number that was read, its file's sectors, and the descriptor made, each found from what is behind it
 abbrev start : tie.At-loop Inv-loop μ-loop → tie.Start Inv-loop μ-loop
 start c = c .before .before .before .before
 
-abbrev turn : tie.After-word Inv-loop μ-loop → tie.At-loop Inv-loop μ-loop
-turn c = c .before .before
-
-abbrev number : tie.After-word2 Inv-loop μ-loop → tie.After-word Inv-loop μ-loop
+abbrev number : tie.After-word Inv-loop μ-loop → tie.After-number-at Inv-loop μ-loop
 number c = c .before .before .before
 
-abbrev sized : tie.After-part Inv-loop μ-loop → tie.After-word2 Inv-loop μ-loop
+abbrev sized : tie.After-part Inv-loop μ-loop → tie.After-word Inv-loop μ-loop
 sized c = c .before .before
 
 abbrev made : tie.After-lay Inv-loop μ-loop → tie.After-packed-descriptor Inv-loop μ-loop
 made c = c .before .before .before .before
 
-abbrev source : tie.After-word2 Inv-loop μ-loop → List ℕ
-source c = start (turn (number c)) .args .source .now
+abbrev source : tie.After-word Inv-loop μ-loop → List ℕ
+source c = start (number c .before) .args .source .now
 
 -- it is of a file; its sectors, which end inside the volume, and its header
-read : (c : tie.After-word2 Inv-loop μ-loop) →
-    let w = number c in
-    Read (source c) (turn w .before .sector-of .result .now) (turn w .loop .at) (w .word .result)
-read c =
-    let w = number c in
-    rest-read (turn w .loop .inv .rest) (w .before .loop-test .taken) (w .word .ensures .0) (c .before .before .if1 .left)
+read : (c : tie.After-word Inv-loop μ-loop) →
+    let l = number c .before in
+    Read (source c) (l .before .sector-of .result .now) (l .loop .at) (number c .number-at .result)
+read c = rest-read (number c .before .loop .inv .rest) (number c .number-at .ensures) (c .before .before .if1 .left)
 
-count : (c : tie.After-word2 Inv-loop μ-loop) → c .word2 .result ≡ sectorsOf (sectorOf (source c) (number c .word .result))
-count c = c .word2 .ensures .0 ∙ ap (λ (s : List ℕ). wordAt s 14) (c .before .sector-of2 .ensures)
+count : (c : tie.After-word Inv-loop μ-loop) → c .word .result ≡ sectorsOf (sectorOf (source c) (number c .number-at .result))
+count c = c .word .ensures .0 ∙ ap (λ (s : List ℕ). wordAt s 14) (c .before .sector-of2 .ensures)
 
-few : (c : tie.After-word2 Inv-loop μ-loop) → turn (number c) .loop .start + c .word2 .result ≤ 1600
+few : (c : tie.After-word Inv-loop μ-loop) → number c .before .loop .start + c .word .result ≤ 1600
 few c =
-    let l = turn (number c) in
+    let l = number c .before in
     let is = start l .pre .0 in
     omega (arith, described-ahead (l .loop .inv) (read c) (count c), used-inside _ is, is .size)
 
-header : (c : tie.After-part Inv-loop μ-loop) → c .part .result .now ≡ headerIn (source (sized c)) (number (sized c) .word .result)
+header : (c : tie.After-part Inv-loop μ-loop) → c .part .result .now ≡ headerIn (source (sized c)) (number (sized c) .number-at .result)
 header c = header-read (source (sized c)) _ _ (sized c .before .sector-of2 .ensures) _ (c .part .ensures)
 
 add-start : tie.Need-add-start Inv-loop μ-loop
@@ -69,30 +63,21 @@ loop-holds c =
     let pre = c .before .before .before .pre in
     described-start _ _ _ _ (pre .0) (c .sector-of .ensures) (omega (arith, pre .1))
 
-add-loop : tie.Need-add-loop Inv-loop μ-loop
-add-loop c = omega (arith, c .loop .inv .rest .inside, c .loop .inv .rest .short)
-
-same-length : tie.Need-same-length Inv-loop μ-loop
-same-length c = turn (c .before) .loop .inv .pieces .kept
-
 returns : tie.Need-returns Inv-loop μ-loop
 returns c =
-    let w = c .before in
-    let l = turn w in
-    rw (start l .pre .1) (described-end (l .loop .inv) (numbers-end _ _ (w .before .loop-test .taken) (sym (w .word .ensures .0) ∙ c .if1 .taken)))
+    let l = c .before .before in
+    rw (start l .pre .1) (described-end (l .loop .inv) (c .before .number-at .ensures .none (c .if1 .taken)))
 
 packed-descriptor-requires : tie.Need-packed-descriptor-requires Inv-loop μ-loop
 packed-descriptor-requires c κs =
     let w = sized c in
-    (refl, ap length (header c) ∙ header-length _ _ (start (turn (number w)) .pre .0 .whole) _ (read w .inside), omega (arith, few w), omega (arith, few w))
+    (refl, ap length (header c) ∙ header-length _ _ (start (number w .before) .pre .0 .whole) _ (read w .inside), omega (arith, few w), omega (arith, few w))
 
 add-start-2 : tie.Need-add-start-2 Inv-loop μ-loop
 add-start-2 c = omega (arith, few (sized (made (c .before .before) .before)))
 
-add-to : tie.Need-add-to Inv-loop μ-loop
-add-to c =
-    let is = turn (number (sized (made (c .before .before) .before))) .loop .inv in
-    omega (arith, is .to-is, is .rest .inside, is .rest .short)
+loop-less : tie.Need-loop-less Inv-loop μ-loop
+loop-less c = omega (arith, read (sized (made (c .before .before) .before)) .rest .inside)
 
 loop-again : tie.Need-loop-again Inv-loop μ-loop
 loop-again c =
@@ -100,16 +85,10 @@ loop-again c =
     let d = made y in
     let p = d .before in
     let w = sized p in
-    let l = turn (number w) in
+    let l = number w .before in
     let held = contents-count (source w) _ (read w .descriptor) ∙ sym (count w) in
     let packed = d .packed-descriptor .ensures ∙ descriptor-packed (source w) _ _ _ _ (header p) held in
     described-step (start l .pre .0 .whole) (l .loop .inv) (read w) (count w) packed (y .lay .ensures)
-
-same-length-2 : tie.Need-same-length-2 Inv-loop μ-loop
-same-length-2 c = c .before .loop .inv .pieces .kept
-
-returns-2 : tie.Need-returns-2 Inv-loop μ-loop
-returns-2 c = rw (start (c .before) .pre .1) (described-end (c .before .loop .inv) (numbers-short _ _ (c .loop-test .left)))
 
 pub lay-descriptors-spec : {M : Type 1} → statement M
 lay-descriptors-spec =
@@ -120,9 +99,8 @@ lay-descriptors-spec =
     (λ c κs. search needs)
     add-start
     loop-holds
-    add-loop
     (λ c κs. search needs)
-    same-length
+    (λ c. search needs)
     returns
     (λ c κs. search needs)
     (λ c κs. search needs)
@@ -132,9 +110,7 @@ lay-descriptors-spec =
     (λ c. search needs)
     (λ c κs. search needs)
     add-start-2
-    add-to
     (λ c. search needs)
     (λ c. search needs)
-    loop-again
-    same-length-2
-    returns-2)
+    loop-less
+    loop-again)

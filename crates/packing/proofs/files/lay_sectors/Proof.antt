@@ -1,17 +1,16 @@
 -- `packing::files::lay_sectors` meets its contract. The loop's invariant: the sectors of the places ahead of the cursor are left, and go to `to` (`Pieces`).
 -- The measure is the number of places ahead. Assumes nothing.
 use mathlib.Core.Path.{_≡_, ap}
-use mathlib.Core.List.{List, [], _∷_, _++_, map}
-use Prim.Native.Nat.{ℕ, _+_}
+use mathlib.Core.List.{List, _∷_, _++_, map}
+use Prim.Native.Nat.{ℕ, _+_, _<_}
 use native.Mathlib.Omega.{arith}
 use lib.ListN.{length}
 use Rattle.rules.specs.Sectors.{sectorOf}
 use Rattle.rules.specs.Chain.{places}
 use Rattle.rules.specs.Calls.Load.{joined}
 use Rattle.rules.proofs.Pieces.{Pieces, pieces-first, pieces-next, pieces-last}
-use Rattle.descriptor.specs.Cursor.{ahead, Steady, Stepped}
-use Rattle.descriptor.specs.declared.chain.Step.the-variants.{Place}
-use Rattle.descriptor.proofs.Ahead.{at-first}
+use Rattle.descriptor.specs.Cursor.{ahead, Steady}
+use Rattle.descriptor.proofs.Ahead.{at-first, at-place, at-end}
 use borrow.Author.Needs.{needs}
 use Rattle.packing.proofs.files.lay_sectors.Statement.{statement}
 use Rattle.packing.proofs.files.lay_sectors.Tie as tie
@@ -39,13 +38,12 @@ placed c = c .before .before
 abbrev taken : tie.After-lay Inv-loop μ-loop → tie.After-sector-of Inv-loop μ-loop
 taken c = c .before .before
 
--- at a place of the chain, and at its end
-stepped : (c : tie.After-place Inv-loop μ-loop) → let s = c .before .before in Stepped (chain s) (s .before .loop .cursor) (Place (c .place .given .0 .0) (c .place .given .0 .1 .0))
-stepped c = rw (c .place .given .1) at (c .before .before .step .ensures)
-
-ended : (c : tie.After-enum-told Inv-loop μ-loop) → let s = c .before .before in ahead (chain s) (s .before .loop .cursor) ≡ []
-unfolding Stepped
-ended c = rw (c .enum-told .given .1) at (c .before .before .step .ensures)
+-- at a place of the chain
+stepped : (c : tie.After-place Inv-loop μ-loop) →
+    let s = c .before .before in
+    let next = c .place .given .0 .1 .0 in
+    (ahead (chain s) (s .before .loop .cursor) ≡ c .place .given .0 .0 ∷ ahead (chain s) next) × Steady (chain s) next × (c .place .given .0 .0 < 8192)
+stepped c = at-place _ _ _ (c .before .before .step .ensures) (c .place .given .1)
 
 -- the first of the sectors, and the others
 first-sector : (source : List ℕ) {all ps bytes : List ℕ} {p : ℕ} → all ≡ p ∷ ps → bytes ≡ sectorOf source p → sectors source all ≡ bytes ++ sectors source ps
@@ -58,7 +56,6 @@ further : (c : tie.After-lay Inv-loop μ-loop) →
     let l = s .before in
     let source = start l .args .source .now in
     Pieces (sectors source (places (chain s))) (start l .args .target .now) (start l .args .at) (sectors source (ahead (chain s) (e .place .given .0 .1 .0))) (c .lay .last .0) (l .loop .to + length (taken c .sector-of .result .now))
-unfolding Stepped
 further c =
     let s = taken c in
     let e = placed s in
@@ -71,35 +68,21 @@ loop-holds c =
     let e = c .first .ensures in
     (rw e (record { inside = omega arith; small = omega arith }), rw (e, at-first (s .args .chain .now)) (pieces-first _ (s .args .target .now) (s .args .at)))
 
-step-requires : tie.Need-step-requires Inv-loop μ-loop
-step-requires c κs = c .loop .inv .0
-
 sector-of-requires : tie.Need-sector-of-requires Inv-loop μ-loop
-unfolding Stepped
 sector-of-requires c κs = omega (arith, stepped (c .before) .2)
 
-add-to : tie.Need-add-to Inv-loop μ-loop
-add-to c =
-    let y = c .before .before in
-    omega (arith, further y .ends, start (placed (taken y) .before .before .before) .pre)
-
 loop-less : tie.Need-loop-less Inv-loop μ-loop
-unfolding Stepped
 loop-less c = omega (arith, ap length (stepped (placed (taken (c .before .before))) .0))
 
 loop-again : tie.Need-loop-again Inv-loop μ-loop
-unfolding Stepped
 loop-again c =
     let y = c .before .before in
     (stepped (placed (taken y)) .1, further y)
 
-same-length : tie.Need-same-length Inv-loop μ-loop
-same-length c = c .before .before .before .loop .inv .1 .kept
-
 returns : tie.Need-returns Inv-loop μ-loop
 unfolding joined
 returns c =
-    let all = pieces-last (c .before .before .before .loop .inv .1) (rw (ended c)) in
+    let all = pieces-last (c .before .before .before .loop .inv .1) (rw (at-end _ _ _ (c .before .before .step .ensures) (c .enum-told .given .1))) in
     (all .1, all .0)
 
 pub lay-sectors-spec : {M : Type 1} → statement M
@@ -110,13 +93,13 @@ lay-sectors-spec =
     μ-loop
     (λ c κs. search needs)
     loop-holds
-    step-requires
+    (λ c κs. search needs)
     (λ c. search needs)
     sector-of-requires
     (λ c κs. search needs)
-    add-to
+    (λ c. search needs)
     loop-less
     loop-again
     (λ c. search needs)
-    same-length
+    (λ c. search needs)
     returns)

@@ -44,13 +44,14 @@ returns c =
     rw (c .if1 .taken) (headed y ∙ empty (a .header .now) (a .start) (start y .pre .1))
 
 returns-2 : tie.Need-returns-2
-unfolding blockBytes
 returns-2 c =
     let z = c .before .before in
-    let e = z .before .before .before in
+    let block = z .before .before .before in
+    let e = block .before in
     let y = e .before .before .before in
     let a = start y .args in
     z .lay2 .ensures
+    ∙ ap (splice (y .lay .last .0) 28) (block .block-bytes .ensures)
     ∙ ap (λ (d : List ℕ). splice d 28 (blockBytes (record { start = a .start; last = a .sectors - 1 }))) (headed y)
     ∙ one (a .header .now) (a .start) (a .sectors) (start y .pre .1) (e .if1 .left)
 
@@ -62,11 +63,7 @@ packed-descriptor-spec =
     (λ c. search needs)
     returns
     (λ c. search needs)
-    (λ c. search needs)
-    (λ c. search needs)
-    (λ c. search needs)
-    (λ c. search needs)
-    (λ c. search needs)
+    (λ c κs. search needs)
     (λ c. search needs)
     (λ c κs. search needs)
     (λ c. search needs)
