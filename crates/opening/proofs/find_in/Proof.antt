@@ -50,15 +50,14 @@ stepped c =
 returns-2 : tie.Need-returns-2 Inv-loop μ-loop
 returns-2 c = sym (stepped (c .before) ∙ rw (sym (c .before .same .ensures) ∙ c .if2 .taken))
 
--- two bytes are there
-inside : (c : tie.Else2 Inv-loop μ-loop) → let l = number (c .before) .before .before in l .loop .at + 2 ≤ length (l .before .sector-of .result .now)
-inside c = let k = number (c .before) in k .before .number-at .ensures .inside (k .if1 .left)
-
 loop-less : tie.Need-loop-less Inv-loop μ-loop
-loop-less c = omega (arith, inside c)
+loop-less c = let k = number (c .before) in omega (arith, k .before .number-at .ensures .inside (k .if1 .left))
 
 loop-again : tie.Need-loop-again Inv-loop μ-loop
-loop-again c = (inside c, search needs, sym (stepped (c .before) ∙ rw (sym (c .before .same .ensures) ∙ c .if2 .left)))
+loop-again c =
+    let s = c .before in
+    let k = number s in
+    (k .before .number-at .ensures .inside (k .if1 .left), search needs, sym (stepped s ∙ rw (sym (s .same .ensures) ∙ c .if2 .left)))
 
 pub find-in-spec : {M : Type 1} → statement M
 find-in-spec =

@@ -50,18 +50,6 @@ first-sector : (source : List ℕ) {all ps bytes : List ℕ} {p : ℕ} → all �
 unfolding joined
 first-sector source all-is bytes-is = rw (all-is, bytes-is)
 
-further : (c : tie.After-lay Inv-loop μ-loop) →
-    let e = placed (taken c) in
-    let s = e .before .before in
-    let l = s .before in
-    let source = start l .args .source .now in
-    Pieces (sectors source (places (chain s))) (start l .args .target .now) (start l .args .at) (sectors source (ahead (chain s) (e .place .given .0 .1 .0))) (c .lay .last .0) (l .loop .to + length (taken c .sector-of .result .now))
-further c =
-    let s = taken c in
-    let e = placed s in
-    let l = e .before .before .before in
-    pieces-next (l .loop .inv .1) (s .sector-of .result .now) (first-sector (start l .args .source .now) (stepped e .0) (s .sector-of .ensures)) (c .lay .ensures) (omega arith)
-
 loop-holds : tie.Need-loop-holds Inv-loop μ-loop
 loop-holds c =
     let s = c .before .before .before .before in
@@ -77,7 +65,10 @@ loop-less c = omega (arith, ap length (stepped (placed (taken (c .before .before
 loop-again : tie.Need-loop-again Inv-loop μ-loop
 loop-again c =
     let y = c .before .before in
-    (stepped (placed (taken y)) .1, further y)
+    let s = taken y in
+    let e = placed s in
+    let l = e .before .before .before in
+    (stepped e .1, pieces-next (l .loop .inv .1) (s .sector-of .result .now) (first-sector (start l .args .source .now) (stepped e .0) (s .sector-of .ensures)) (y .lay .ensures) (omega arith))
 
 returns : tie.Need-returns Inv-loop μ-loop
 unfolding joined
