@@ -1,18 +1,24 @@
--- What a file that goes and one that comes leave, in the words of the demands: the frame, the catalogue and the free count. Last, a file changed where it stands.
+-- What a file that goes and one that comes leave, in the words of the demands: the frame, the catalogue and the free count. Last, a file changed where it stands, and one whose descriptor is changed in a byte.
 use mathlib.Core.Path.{_≡_, refl, sym, ap, _∙_}
 use mathlib.Core.List.{List, map}
-use Prim.Native.Nat.{ℕ, _+_, _≤_}
+use Prim.Native.Nat.{ℕ, _+_, _*_, _≤_, _<_}
 use native.Mathlib.Omega.{arith}
-use lib.ListN.{length, length-append}
+use lib.ListN.{length, set, length-append, length-set}
+use lib.Seq.{getD-set-other, take-set-lt}
+use Rattle.rules.specs.Bytes.{splice}
+use Rattle.rules.specs.Sectors.{sectorOf, sectorCount}
 use Rattle.rules.specs.Map.{count}
 use Rattle.rules.specs.Index.{without}
-use Rattle.rules.specs.Volume.{File, files, nameIn, placesIn, fileIn, catalogue}
+use Rattle.rules.specs.Descriptor.{IsDescriptor}
+use Rattle.rules.specs.Volume.{File, files, nameIn, placesIn, headerIn, contentsIn, fileIn, catalogue}
 use Rattle.rules.proofs.Map.{count-other, count-more}
 use Rattle.rules.proofs.Indexed.{without-count, placed-count}
 use Rattle.rules.proofs.Staying.{files-kept}
-use Rattle.rules.proofs.Listed.{listed-name}
+use Rattle.rules.proofs.Descriptor.{name-same, chain-same}
+use Rattle.rules.proofs.Opening.{IsOpened}
+use Rattle.rules.proofs.Listed.{listed-name, opened-listed}
 use Rattle.rules.proofs.Replaced.{Slot, none, at, staying, coming, held, IsListed, IsNew, Replaced, descriptor-stands, sector-stands, name-stands, file-stands, sound-after, free-after}
-use Rattle.rules.proofs.Altered.{Altered, files-same, altered}
+use Rattle.rules.proofs.Altered.{Altered, files-same, altered, redescribed, redescribed-file}
 use Rattle.demands.specs.Catalogue.{putIn, takenOut, changed}
 use Rattle.demands.specs.Effects.{Kept, effect, Done}
 use Rattle.demands.proofs.Filed.{file-name, placed-files, taken-out, changed-files}
@@ -97,3 +103,18 @@ altered-done {image} {after} {k} {fresh} a name is change e =
     (ap (map (fileIn after)) (files-same a)
     ∙ changed-files image name k is after change e (files image) (a .listed) (λ j there. listed-name image (a .sound) j k there (a .listed)) (file-stands r))
     (omega (arith, ap length (a .places), length-append (placesIn image k) fresh))
+
+-- a byte of its descriptor, behind the name and before the chain
+pub byte-done : (image name : List ℕ) (p k : ℕ) → IsOpened image name p k → (i value : ℕ) → 10 ≤ i → i < 28 → IsDescriptor (sectorCount image) (set (sectorOf image k) i value)
+    → (change : File → File) → change (fileIn image k) ≡ record { header = set (headerIn image k) i value; contents = contentsIn image k }
+    → Done image (splice image (256 * k) (set (sectorOf image k) i value)) name (effect (changed name change (catalogue image)) 0 0)
+unfolding nameIn headerIn
+byte-done image name p k o i value low high rules change e =
+    let d = sectorOf image k in
+    let there = opened-listed image name p k o in
+    let same = length-set d i value in
+    let long = same ∙ o .long in
+    let named = name-same d (set d i value) same (λ j h. getD-set-other d i j value 0 (λ is. omega arith)) in
+    let chain = chain-same d (set d i value) same (λ j h. getD-set-other d i j value 0 (λ is. omega arith)) in
+    altered-done (redescribed image k (o .whole) there (set d i value) long rules named chain) name (o .named) change
+    (e ∙ sym (redescribed-file image k (o .whole) there (set d i value) long rules named chain ∙ rw (take-set-lt 28 d i value high)))

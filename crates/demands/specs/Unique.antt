@@ -5,11 +5,11 @@ use mathlib.Core.List.{List, []}
 use Prim.Native.Nat.{ℕ}
 use lib.ListN.{length}
 use Rattle.rules.specs.Verdict.{verdict}
-use Rattle.rules.specs.Outcome.{AnswerSays, AmountSays, Meets, Gives}
+use Rattle.rules.specs.Outcome.{AnswerSays, AmountSays, Meets, Gives, ReadSays}
 use Rattle.rules.specs.Calls.Format.{formatNumber, afterFormat}
 use Rattle.rules.specs.Calls.Summary.{freeCountOf, summaryOf, SummarySays}
 use Rattle.rules.specs.Calls.Entry.{entryOf, entryRow, EntrySays}
-use Rattle.rules.specs.Calls.Read.{readOf, ReadSays}
+use Rattle.rules.specs.Calls.Read.{readOf}
 use Rattle.rules.specs.Calls.Load.{loadOf}
 use Rattle.rules.specs.Calls.Listing.{listingOf}
 use Rattle.rules.specs.Calls.Pack.{packNumber, afterPack}

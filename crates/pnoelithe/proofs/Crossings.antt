@@ -2,8 +2,7 @@
 use mathlib.Core.Path.{_≡_, refl, sym, _∙_}
 use mathlib.Core.List.{List}
 use Prim.Native.Nat.{ℕ}
-use Rattle.rules.specs.Outcome.{Report, Outcome, AnswerSays, AmountSays, Meets, Gives, behind}
-use Rattle.rules.specs.Calls.Read.{ReadSays}
+use Rattle.rules.specs.Outcome.{Report, Outcome, AnswerSays, AmountSays, Meets, Gives, behind, ReadSays}
 use Rattle.rules.specs.declared.Amount.{Amount}
 use Rattle.rules.specs.declared.Amount.the-variants.{Given, Refused}
 use Rattle.rules.specs.declared.Answer.{Answer}

@@ -1,8 +1,8 @@
 // A sector read: one sector of a file, by its offset in the file. The call takes any image and any arguments, and gives what the rules'
 // definition of it says: its number first, in the table's order, and with 0 its bytes. A refusal writes nothing.
 ghost use lib.ListN.{length};
-ghost use Rattle.rules.specs.Outcome.{Gives};
-ghost use Rattle.rules.specs.Calls.Read.{readOf, ReadSays};
+ghost use Rattle.rules.specs.Outcome.{Gives, ReadSays};
+ghost use Rattle.rules.specs.Calls.Read.{readOf};
 use descriptor::chain::place_at;
 use opening::find;
 use rules::Answer;

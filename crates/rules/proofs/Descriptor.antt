@@ -4,7 +4,8 @@ use mathlib.Core.Bool.{true, _&&_}
 use mathlib.Core.List.{List}
 use Prim.Native.Nat.{ℕ, _≤_, _<_}
 use native.Mathlib.Omega.{arith}
-use lib.ListN.{length}
+use lib.ListN.{length, set, length-set}
+use lib.Seq.{getD-set-other}
 use Rattle.rules.specs.Bytes.{byteAt, bitOf}
 use Rattle.rules.specs.Name.{nameRule, IsName}
 use Rattle.rules.specs.Chain.{chainRule}
@@ -58,3 +59,11 @@ module _ (d d′ : List ℕ) (long : length d′ ≡ length d) where
         kind = rw (kind, c) (is .kind);
         chain = rw (chain-same (λ i low. same i (omega arith)), c) (is .chain);
       }
+
+-- one byte set between the name and c
+pub set-rules : (d : List ℕ) (i value : ℕ) → 10 ≤ i → i < 14 → ((j : ℕ) → (j ≡ 3 → ⊥) → bitOf (statusOf (set d i value)) j ≡ bitOf (statusOf d) j) → IsStatus (statusOf (set d i value))
+    → (n : ℕ) → IsDescriptor n d → IsDescriptor n (set d i value)
+set-rules d i value low high bits status n is =
+    let same = length-set d i value in
+    let name = name-same d (set d i value) same (λ j h. getD-set-other d i j value 0 (λ e. omega arith)) in
+    front-changed d (set d i value) same n (λ j h. getD-set-other d i j value 0 (λ e. omega arith)) bits (rw name (is .name)) status is

@@ -18,9 +18,8 @@ use Rattle.rules.specs.Volume.{files, nameIn, placesIn}
 use Rattle.rules.specs.Tests.{Test, refuse, firstOf, unlessMet, Passed}
 use Rattle.rules.specs.Verdict.{volumeTests, verdict}
 use Rattle.rules.specs.Sound.{Sound, fileAt, IsFile}
-use Rattle.rules.specs.Outcome.{Report, refuses, Outcome, refusal, AmountSays, Meets, Gives}
+use Rattle.rules.specs.Outcome.{Report, refuses, Outcome, refusal, AmountSays, Meets, Gives, ReadSays}
 use Rattle.rules.specs.Opening.{findIn, opening, nameTests, openOf, onFile, changing, adding}
-use Rattle.rules.specs.Calls.Read.{ReadSays}
 use Rattle.rules.specs.declared.Answer.{Answer}
 use Rattle.rules.specs.declared.Answer.the-variants as answer
 use Rattle.rules.specs.declared.Amount.the-variants as amount

@@ -8,8 +8,7 @@ use borrow.Author.Tests.{eq-eqb, ne-eqb, eqb-true, eqb-false}
 use Rattle.rules.specs.Bytes.{splice}
 use Rattle.rules.specs.Sectors.{Write, written}
 use Rattle.rules.specs.Tests.{Test, firstOf, unlessMet}
-use Rattle.rules.specs.Outcome.{Report, gives, refuses, Outcome, done, refusal, reported, tested, AnswerSays, AmountSays, Meets, Gives, answerOf, amountOf, behind}
-use Rattle.rules.specs.Calls.Read.{ReadSays}
+use Rattle.rules.specs.Outcome.{Report, gives, refuses, Outcome, done, refusal, reported, tested, AnswerSays, AmountSays, Meets, Gives, answerOf, amountOf, behind, ReadSays}
 use Rattle.rules.specs.declared.Answer.{Answer}
 use Rattle.rules.specs.declared.Amount.{Amount}
 use Rattle.rules.specs.declared.Answer.the-variants as answer

@@ -50,6 +50,10 @@ unfoldable pub AnswerSays : Answer → ℕ → Type 0
 AnswerSays answer.Done number = number ≡ 0
 AnswerSays (answer.Refused refused) number = (refused ≡ number) × (number ≡ 0 → ⊥)
 
+-- of a call that reads and gives no value: the number alone
+abbrev pub ReadSays : Answer → Report → Type 0
+ReadSays answer report = AnswerSays answer (report .number)
+
 unfoldable pub AmountSays : Amount → Report → Type 0
 AmountSays (amount.Given value) report = (report .number ≡ 0) × (value ≡ report .value)
 AmountSays (amount.Refused refused) report = (refused ≡ report .number) × (report .number ≡ 0 → ⊥)

@@ -9,8 +9,9 @@ use Rattle.rules.specs.Sectors.{sectorOf}
 use Rattle.rules.specs.Descriptor.{sectorsOf, chainOf}
 use Rattle.rules.specs.Volume.{placesIn}
 use Rattle.rules.specs.Tests.{firstOf, unlessMet}
+use Rattle.rules.specs.Outcome.{ReadSays}
 use Rattle.rules.specs.Opening.{openOf}
-use Rattle.rules.specs.Calls.Read.{readTests, reading, readOf, ReadSays}
+use Rattle.rules.specs.Calls.Read.{readTests, reading, readOf}
 use Rattle.rules.specs.declared.Opened.the-variants.{At}
 use Rattle.rules.proofs.Outcome.{read-refused, read-done}
 use Rattle.rules.proofs.Opening.{opened-is, open-refused, file-refused, file-absent, on-found}

@@ -7,9 +7,8 @@ use Rattle.rules.specs.Sectors.{sectorOf}
 use Rattle.rules.specs.Descriptor.{sectorsOf}
 use Rattle.rules.specs.Volume.{placesIn}
 use Rattle.rules.specs.Tests.{Test, refuse}
-use Rattle.rules.specs.Outcome.{Report, reported, AnswerSays}
+use Rattle.rules.specs.Outcome.{Report, reported}
 use Rattle.rules.specs.Opening.{openOf, onFile}
-use Rattle.rules.specs.declared.Answer.{Answer}
 
 -- of the file at k, its sector `offset`, for a buffer of `room` bytes
 unfoldable pub readTests : List ℕ → ℕ → ℕ → ℕ → List Test
@@ -20,7 +19,3 @@ reading image offset room k = reported (readTests image offset room k) 0 (sector
 
 unfoldable pub readOf : List ℕ → List ℕ → ℕ → ℕ → Report
 readOf image name offset room = onFile (openOf image name) (reading image offset room)
-
--- what the answer says
-abbrev pub ReadSays : Answer → Report → Type 0
-ReadSays answer report = AnswerSays answer (report .number)
