@@ -3,6 +3,7 @@ pub mod Call
 pub mod Ours
 pub mod Catalogue
 pub mod Effects
+pub mod Taking
 pub mod Grounds
 pub mod CaseM
 pub mod Bench
