@@ -8,7 +8,7 @@ use lib.ListN.{length, drop, replicate}
 use Rattle.rules.specs.Bytes.{part, over, splice}
 use Rattle.rules.specs.Sectors.{sectorOf, sectorCount, written, Write}
 use Rattle.rules.specs.Map.{count, markedAll}
-use Rattle.rules.specs.Chain.{placesFrom, places, extendedAll, Linked}
+use Rattle.rules.specs.Chain.{placesFrom, places, extendedAll, Linked, chainWith}
 use Rattle.rules.specs.Kind.{kindOf, IsStatus, IsKind}
 use Rattle.rules.specs.Descriptor.{nameOf, chainOf, IsDescriptor}
 use Rattle.rules.specs.Volume.{File, files, nameIn, placesIn, fileHolders, holders, headerIn, contentsIn, fileIn, catalogue, placed}
@@ -21,7 +21,7 @@ use Rattle.rules.proofs.Opening.{IsAbsent, unfound}
 use Rattle.rules.proofs.Name.{name-is}
 use Rattle.rules.proofs.Map.{count-none, count-here, count-more}
 use Rattle.rules.proofs.Marking.{all-length}
-use Rattle.rules.proofs.Extended.{chainWith, extended-all-linked, extended-all-places}
+use Rattle.rules.proofs.Extended.{extended-all-linked, extended-all-places}
 use Rattle.rules.proofs.Choice.{Chosen}
 use Rattle.rules.proofs.Indexed.{placed-length, index-length}
 use Rattle.rules.proofs.Listed.{label-long, sector-inside, held-inside}

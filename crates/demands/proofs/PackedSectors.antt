@@ -10,7 +10,7 @@ use Rattle.rules.specs.Bytes.{byteAt, wordAt, part}
 use Rattle.rules.specs.Sectors.{sectorOf}
 use Rattle.rules.specs.Name.{IsName}
 use Rattle.rules.specs.Map.{count}
-use Rattle.rules.specs.Chain.{blocks, run, placesFrom, places, Linked}
+use Rattle.rules.specs.Chain.{blocks, run, placesFrom, places, Linked, chainWith}
 use Rattle.rules.specs.Kind.{kindOf, IsStatus, IsKind}
 use Rattle.rules.specs.Descriptor.{nameOf, sectorsOf, chainOf, fileKind, IsDescriptor}
 use Rattle.rules.specs.Volume.{File, placesIn, fileHolders, headerIn, contentsIn, fileIn}
@@ -18,7 +18,7 @@ use Rattle.rules.specs.Calls.Load.{joined}
 use Rattle.rules.specs.Calls.Pack.{oneBlock, packedDescriptor, packedDescriptors, packedData, dataSectors}
 use Rattle.rules.specs.declared.Block.{Block}
 use Rattle.rules.proofs.Map.{count-append}
-use Rattle.rules.proofs.Extended.{chainWith, chain-with-length, chain-with-past, blocks-over, linked-writable}
+use Rattle.rules.proofs.Extended.{chain-with-length, chain-with-past, blocks-over, linked-writable}
 use Rattle.rules.proofs.Pack.{Full, joined-length, Whole, AllWhole, descriptor-length}
 
 -- a run in two parts

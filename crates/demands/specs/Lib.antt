@@ -5,6 +5,7 @@ pub mod Catalogue
 pub mod Effects
 pub mod Taking
 pub mod Grounds
+pub mod Touches
 pub mod CaseM
 pub mod Bench
 pub mod Formatting

@@ -12,7 +12,7 @@ use borrow.Author.Tests.{eq-eqb, ne-eqb, eqb-true}
 use Rattle.rules.specs.Bytes.{byteAt, wordBytes, part, over, splice}
 use Rattle.rules.specs.Sectors.{sectorOf, sectorCount}
 use Rattle.rules.specs.declared.Block.{Block}
-use Rattle.rules.specs.Chain.{blockBytes, endsChain, blocks, run, placesFrom, places, extended, extendedAll, blocksBytes, Linked, IsChain}
+use Rattle.rules.specs.Chain.{blockBytes, endsChain, blocks, run, placesFrom, places, extended, extendedAll, blocksBytes, chainWith, Linked, IsChain}
 use Rattle.rules.specs.Map.{count}
 use Rattle.rules.specs.Descriptor.{sectorsOf, chainOf, withChain, IsDescriptor}
 use Rattle.rules.specs.Volume.{files, placesIn, fileHolders, holders}
@@ -79,10 +79,6 @@ replicate-zero many i =
       | yes inside ↦ getD-replicate many i 0 0 inside
       | no past ↦ List·getD-eq-default (replicate many 0) 0 {n = i} (omega (arith, length-replicate {A = ℕ} many 0))
     ]
-
--- a chain of 228 bytes with those blocks at its front
-abbrev pub chainWith : List Block → List ℕ
-chainWith bs = over (replicate 228 0) (blocksBytes bs)
 
 pub chain-with-length : (bs : List Block) → length (chainWith bs) ≡ 228
 unfolding splice
