@@ -1,14 +1,14 @@
 -- The laws of the readings.
-use mathlib.Core.Path.{_≡_, refl, sym, _∙_}
+use mathlib.Core.Path.{_≡_, refl, sym, ap, _∙_}
 use mathlib.Core.Bool.{Bool, true, false, _&&_}
-use mathlib.Core.List.{List, [], _∷_}
+use mathlib.Core.List.{List, [], _∷_, _++_}
 use Prim.Native.Nat.{ℕ, zero, suc, _+_, _-_, _≤_, _<_}
 use native.Mathlib.Omega.{arith}
 use native.Mathlib.Numerals.{add-one}
 use native.Mathlib.Decide.{decLt}
 use lib.Dec.{eqb}
-use lib.ListN.{length, drop, length-take, length-drop, drop-of-length-le, List·getD-eq-default}
-use lib.Seq.{drop-cons, getD-take, getD-drop, ext-getD}
+use lib.ListN.{length, take, drop, length-take, length-drop, take-append-drop, drop-of-length-le, List·getD-eq-default}
+use lib.Seq.{take-all, drop-cons, getD-take, getD-drop, ext-getD}
 use borrow.Author.Tests.{eq-eqb, eqb-true}
 use Rattle.rules.specs.Bytes.{byteAt, part, allAre, same}
 use Rattle.rules.proofs.Tests.{both, absurd-test}
@@ -60,6 +60,14 @@ part-below bytes from count limit some below i =
           let none = List·getD-eq-default (part bytes from count) 0 {n = i} (omega (arith, part-short bytes from count)) in
           omega arith
     ]
+
+-- a list is its two halves, so two lists whose halves are equal are equal
+both-halves : (m n : ℕ) (bytes : List ℕ) → length bytes ≡ m + n → part bytes 0 m ++ part bytes m n ≡ bytes
+both-halves m n bytes long =
+    ap (λ (l : List ℕ). take m bytes ++ l) (take-all n (drop m bytes) (omega (arith, long, length-drop m bytes))) ∙ take-append-drop m bytes
+
+pub halves : (m n : ℕ) (a b : List ℕ) → length a ≡ m + n → length b ≡ m + n → part a 0 m ≡ part b 0 m → part a m n ≡ part b m n → a ≡ b
+halves m n a b long long′ first second = sym (both-halves m n a long) ∙ rw (first, second) (both-halves m n b long′)
 
 -- all are one value: the next byte and the rest, the end, and every place
 pub all-step : (value : ℕ) (bytes : List ℕ) (i : ℕ) → i < length bytes

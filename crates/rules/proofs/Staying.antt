@@ -5,6 +5,7 @@ use mathlib.Core.Bool.{Bool, true, false, cond}
 use mathlib.Core.List.{List, [], _∷_, _++_, map}
 use Prim.Native.Nat.{ℕ, zero, suc, _+_, _≤_, _<_}
 use native.Mathlib.Omega.{arith}
+use native.Mathlib.Decide.{ℕ-discrete}
 use lib.ListN.{length, getD, set}
 use lib.Dec.{eqb}
 use borrow.Author.Tests.{eqb-true, eqb-false}
@@ -35,7 +36,16 @@ pub map-agree : {B : Type 0} (f g : ℕ → B) (ks : List ℕ) → ((k : ℕ) �
 map-agree f g [] same = refl
 map-agree f g (k ∷ ks) same = rw (same k (omega (arith, count-here k ks)), map-agree f g ks (λ j h. same j (omega (arith, count-more j k ks))))
 
--- and through two that agree on it but at one place, whose number stands there once
+-- two that read it alike do agree on it
+pub map-each : {B : Type 0} (f g : ℕ → B) (ks : List ℕ) → map f ks ≡ map g ks → (j : ℕ) → 1 ≤ count j ks → f j ≡ g j
+map-each f g [] same j there = absurd (omega (arith, there, count-none j))
+map-each f g (k ∷ ks) same j there =
+    elim (ℕ-discrete k j) [
+      | yes here ↦ rw (← here) (cc same)
+      | no other ↦ map-each f g ks (cc same) j (omega (arith, there, count-other j k ks other))
+    ]
+
+-- a list read through two that agree on it but at one place, whose number stands there once
 pub map-changed : {B : Type 0} (old new : ℕ → B) (ks : List ℕ) (p : ℕ) → p < length ks → count (getD ks p 0) ks ≤ 1
     → ((k : ℕ) → 1 ≤ count k ks → (k ≡ getD ks p 0 → ⊥) → new k ≡ old k) → map new ks ≡ set (map old ks) p (new (getD ks p 0))
 map-changed old new [] p h once others = absurd (omega arith)
