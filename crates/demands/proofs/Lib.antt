@@ -5,6 +5,7 @@ pub mod Formatting
 pub mod Faithful
 mod Filed
 mod Replacing
+mod Taking
 pub mod Protects
 pub mod Overwrites
 pub mod Appends
