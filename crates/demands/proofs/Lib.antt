@@ -6,6 +6,7 @@ pub mod Faithful
 mod Filed
 mod Replacing
 mod Taking
+mod Touched
 pub mod Protects
 pub mod Overwrites
 pub mod Appends

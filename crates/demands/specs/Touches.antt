@@ -67,7 +67,8 @@ Touches (call.create status recordLength recordsPerSector) image after name = En
 Touches (call.store bytes) image after name = Enters image after name (length bytes / 256 + 1)
 Touches (call.append bytes) image after name =
     Has image name (λ k. Gains image after name k [] (placesIn image k) (blocks (chainOf (sectorOf image k))) 1 (0 ∷ []))
-Touches (call.overwrite offset bytes) image after name = Has image name (λ k. Stays image after name k (getD (placesIn image k) offset 0 ∷ []))
+Touches (call.overwrite offset bytes) image after name =
+    Has image name (λ k. (offset < length (placesIn image k)) × Stays image after name k (getD (placesIn image k) offset 0 ∷ []))
 Touches call.protect image after name = Has image name (λ k. Stays image after name k (k ∷ []))
 Touches call.unprotect image after name = Has image name (λ k. Stays image after name k (k ∷ []))
 Touches call.delete image after name = Has image name (Leaves image after)
