@@ -93,6 +93,17 @@ unfolding splice
 blocks-over many bs w fits =
     blocks-laid (replicate many 0) bs w (omega (arith, length-replicate {A = ℕ} many 0)) (λ i h. replicate-zero many i)
 
+-- bytes laid over what is zero behind them are laid over zeros
+over-zeros : (buffer bytes : List ℕ) → ((i : ℕ) → length bytes ≤ i → byteAt buffer i ≡ 0) → over buffer bytes ≡ over (replicate (length buffer) 0) bytes
+unfolding over
+over-zeros [] bytes zeros = refl
+over-zeros (b ∷ buffer) [] zeros = rw (zeros 0 (omega arith)) (ap (λ (l : List ℕ). 0 ∷ l) (alone buffer (over-zeros buffer [] (λ i h. zeros (suc i) (omega arith)))))
+  where
+    alone : (buffer : List ℕ) → over buffer [] ≡ over (replicate (length buffer) 0) [] → buffer ≡ replicate (length buffer) 0
+    alone [] e = refl
+    alone (b ∷ buffer) e = e
+over-zeros (b ∷ buffer) (c ∷ bytes) zeros = ap (λ (l : List ℕ). c ∷ l) (over-zeros buffer bytes (λ i h. zeros (suc i) (omega arith)))
+
 -- a run with one place more
 run-more : (s many : ℕ) → run s (many + 1) ≡ run s many ++ ((s + many) ∷ [])
 unfolding run
@@ -275,6 +286,13 @@ module _ (d : List ℕ) (c : ℕ) (bs : List Block) where
 
       pub with-chain-blocks : blocks (chainOf (withChain d c bs)) ≡ bs
       with-chain-blocks = ap blocks with-chain-chain ∙ blocks-laid (chainOf d) bs w (omega (arith, chain-long)) chain-zero
+
+      pub with-chain-with : chainOf (withChain d c bs) ≡ chainWith bs
+      unfolding splice
+      with-chain-with =
+          with-chain-chain
+          ∙ over-zeros (chainOf d) (blocksBytes bs) (λ i h. chain-zero i (omega (arith, h, blocks-bytes-length bs)))
+          ∙ ap (λ (many : ℕ). over (replicate many 0) (blocksBytes bs)) chain-long
 
       pub with-chain-is : (n : ℕ) → Linked n c 0 bs → IsChain n c (chainOf (withChain d c bs))
       with-chain-is n is =

@@ -47,6 +47,10 @@ one-once k j =
       | no other ↦ omega (arith, count-other j k [] other, count-none j)
     ]
 
+-- what does not count in a list is none of its numbers
+pub count-apart : (j k : ℕ) (ks : List ℕ) → count j (k ∷ ks) ≡ 0 → (j ≡ k → ⊥) × (count j ks ≡ 0)
+count-apart j k ks none = ((λ e. omega (arith, rw e at none, count-here k ks)), omega (arith, none, count-more j k ks))
+
 -- what stands in a list counts
 pub count-at : (ks : List ℕ) (p : ℕ) → p < length ks → 1 ≤ count (getD ks p 0) ks
 count-at [] p h = absurd (omega arith)
