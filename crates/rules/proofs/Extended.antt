@@ -149,6 +149,46 @@ module _ (n : ℕ) (k : ℕ) where
   extended-linked low high c next (block ∷ (second ∷ more)) is =
       (is .0, is .1, is .2, extended-linked low high c (block .last + 1) (second ∷ more) (is .3))
 
+-- A chain of some blocks by its last one and its last place: a sector more extends that block where it follows that place, and otherwise begins a block.
+pub record Ending (k c next : ℕ) (bs : List Block) : Type 0 where
+  pub front : List Block
+  pub block : Block
+  pub was : bs ≡ front ++ (block ∷ [])
+  pub before : List ℕ
+  pub last : ℕ
+  pub places-are : placesFrom next bs ≡ before ++ (last ∷ [])
+  pub extends : k ≡ last + 1 → extended next bs k ≡ front ++ (record { start = block .start; last = block .last + 1 } ∷ [])
+  pub begins : (k ≡ last + 1 → ⊥) → extended next bs k ≡ bs ++ (record { start = k; last = c } ∷ [])
+
+pub ending : (n k c next : ℕ) (block : Block) (more : List Block) → Linked n c next (block ∷ more) → Ending k c next (block ∷ more)
+unfolding Linked placesFrom extended
+ending n k c next block [] is =
+    let many = block .last - next in
+    let e : block .start + (block .last + 1 - next) ≡ block .start + many + 1 = omega (arith, is .1) in
+    record {
+      front = [];
+      block = block;
+      was = refl;
+      before = run (block .start) many;
+      last = block .start + many;
+      places-are = append-nil (run (block .start) (many + 1)) ∙ run-more (block .start) many;
+      extends = λ follows. rw (eq-eqb k (block .start + (block .last + 1 - next)) (follows ∙ sym e));
+      begins = λ apart. rw (ne-eqb k (block .start + (block .last + 1 - next)) (λ f. apart (f ∙ e)), is .3);
+    }
+ending n k c next block (second ∷ more) is =
+    let rest = ending n k c (block .last + 1) second more (is .3) in
+    let here = run (block .start) (block .last - next + 1) in
+    record {
+      front = block ∷ rest .front;
+      block = rest .block;
+      was = ap (λ (l : List Block). block ∷ l) (rest .was);
+      before = here ++ rest .before;
+      last = rest .last;
+      places-are = ap (λ (l : List ℕ). here ++ l) (rest .places-are) ∙ sym (append-assoc here (rest .before) (rest .last ∷ []));
+      extends = λ follows. ap (λ (l : List Block). block ∷ l) (rest .extends follows);
+      begins = λ apart. ap (λ (l : List Block). block ∷ l) (rest .begins apart);
+    }
+
 -- it has as many blocks or one more, and at least one
 pub extended-length : (next : ℕ) (bs : List Block) (k : ℕ)
     → (length bs ≤ length (extended next bs k)) × (length (extended next bs k) ≤ length bs + 1) × (1 ≤ length (extended next bs k))
