@@ -93,7 +93,7 @@ module _ (name : List ℕ) (status recordsPerSector endOffset recordLength : ℕ
     unfolding fileKind
     made-kind = rw (made-status, made-sectors, made-byte 6, made-byte 7)
 
-    made-chain : chainOf descriptorWith ≡ chainWith bs
+    pub made-chain : chainOf descriptorWith ≡ chainWith bs
     unfolding chainOf
     made-chain =
         ap (take 228) (drop-at (newHeader name status recordsPerSector c endOffset recordLength) (chainWith bs) 28 (header-length c))
