@@ -30,5 +30,6 @@ pub mod Wrong
 pub mod Unique
 mod PackedSectors
 mod PackedSound
+mod PackedOne
 pub mod Demand3
 pub mod WrongPacking

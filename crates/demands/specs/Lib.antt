@@ -10,6 +10,7 @@ pub mod CaseM
 pub mod Bench
 pub mod Formatting
 pub mod Faithful
+pub mod Packing
 pub mod Demand2
 pub mod Wrong
 pub mod Unique

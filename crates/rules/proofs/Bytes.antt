@@ -8,7 +8,7 @@ use native.Mathlib.Numerals.{add-one}
 use native.Mathlib.Decide.{decLt}
 use lib.Dec.{eqb}
 use lib.ListN.{length, take, drop, length-take, length-drop, take-append-drop, drop-of-length-le, List·getD-eq-default}
-use lib.Seq.{take-all, drop-cons, getD-take, getD-drop, ext-getD}
+use lib.Seq.{take-all, take-at, drop-at, drop-cons, getD-take, getD-drop, ext-getD}
 use borrow.Author.Tests.{eq-eqb, eqb-true}
 use Rattle.rules.specs.Bytes.{byteAt, part, allAre, same}
 use Rattle.rules.proofs.Tests.{both, absurd-test}
@@ -68,6 +68,13 @@ both-halves m n bytes long =
 
 pub halves : (m n : ℕ) (a b : List ℕ) → length a ≡ m + n → length b ≡ m + n → part a 0 m ≡ part b 0 m → part a m n ≡ part b m n → a ≡ b
 halves m n a b long long′ first second = sym (both-halves m n a long) ∙ rw (first, second) (both-halves m n b long′)
+
+-- two lists that are equal and begin with parts of one length: so are the parts
+pub append-parts : (a b c d : List ℕ) → length a ≡ length c → a ++ b ≡ c ++ d → (a ≡ c) × (b ≡ d)
+append-parts a b c d long e = (
+  sym (take-at a b (length c) long) ∙ ap (take (length c)) e ∙ take-at c d (length c) refl,
+  sym (drop-at a b (length c) long) ∙ ap (drop (length c)) e ∙ drop-at c d (length c) refl,
+)
 
 -- all are one value: the next byte and the rest, the end, and every place
 pub all-step : (value : ℕ) (bytes : List ℕ) (i : ℕ) → i < length bytes

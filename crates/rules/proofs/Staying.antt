@@ -24,12 +24,15 @@ pub places-kept : (image after : List ℕ) (k : ℕ) → sectorOf after k ≡ se
 unfolding placesIn
 places-kept image after k e = ap (λ (s : List ℕ). places (chainOf s)) e
 
--- and the holders of files whose descriptors all do
-pub holders-kept : (image after ks : List ℕ) → ((k : ℕ) → 1 ≤ count k ks → sectorOf after k ≡ sectorOf image k) → fileHolders after ks ≡ fileHolders image ks
+-- the holders of files that all have the same places, as those have whose descriptors stand
+pub holders-agree : (image after ks : List ℕ) → ((k : ℕ) → 1 ≤ count k ks → placesIn after k ≡ placesIn image k) → fileHolders after ks ≡ fileHolders image ks
 unfolding fileHolders
-holders-kept image after [] kept = refl
-holders-kept image after (k ∷ ks) kept =
-    rw (places-kept image after k (kept k (omega (arith, count-here k ks))), holders-kept image after ks (λ j h. kept j (omega (arith, count-more j k ks))))
+holders-agree image after [] same = refl
+holders-agree image after (k ∷ ks) same =
+    rw (same k (omega (arith, count-here k ks)), holders-agree image after ks (λ j h. same j (omega (arith, count-more j k ks))))
+
+pub holders-kept : (image after ks : List ℕ) → ((k : ℕ) → 1 ≤ count k ks → sectorOf after k ≡ sectorOf image k) → fileHolders after ks ≡ fileHolders image ks
+holders-kept image after ks kept = holders-agree image after ks (λ k h. places-kept image after k (kept k h))
 
 -- a list read through two functions that agree on it
 pub map-agree : {B : Type 0} (f g : ℕ → B) (ks : List ℕ) → ((k : ℕ) → 1 ≤ count k ks → f k ≡ g k) → map f ks ≡ map g ks
