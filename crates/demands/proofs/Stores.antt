@@ -6,7 +6,7 @@ use native.Mathlib.Omega.{arith}
 use lib.ListN.{length}
 use borrow.Author.Tests.{ltb-false, leb-false}
 use Rattle.rules.specs.Sectors.{Write, sectorOf, sectorCount, written}
-use Rattle.rules.specs.Kind.{kindOf, programLength, IsStatus, IsKind}
+use Rattle.rules.specs.Kind.{kindOf, programLength, sectorsFor, IsStatus, IsKind}
 use Rattle.rules.specs.Map.{count, freeCount, marked, markedAll}
 use Rattle.rules.specs.Chain.{extendedAll}
 use Rattle.rules.specs.Descriptor.{newDescriptor, withChain}
@@ -18,7 +18,7 @@ use Rattle.rules.specs.Tests.{Passed}
 use Rattle.rules.specs.Opening.{openOf}
 use Rattle.rules.specs.Calls.Create.{entered}
 use Rattle.rules.specs.Calls.Load.{loadOf}
-use Rattle.rules.specs.Calls.Store.{sectorsFor, dataWrites, newSectors, newBlocks, storeTests, storing, storeOf}
+use Rattle.rules.specs.Calls.Store.{dataWrites, newSectors, newBlocks, storeTests, storing, storeOf}
 use Rattle.rules.proofs.Name.{name-is}
 use Rattle.rules.proofs.Choice.{Chosen, sound-fenced, choices-length, new-free, new-once}
 use Rattle.rules.proofs.Listed.{label-long}

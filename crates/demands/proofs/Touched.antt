@@ -191,7 +191,7 @@ module _ (image a b name : List ℕ) (effect : Effect) (done : Done image a name
   pub touches-one : (change : Change) → Touches change image a name → Touches change image b name → a ≡ b
   unfolding Touches
   touches-one (call.create status recordLength recordsPerSector) t t′ = enters-one 0 t t′
-  touches-one (call.store bytes) t t′ = enters-one (length bytes / 256 + 1) t t′
+  touches-one (call.store bytes) t t′ = enters-one _ t t′
   touches-one (call.append bytes) t t′ = grown-one (t .sector) _ _ (t .so) (of-first image name is t t′)
   touches-one (call.overwrite offset bytes) t t′ =
       stays-one name (t .sector) _ (t .so .1) (of-first image name is t t′ .1)

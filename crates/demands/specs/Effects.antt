@@ -10,7 +10,8 @@ use Rattle.rules.specs.Map.{count, freeCount}
 use Rattle.rules.specs.Volume.{File, files, nameIn, placesIn, catalogue}
 use Rattle.rules.specs.Sound.{Sound}
 use Rattle.rules.specs.Outcome.{gives}
-use Rattle.rules.specs.Calls.Store.{sectorsFor, storeOf}
+use Rattle.rules.specs.Kind.{sectorsFor}
+use Rattle.rules.specs.Calls.Store.{storeOf}
 use Rattle.rules.specs.Calls.Load.{loadOf}
 use Rattle.demands.specs.Catalogue.{putIn, takenOut, changed, named, held}
 use Rattle.demands.specs.Call as call
@@ -87,8 +88,6 @@ abbrev pub Changed : Change → (image after name : List ℕ) → Type 0
 Changed change image after name = Done image after name (effectOf change name (catalogue image))
 
 -- and a load of what was stored gives the bytes that were lent
-abbrev pub LoadGives : (after name bytes : List ℕ) → Type 0
-LoadGives after name bytes = loadOf after name (length bytes) ≡ gives (length bytes) bytes
-
 abbrev pub StoredLoads : Type 0
-StoredLoads = (image name bytes : List ℕ) → storeOf image name bytes .number ≡ 0 → LoadGives (written image (storeOf image name bytes .writes)) name bytes
+StoredLoads = (image name bytes : List ℕ) → storeOf image name bytes .number ≡ 0 → (room : ℕ) → length bytes ≤ room
+    → loadOf (written image (storeOf image name bytes .writes)) name room ≡ gives (length bytes) bytes

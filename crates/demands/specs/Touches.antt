@@ -2,11 +2,12 @@
 -- and contents, the catalogue says (Effects).
 use mathlib.Core.Path.{_≡_}
 use mathlib.Core.List.{List, [], _∷_, _++_}
-use Prim.Native.Nat.{ℕ, _+_, _/_, _≤_, _<_}
+use Prim.Native.Nat.{ℕ, _+_, _≤_, _<_}
 use lib.ListN.{length, getD}
 use Rattle.rules.specs.Sectors.{sectorOf, sectorCount, written}
 use Rattle.rules.specs.Map.{count, markedAll}
 use Rattle.rules.specs.Chain.{blocks, chainWith}
+use Rattle.rules.specs.Kind.{sectorsFor}
 use Rattle.rules.specs.Descriptor.{chainOf}
 use Rattle.rules.specs.Index.{indexOf}
 use Rattle.rules.specs.Volume.{files, nameIn, placesIn}
@@ -66,7 +67,7 @@ pub record Leaves (image after : List ℕ) (k : ℕ) : Type 0 where
 -- change by change: k is the sector of the descriptor of the file of that name
 unfoldable pub Touches : Change → (image after name : List ℕ) → Type 0
 Touches (call.create status recordLength recordsPerSector) image after name = Enters image after name 0
-Touches (call.store bytes) image after name = Enters image after name (length bytes / 256 + 1)
+Touches (call.store bytes) image after name = Enters image after name (sectorsFor (length bytes))
 Touches (call.append bytes) image after name =
     Has image name (λ k. Gains image after name k [] (placesIn image k) (blocks (chainOf (sectorOf image k))) 1 (0 ∷ []))
 Touches (call.overwrite offset bytes) image after name =
