@@ -80,10 +80,10 @@ put-stands file (first ∷ more) = go (precedes (fileName file) (fileName first)
 
 -- so it is found under its name
 pub put-loads : (image : List ℕ) (file : File) (listed : List File) → Sound image → catalogue image ≡ putIn file listed → isProgram (byteAt (file .header) 12) ≡ true
-    → loadOf image (nameIs file) (lengthIs file) ≡ gives (lengthIs file) (take (lengthIs file) (joined (file .contents)))
+    → (room : ℕ) → lengthIs file ≤ room → loadOf image (nameIs file) room ≡ gives (lengthIs file) (take (lengthIs file) (joined (file .contents)))
 unfolding Faithful Loads
-put-loads image file listed is put program =
+put-loads image file listed is put program room large =
     let there = put-stands file listed in
     let found : fileOf image (there .place) ≡ file = ap (λ (l : List File). getD l (there .place) noFile) put ∙ there .is in
-    let load = faithful image is .loads (there .place) (lengthIs file) (rw put (there .inside)) in
-    rw found at load program (omega arith)
+    let load = faithful image is .loads (there .place) room (rw put (there .inside)) in
+    rw found at load program large

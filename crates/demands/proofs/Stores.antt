@@ -60,15 +60,16 @@ program-done image name bytes k ks c many some small absent few once free short 
 
 -- a load of it
 program-loads : (image name bytes : List ℕ) (c : ℕ) (others : List File) → Sound image → length name ≡ 10 → c ≡ sectorsFor (length bytes)
-    → catalogue image ≡ putIn (record { header = newHeader name 0x01 0 c (length bytes % 256) 0; contents = pieces c bytes }) others → loadOf image name (length bytes) ≡ gives (length bytes) bytes
+    → catalogue image ≡ putIn (record { header = newHeader name 0x01 0 c (length bytes % 256) 0; contents = pieces c bytes }) others
+    → (room : ℕ) → length bytes ≤ room → loadOf image name room ≡ gives (length bytes) bytes
 unfolding programLength
-program-loads image name bytes c others is ten many put =
+program-loads image name bytes c others is ten many put room large =
     let endOffset = length bytes % 256 in
     let header = newHeader name 0x01 0 c endOffset 0 in
     let file : File = record { header = header; contents = pieces c bytes } in
     let status = header-status name 0x01 0 endOffset 0 ten c in
     let long : lengthIs file ≡ length bytes = rw (pieces-length c bytes, header-end name 0x01 0 endOffset 0 ten c, many) (omega arith) in
-    let load = put-loads image file others is put (rw status) in
+    let load = put-loads image file others is put (rw status) room (rw long large) in
     rw (header-name name 0x01 0 endOffset 0 ten c, long, joined-pieces c bytes (omega (arith, many))) at load
 
 -- what is stored, with the sectors chosen for it
