@@ -9,6 +9,7 @@ pub mod CaseM
 pub mod Bench
 pub mod Formatting
 pub mod Faithful
+pub mod Lines
 pub mod Demand2
 pub mod Wrong
 pub mod Unique
