@@ -1,35 +1,24 @@
 -- What is written: by what `listing::listing` answers, and what then stands at the front of the text. Assumes nothing.
 use mathlib.Core.Path.{_≡_, sym, ap, _∙_}
-use mathlib.Core.Bool.{Bool, true, false, cond}
-use mathlib.Core.List.{List, [], _∷_, _++_}
-use Prim.Native.Nat.{ℕ, zero, suc, _+_, _/_, _%_, _≤_, _<_}
+use mathlib.Core.List.{List}
+use Prim.Native.Nat.{ℕ, _^_, _≤_, _<_}
 use native.Mathlib.Omega.{arith}
 use native.Mathlib.Decide.{ℕ-discrete}
-use lib.Dec.{ltb}
 use lib.ListN.{length, take, length-append}
 use borrow.Author.Tests.{eq-eqb, ne-eqb, lt-ltb, le-ltb}
 use Rattle.rules.specs.Bytes.{byteAt, part, splice}
 use Rattle.rules.specs.Verdict.{verdict}
 use Rattle.rules.specs.Outcome.{Report, AmountSays}
-use Rattle.rules.specs.Calls.Listing.{digits, decimal, listingText, listingOf, refusedLine}
+use Rattle.rules.specs.Calls.Listing.{listingOf, refusedLine}
 use Rattle.rules.specs.declared.Amount.the-variants.{Given, Refused}
 use Rattle.rules.proofs.Splice.{splice-front}
-use Rattle.rules.proofs.Listing.{listing-short, listing-unsound, listing-fits}
+use Rattle.rules.proofs.Listing.{decimal-short, listing-short, listing-unsound, listing-fits}
 use Rattle.catalogue.specs.Output.{listed, output}
 
 -- the line of a refusal is short
-digits-few : (fuel x : ℕ) → length (digits fuel x) ≤ fuel
-unfolding digits
-digits-few zero x = omega arith
-digits-few (suc fuel) x = test (ltb x 10) (digits-few fuel (x / 10))
-  where
-    test : (t : Bool) → length (digits fuel (x / 10)) ≤ fuel → length (cond t ((48 + x) ∷ []) (digits fuel (x / 10) ++ ((48 + x % 10) ∷ []))) ≤ suc fuel
-    test true h = omega arith
-    test false h = rw length-append (omega arith)
-
-pub refused-short : (number : ℕ) → length (refusedLine number) ≤ 29
-unfolding refusedLine decimal
-refused-short number = simp length-append (omega (arith, digits-few 20 number))
+pub refused-short : (number : ℕ) → number < 10 ^ 10 → length (refusedLine number) ≤ 19
+unfolding refusedLine
+refused-short number h = simp length-append (omega (arith, decimal-short 9 number h))
 
 -- what was laid over a text that has room for it stands at its front
 pub front : (before bytes : List ℕ) {after : List ℕ} {size : ℕ} → size ≡ length bytes → after ≡ splice before 0 bytes → length bytes ≤ length before → part after 0 size ≡ bytes

@@ -3,6 +3,7 @@ mod Computed
 pub mod Bench
 pub mod Formatting
 pub mod Faithful
+pub mod Lines
 mod Filed
 mod Replacing
 mod Taking

@@ -7,7 +7,7 @@ use native.Mathlib.Omega.{arith}
 use native.Mathlib.Numerals.{add-one}
 use native.Mathlib.Decide.{decLt}
 use lib.Dec.{eqb}
-use lib.ListN.{length, take, drop, length-take, length-drop, take-append-drop, drop-of-length-le, List·getD-eq-default}
+use lib.ListN.{length, take, drop, length-take, length-drop, take-append-drop, drop-of-length-le, List·getD-eq-default, replicate, length-replicate, getD-replicate}
 use lib.Seq.{take-all, take-at, drop-at, drop-cons, getD-take, getD-drop, ext-getD}
 use borrow.Author.Tests.{eq-eqb, eqb-true}
 use Rattle.rules.specs.Bytes.{byteAt, part, allAre, same}
@@ -96,6 +96,10 @@ pub at-all : (value : ℕ) (bytes : List ℕ) → ((i : ℕ) → i < length byte
 unfolding allAre
 at-all value [] f = refl
 at-all value (b ∷ bytes) f = rw (eq-eqb b value (f zero (omega arith))) (at-all value bytes (λ i h. f (suc i) (omega arith)))
+
+pub at-replicate : (value : ℕ) (bytes : List ℕ) → ((i : ℕ) → i < length bytes → byteAt bytes i ≡ value) → bytes ≡ replicate (length bytes) value
+at-replicate value bytes f =
+    ext-getD 0 bytes (replicate (length bytes) value) (sym (length-replicate (length bytes) value)) (λ i h. f i h ∙ sym (getD-replicate (length bytes) i value 0 h))
 
 -- zeros from a place on, said of every place from there, past the end too
 all-zero-at : (bytes : List ℕ) → allAre 0 bytes ≡ true → (i : ℕ) → byteAt bytes i ≡ 0

@@ -1,5 +1,5 @@
 -- The listing's text: numbers in decimal, names without their padding, and how long the text of a sound volume can get.
-use mathlib.Core.Path.{_≡_, refl, _∙_}
+use mathlib.Core.Path.{_≡_, refl, sym, ap, _∙_}
 use mathlib.Core.Bool.{Bool, true, false, cond}
 use mathlib.Core.List.{List, [], _∷_, _++_}
 use Prim.Native.Nat.{ℕ, zero, suc, _+_, _*_, _/_, _%_, _^_, _≤_, _<_}
@@ -7,7 +7,7 @@ use native.Mathlib.Omega.{arith}
 use native.Mathlib.Decide.{decLt}
 use lib.Dec.{eqb, ltb}
 use lib.ListN.{length, length-append}
-use borrow.Author.Tests.{eq-eqb, ne-eqb, lt-ltb, le-ltb}
+use borrow.Author.Tests.{lt-ltb, le-ltb}
 use Rattle.rules.specs.Bytes.{byteAt, part}
 use Rattle.rules.specs.Sectors.{sectorOf, sectorCount}
 use Rattle.rules.specs.Kind.{isProgram, isInternal, isVariable, programLength, kindOf}
@@ -48,9 +48,29 @@ digits-short (suc fuel) (suc d) x h =
       | no more ↦ rw (le-ltb x 10 (omega arith), length-append) (omega (arith, digits-short fuel d (x / 10) (tenth-below (suc d) x h)))
     ]
 
-decimal-short : (d x : ℕ) → x < 10 ^ suc d → length (decimal x) ≤ suc d
+pub decimal-short : (d x : ℕ) → x < 10 ^ suc d → length (decimal x) ≤ suc d
 unfolding decimal
-decimal-short d x h = digits-short 20 d x h
+decimal-short d x h = digits-short (suc x) d x h
+
+-- where the fuel is enough, more of it gives the same digits
+digits-same : (d fuel x : ℕ) → x < 10 ^ suc d → x ≤ fuel → digits (suc d) x ≡ digits (suc fuel) x
+digits-same zero fuel x h enough =
+    let one : x < 10 = omega arith in
+    digits-one zero x one ∙ sym (digits-one fuel x one)
+digits-same (suc d) zero x h enough =
+    let one : x < 10 = omega arith in
+    digits-one (suc d) x one ∙ sym (digits-one zero x one)
+digits-same (suc d) (suc fuel) x h enough =
+    elim (decLt x 10) [
+      | yes one ↦ digits-one (suc d) x one ∙ sym (digits-one (suc fuel) x one)
+      | no more ↦
+          let tenth = digits-same d fuel (x / 10) (tenth-below (suc d) x h) (omega arith) in
+          digits-more (suc d) x (omega arith) ∙ ap (λ (l : List ℕ). l ++ ((48 + x % 10) ∷ [])) tenth ∙ sym (digits-more (suc fuel) x (omega arith))
+    ]
+
+pub digits-decimal : (d x : ℕ) → x < 10 ^ suc d → digits (suc d) x ≡ decimal x
+unfolding decimal
+digits-decimal d x h = digits-same d x x h (omega arith)
 
 -- a name is no longer without its padding
 pub unpadded-short : (name : List ℕ) → length (unpadded name) ≤ length name

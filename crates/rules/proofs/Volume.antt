@@ -1,16 +1,16 @@
 -- The holders of an image: how they count, and that those of kept rules are sectors of the volume.
-use mathlib.Core.Path.{_≡_}
+use mathlib.Core.Path.{_≡_, _∙_}
 use mathlib.Core.List.{List, [], _∷_, _++_}
 use Prim.Native.Nat.{ℕ, _≤_, _<_}
 use native.Mathlib.Omega.{arith}
 use native.Mathlib.Decide.{decLt, ℕ-discrete}
-use lib.ListN.{length, getD}
+use lib.ListN.{length, getD, length-map}
 use Rattle.rules.specs.Sectors.{sectorOf}
 use Rattle.rules.specs.Chain.{places, blocks}
 use Rattle.rules.specs.Map.{count}
 use Rattle.rules.specs.Descriptor.{sectorsOf, chainOf, IsDescriptor}
 use Rattle.rules.specs.Index.{IsIndex}
-use Rattle.rules.specs.Volume.{files, placesIn, fileHolders, holders}
+use Rattle.rules.specs.Volume.{files, placesIn, fileHolders, holders, contentsIn}
 use Rattle.rules.proofs.Map.{count-none, count-here, count-other, count-more, count-at, counted-all, count-append}
 use Rattle.rules.proofs.Chain.{places-length, places-hold}
 
@@ -19,10 +19,14 @@ pub places-inside : (n : ℕ) (image : List ℕ) (k p : ℕ) → IsDescriptor n 
 unfolding placesIn places
 places-inside n image k p is h = places-hold n (sectorsOf (sectorOf image k)) 0 (blocks (chainOf (sectorOf image k))) p (is .chain .linked) h
 
--- there are c of them
+-- there are c of them, and so of the contents
 pub places-count : (n : ℕ) (image : List ℕ) (k : ℕ) → IsDescriptor n (sectorOf image k) → length (placesIn image k) ≡ sectorsOf (sectorOf image k)
 unfolding placesIn places
 places-count n image k is = omega (arith, places-length n (sectorsOf (sectorOf image k)) 0 (blocks (chainOf (sectorOf image k))) (is .chain .linked))
+
+pub contents-count : (n : ℕ) (image : List ℕ) (k : ℕ) → IsDescriptor n (sectorOf image k) → length (contentsIn image k) ≡ sectorsOf (sectorOf image k)
+unfolding contentsIn
+contents-count n image k is = length-map (placesIn image k) (sectorOf image) ∙ places-count n image k is
 
 pub place-inside : (n : ℕ) (image : List ℕ) (k offset : ℕ) → IsDescriptor n (sectorOf image k) → offset < sectorsOf (sectorOf image k)
     → (2 ≤ getD (placesIn image k) offset 0) × (getD (placesIn image k) offset 0 < n)

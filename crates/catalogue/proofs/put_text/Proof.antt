@@ -15,7 +15,7 @@ returns c =
     let y = c .before .before in
     let long = y .before .before in
     let start = long .before .before .before in
-    front (start .args .text .now) (refusedLine 1) (y .refused-line .ensures .0) (y .refused-line .ensures .1) (omega (arith, refused-short 1, start .pre))
+    front (start .args .text .now) (refusedLine 1) (y .refused-line .ensures .0) (y .refused-line .ensures .1) (omega (arith, refused-short 1 (omega arith), start .pre))
     ∙ sym (output-long (start .args .image .now) (long .if1 .taken))
 
 returns-2 : tie.Need-returns-2
@@ -39,7 +39,7 @@ returns-3 c =
     let image = start .args .image .now in
     let text = start .args .text .now in
     let is = when-refused image (length text) (λ i. omega (arith, short .before .before .shared-slice-known .given i)) (omega (arith, start .pre)) _ (rw (o .amount2 .given .1) at (l .listing .ensures .said)) in
-    front _ _ (y .refused-line2 .ensures .0) (y .refused-line2 .ensures .1) (omega (arith, refused-short (o .amount2 .given .0 .0), start .pre)) ∙ is ∙ sym (output-short image (short .if1 .left))
+    front _ _ (y .refused-line2 .ensures .0) (y .refused-line2 .ensures .1) (omega (arith, refused-short (o .amount2 .given .0 .0) (omega (arith, y .before .before .known-told2 .given)), start .pre)) ∙ is ∙ sym (output-short image (short .if1 .left))
 
 pub put-text-spec : {M : Type 1} → statement M
 put-text-spec =

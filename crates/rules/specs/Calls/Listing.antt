@@ -16,13 +16,13 @@ use Rattle.rules.specs.Outcome.{Report, reported}
 use Rattle.rules.specs.declared.Kind.{Kind}
 use Rattle.rules.specs.declared.Kind.the-variants.{Program, Fixed, Variable}
 
--- a number in decimal digits, by a fuel of digits; twenty are enough for 64 bits
+-- a number in decimal digits, by a fuel of digits; for x, x + 1 are always enough
 unfoldable pub digits : ℕ → ℕ → List ℕ
 digits zero x = []
 digits (suc fuel) x = cond (ltb x 10) ((48 + x) ∷ []) (digits fuel (x / 10) ++ ((48 + x % 10) ∷ []))
 
 unfoldable pub decimal : ℕ → List ℕ
-decimal x = digits 20 x
+decimal x = digits (suc x) x
 
 -- a name up to its padding
 unfoldable pub unpadded : List ℕ → List ℕ
