@@ -227,7 +227,7 @@ module _ (image : List ℕ) (is : Sound image) where
     unfolding fileIn nameIn nameOf
     name-in = header-name image k
 
-    kind-in : kindIs (fileIn image k) ≡ fileKind (sectorOf image k)
+    pub kind-in : kindIs (fileIn image k) ≡ fileKind (sectorOf image k)
     unfolding kindIs fileIn fileKind
     kind-in =
         rw (

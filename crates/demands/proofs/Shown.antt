@@ -6,8 +6,8 @@ use Prim.Native.Nat.{ℕ, _<_}
 use native.Mathlib.Omega.{arith}
 use lib.ListN.{length, getD, take, length-map}
 use borrow.Author.Tests.{leb-false}
-use Rattle.rules.specs.Sectors.{sectorOf}
-use Rattle.rules.specs.Descriptor.{sectorsOf, fileKind}
+use Rattle.rules.specs.Sectors.{sectorOf, sectorCount}
+use Rattle.rules.specs.Descriptor.{nameOf, sectorsOf, IsDescriptor}
 use Rattle.rules.specs.Volume.{files, nameIn, placesIn, headerIn, fileIn, catalogue}
 use Rattle.rules.specs.Sound.{Sound, fileAt}
 use Rattle.rules.specs.Tests.{Passed}
@@ -23,26 +23,21 @@ use Rattle.rules.specs.declared.Answer.the-variants.{Done}
 use Rattle.rules.specs.declared.Opened.{Opened}
 use Rattle.rules.specs.declared.Opened.the-variants.{At, Absent, Refused}
 use Rattle.rules.proofs.Tests.{all-passed, passed-both, unless-passed}
+use Rattle.rules.proofs.Volume.{contents-count}
 use Rattle.rules.proofs.Outcome.{reported-given}
 use Rattle.rules.proofs.Opening.{IsOpened, opened-is, open-refused}
 use Rattle.rules.proofs.Listed.{opened-listed}
 use Rattle.demands.specs.Catalogue.{named}
 use Rattle.demands.specs.Faithful.{fileOf, lengthIs}
 use Rattle.demands.proofs.Faithful.{header-at, header-name, length-in, content-at, file-of}
+use Rattle.demands.specs.Demand2.{rowIs}
+use Rattle.demands.proofs.Lines.{kind-in}
 use Rattle.demands.proofs.Filed.{named-file}
 
--- the header holds what a row shows
-header-row : (image : List ℕ) (k : ℕ) → rowOf (headerIn image k) ≡ rowOf (sectorOf image k)
-unfolding rowOf fileKind nameIn
-header-row image k =
-    rw (
-      header-name image k,
-      header-at image k 12 (omega arith),
-      header-at image k 14 (omega arith),
-      header-at image k 15 (omega arith),
-      header-at image k 16 (omega arith),
-      header-at image k 17 (omega arith),
-    )
+-- what a row shows of a descriptor is that of its file
+row-in : (image : List ℕ) → Sound image → (k : ℕ) → IsDescriptor (sectorCount image) (sectorOf image k) → rowOf (sectorOf image k) ≡ rowIs (fileIn image k)
+unfolding rowOf fileIn nameIn nameOf
+row-in image is k d = rw (kind-in image is k d, contents-count (sectorCount image) image k d, header-name image k, header-at image k 12 (omega arith))
 
 pub catalogue-length : (image : List ℕ) → length (catalogue image) ≡ length (files image)
 unfolding catalogue
@@ -58,10 +53,11 @@ module _ (image : List ℕ) (is : Sound image) (place room : ℕ) (e : entryOf i
   unfolding entryOf fileIn
   entry-bytes = unless-passed (entryTests image place room) _ [] e ∙ rw (file-of image is place entry-inside)
 
-  pub entry-answers : _≡_ {A = Entry} (record { answer = answerOf (entryOf image place room .number); row = entryRow image place room }) (record { answer = Done; row = rowOf (fileOf image place .header) })
-  unfolding entryOf entryRow answerOf fileIn
+  pub entry-answers : _≡_ {A = Entry} (record { answer = answerOf (entryOf image place room .number); row = entryRow image place room }) (record { answer = Done; row = rowIs (fileOf image place) })
+  unfolding entryOf entryRow answerOf
   entry-answers =
-      rw (e, unless-passed (entryTests image place room) (rowOf (sectorOf image (fileAt image place))) noRow e, file-of image is place entry-inside, header-row image (fileAt image place))
+      let k = fileAt image place in
+      rw (e, unless-passed (entryTests image place room) (rowOf (sectorOf image k)) noRow e, file-of image is place entry-inside, row-in image is k (is .descriptors place entry-inside))
 
 -- a reading of a named file that gave number 0: the file was found
 record Read (image name : List ℕ) (reading : ℕ → Report) : Type 0 where

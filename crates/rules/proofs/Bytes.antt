@@ -8,7 +8,7 @@ use native.Mathlib.Numerals.{add-one}
 use native.Mathlib.Decide.{decLt}
 use lib.Dec.{eqb}
 use lib.ListN.{length, take, drop, length-take, length-drop, take-append-drop, drop-of-length-le, List·getD-eq-default, replicate, length-replicate, getD-replicate}
-use lib.Seq.{take-all, take-at, drop-at, drop-cons, getD-take, getD-drop, ext-getD}
+use lib.Seq.{take-all, take-at, drop-at, drop-drop, drop-cons, getD-take, getD-drop, ext-getD}
 use borrow.Author.Tests.{eq-eqb, eqb-true}
 use Rattle.rules.specs.Bytes.{byteAt, part, allAre, same}
 use Rattle.rules.proofs.Tests.{both, absurd-test}
@@ -68,6 +68,14 @@ both-halves m n bytes long =
 
 pub halves : (m n : ℕ) (a b : List ℕ) → length a ≡ m + n → length b ≡ m + n → part a 0 m ≡ part b 0 m → part a m n ≡ part b m n → a ≡ b
 halves m n a b long long′ first second = sym (both-halves m n a long) ∙ rw (first, second) (both-halves m n b long′)
+
+-- a part behind the front of a list, and lists that agree in a part and behind it
+pub part-behind : (front back : List ℕ) (m i many : ℕ) → length front ≡ m → part (front ++ back) (m + i) many ≡ part back i many
+part-behind front back m i many long = ap (take many) (sym (drop-drop i m (front ++ back)) ∙ ap (drop i) (drop-at front back m long))
+
+pub part-and-rest : (a b : List ℕ) (i many : ℕ) → part a i many ≡ part b i many → drop (i + many) a ≡ drop (i + many) b → drop i a ≡ drop i b
+part-and-rest a b i many here behind =
+    sym (take-append-drop many (drop i a)) ∙ rw (here, drop-drop many i a, behind, ← drop-drop many i b) (take-append-drop many (drop i b))
 
 -- two lists that are equal and begin with parts of one length: so are the parts
 pub append-parts : (a b c d : List ℕ) → length a ≡ length c → a ++ b ≡ c ++ d → (a ≡ c) × (b ≡ d)
