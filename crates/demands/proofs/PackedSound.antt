@@ -300,13 +300,13 @@ module _ (source : List ℕ) (is : Sound source) where
   unfolding files
   source-few = omega (arith, source-many, is .index .few)
 
-  pub same-size : length (packedImage source) ≡ length source
+  same-size : length (packedImage source) ≡ length source
   same-size = packed-size n (labelArea source) (catalogue source) label-long source-listed source-fits (is .size .1) ∙ sym (is .whole)
 
-  pub same-label : labelArea (packedImage source) ≡ labelArea source
+  same-label : labelArea (packedImage source) ≡ labelArea source
   same-label = packed-label n (labelArea source) (catalogue source) label-long source-listed source-fits (is .size .1)
 
-  pub same-catalogue : catalogue (packedImage source) ≡ catalogue source
+  same-catalogue : catalogue (packedImage source) ≡ catalogue source
   same-catalogue = packed-catalogue n (labelArea source) (catalogue source) label-long source-listed source-fits (is .size .1) source-few
 
   same-files : map (fileIn (packedImage source)) (run 2 (length (catalogue source))) ≡ map (fileIn source) (files source)

@@ -15,7 +15,7 @@ use Rattle.rules.specs.Map.{mapBit, count}
 use Rattle.rules.specs.Chain.{places}
 use Rattle.rules.specs.Descriptor.{chainOf}
 use Rattle.rules.specs.Index.{without}
-use Rattle.rules.specs.Volume.{nameIn, placesIn, fileHolders, holders, headerIn, contentsIn, fileIn, placed}
+use Rattle.rules.specs.Volume.{files, nameIn, placesIn, fileHolders, holders, headerIn, contentsIn, fileIn, catalogue, placed}
 use Rattle.rules.specs.Sound.{Sound}
 use Rattle.rules.proofs.Map.{count-none, count-here, count-other, count-more, count-at, count-append}
 
@@ -100,6 +100,26 @@ holders-without image k j (i ∷ is) there = go (eqb i k) refl (holders-without 
 -- a file's descriptor and places are among the holders
 pub file-holds : (image : List ℕ) (k j : ℕ) (ks : List ℕ) → 1 ≤ count k ks → count j (k ∷ placesIn image k) ≤ count j (fileHolders image ks)
 file-holds image k j ks there = omega (arith, holders-without image k j ks there)
+
+file-held : (image : List ℕ) (k j : ℕ) → 1 ≤ count k (files image) → count j (k ∷ placesIn image k) ≤ count j (holders image)
+unfolding holders
+file-held image k j there =
+    omega (arith, file-holds image k j (files image) there, count-more j 1 (fileHolders image (files image)), count-more j 0 (1 ∷ fileHolders image (files image)))
+
+-- and so are the system sectors
+pub system-held : (image : List ℕ) → (1 ≤ count 0 (holders image)) × (1 ≤ count 1 (holders image))
+unfolding holders count
+system-held image = (omega arith, omega arith)
+
+-- where all that is held stands as it stood, so does the catalogue
+pub catalogue-kept : (image after : List ℕ) → ((k : ℕ) → 1 ≤ count k (holders image) → sectorOf after k ≡ sectorOf image k) → catalogue after ≡ catalogue image
+unfolding catalogue files
+catalogue-kept image after kept =
+    rw (kept 1 (system-held image .1))
+    (files-kept image after (files image)
+    (λ k there.
+    file-kept image after k (kept k (omega (arith, file-held image k k there, count-here k (placesIn image k))))
+    (λ p placed. kept p (omega (arith, placed, file-held image k p there, count-more p k (placesIn image k))))))
 
 -- a sector that the map has free is nobody's
 pub free-unheld : (image : List ℕ) (k : ℕ) → Sound image → k < sectorCount image → mapBit (sectorOf image 0) k ≡ 0 → count k (holders image) ≡ 0
