@@ -104,6 +104,7 @@ module _ (n : ℕ) (name : List ℕ) (g : Geometry) (large : 3 ≤ n) (small : n
       let zeros : List ℕ = replicate 256 0 in
       let rest : List ℕ = replicate (256 * (n - 2)) 0xE5 in
       let sector0 = newLabel n name g ++ mapOf n (0 ∷ (1 ∷ [])) in
+      let left : 256 * (n - 2) ≡ 256 * n - 512 = omega arith in
       record {
         name-is = name-at;
         fields = fields-at 0 10;
@@ -115,7 +116,7 @@ module _ (n : ℕ) (name : List ℕ) (g : Geometry) (large : 3 ≤ n) (small : n
             (sym (drop-drop 256 256 (sector0 ++ (zeros ++ rest)))
             ∙ ap (drop 256) (drop-at sector0 (zeros ++ rest) 256 (sector0-length n name g (named .ten)))
             ∙ drop-at zeros rest 256 refl
-            ∙ ap (λ (m : ℕ). replicate m 0xE5) (omega arith));
+            ∙ ap (λ (m : ℕ). replicate m 0xE5) left);
       }
 
 pub formatting : Formatting

@@ -33,4 +33,5 @@ mod PackedSectors
 mod PackedSound
 mod PackedOne
 pub mod Demand3
+pub mod Complete
 pub mod WrongPacking
