@@ -3,11 +3,10 @@
 use mathlib.Core.Path.{_≡_, refl}
 use mathlib.Core.Bool.{Bool, true, false, _&&_}
 use mathlib.Core.List.{List, [], _∷_, _++_}
-use Prim.Native.Nat.{ℕ}
-use native.Mathlib.Omega.{arith}
+use Prim.Native.Nat.{ℕ, _≤_}
 use lib.Dec.{eqb, ltb}
 use lib.ListN.{length, replicate}
-use borrow.Author.Tests.{eqb-true, ltb-true, ne-eqb}
+use borrow.Author.Tests.{eqb-true, ltb-true}
 use Rattle.rules.specs.Bytes.{allAre, same, over, splice, withBit}
 use Rattle.rules.specs.Sectors.{sectorOf, written}
 use Rattle.rules.specs.Name.{nameByte, padded, nameRule, precedes}
@@ -58,7 +57,7 @@ pub record Shown (m : List ℕ) : Type 0 where
   pub listed : same (listingText m) printed ≡ true
   pub judged : verdict m ≡ 0
   pub appended : appendOf m notes secondSector .number ≡ 0
-  pub held : eqb (length (named notes (catalogue m) .contents)) 0 ≡ false
+  pub held : 1 ≤ length (named notes (catalogue m) .contents)
 
 passed : (m : List ℕ) → tests m ≡ true → Shown m
 unfolding tests ready
@@ -67,13 +66,12 @@ passed m e =
     let next = both (same (listingText m) printed) (ready m) (first .1) in
     let sound = both (eqb (verdict m) 0) (eqb (appendOf m notes secondSector .number) 0 && ltb 0 (length (named notes (catalogue m) .contents))) (next .1) in
     let last = both (eqb (appendOf m notes secondSector .number) 0) (ltb 0 (length (named notes (catalogue m) .contents))) (sound .1) in
-    let some = ltb-true 0 (length (named notes (catalogue m) .contents)) (last .1) in
     record {
       tabled = first .0;
       listed = next .0;
       judged = eqb-true (verdict m) 0 (sound .0);
       appended = eqb-true (appendOf m notes secondSector .number) 0 (last .0);
-      held = ne-eqb (length (named notes (catalogue m) .contents)) 0 (λ z. omega (arith, z, some));
+      held = ltb-true 0 (length (named notes (catalogue m) .contents)) (last .1);
     }
 
 all-pass : tests caseM ≡ true

@@ -27,11 +27,11 @@ mod Shown
 mod Plain
 pub mod Ours
 pub mod Demand2
-pub mod Wrong
 pub mod Unique
 mod PackedSectors
 mod PackedSound
 mod PackedOne
 pub mod Demand3
 pub mod Complete
+pub mod Wrong
 pub mod WrongPacking

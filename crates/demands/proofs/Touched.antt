@@ -41,11 +41,11 @@ none : (P : ℕ → Type 0) (j : ℕ) → 1 ≤ count j [] → P j
 none P j some = absurd (omega (arith, some, count-none j))
 
 -- from 2 up the two system sectors do not count
-behind-system : (j : ℕ) (ks : List ℕ) → 2 ≤ j → count j (0 ∷ (1 ∷ ks)) ≡ count j ks
+pub behind-system : (j : ℕ) (ks : List ℕ) → 2 ≤ j → count j (0 ∷ (1 ∷ ks)) ≡ count j ks
 behind-system j ks two = count-other j 0 (1 ∷ ks) (λ e. omega (arith, e, two)) ∙ count-other j 1 ks (λ e. omega (arith, e, two))
 
 -- the file of a name is one, so what holds of it holds where it was found first
-of-first : (image name : List ℕ) → Sound image → {P Q : ℕ → Type 0} → (first : Has image name P) → Has image name Q → Q (first .sector)
+pub of-first : (image name : List ℕ) → Sound image → {P Q : ℕ → Type 0} → (first : Has image name P) → Has image name Q → Q (first .sector)
 of-first image name is first second =
     rw (listed-name image is (second .sector) (first .sector) (second .listed) (first .listed) (second .named ∙ sym (first .named))) at (second .so)
 
