@@ -1,7 +1,7 @@
 -- Two versions that meet demand 2 do the same at every call: the number is that of the first ground; a refusal leaves everything and carries its number alone; and what a call that was done
 -- gives and leaves is fixed by its meaning.
 use mathlib.Core.Path.{_≡_, refl, sym, ap, _∙_}
-use mathlib.Core.Logic.{_⊎_, inl, inr}
+use mathlib.Core.Logic.{inl, inr}
 use mathlib.Core.List.{List, [], _∷_, _++_}
 use Prim.Native.Nat.{ℕ}
 use native.Mathlib.Omega.{arith}
@@ -21,10 +21,10 @@ use Rattle.rules.specs.declared.Entry.{Entry}
 use Rattle.rules.specs.declared.Row.{Row}
 use Rattle.rules.proofs.Verdict.{sound}
 use Rattle.demands.specs.Call as call
-use Rattle.demands.specs.Call.{Form, Answered, answerNumber, amountNumber, summaryNumber, numberIn, Plain, Look, Change, Call, formOf, lent, Result, Version, numberOf}
+use Rattle.demands.specs.Call.{Form, Answered, answerNumber, amountNumber, summaryNumber, numberIn, Plain, Look, Call, formOf, Result, Version, numberOf}
 use Rattle.demands.specs.Ours.{seen, ours}
-use Rattle.demands.specs.Grounds.{Ground, First, faults, lookGrounds, changeGrounds, grounds}
-use Rattle.demands.specs.Demand2.{FreeIs, FreeGiven, Summarized, Listed, Shows, Means, Frame, Demand2}
+use Rattle.demands.specs.Grounds.{Ground, First, faults, lookGrounds, grounds}
+use Rattle.demands.specs.Demand2.{FreeIs, Shows, Means, Frame, Demand2}
 use Rattle.demands.specs.Unique.{OneVersion, OnlyOurs}
 use Rattle.demands.proofs.Demand2.{demand2}
 use Rattle.demands.proofs.Formatting.{formats-one}

@@ -1,7 +1,7 @@
 -- What is computed of case M, in one test, so that its image is built once: the bench table holds, the listing is what the paper prints, the volume is sound, and
 -- NOTES, which has a sector, can be appended to.
 use mathlib.Core.Path.{_≡_, refl}
-use mathlib.Core.Bool.{Bool, true, false, _&&_}
+use mathlib.Core.Bool.{Bool, true, _&&_}
 use mathlib.Core.List.{List, [], _∷_, _++_}
 use Prim.Native.Nat.{ℕ, _≤_}
 use lib.Dec.{eqb, ltb}

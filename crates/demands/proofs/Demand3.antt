@@ -95,8 +95,6 @@ packing-demand =
       refuses = after-refused;
       laid = after-laid;
       sound = after-sound;
-      label = after-label;
-      listed = λ source target can. after-laid source target can .listed;
       again = λ source target other can long.
           let next = after-packable source target can other long in
           (packable-number (afterPack source target) other next, after-form (afterPack source target) source other target next can (after-label source target can) (after-laid source target can .listed));

@@ -5,7 +5,7 @@ use Prim.Native.Nat.{ℕ, _+_, _-_, _*_, _≤_}
 use native.Mathlib.Omega.{arith}
 use lib.ListN.{length, set}
 use lib.Seq.{getD-set-same, getD-take}
-use Rattle.rules.specs.Bytes.{byteAt, bitOf, withBit}
+use Rattle.rules.specs.Bytes.{bitOf, withBit}
 use Rattle.rules.specs.Sectors.{sectorOf, sectorCount, written}
 use Rattle.rules.specs.Kind.{IsStatus}
 use Rattle.rules.specs.Descriptor.{statusOf, IsDescriptor}

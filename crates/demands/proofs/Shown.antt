@@ -8,7 +8,7 @@ use lib.ListN.{length, getD, take, length-map}
 use borrow.Author.Tests.{leb-false}
 use Rattle.rules.specs.Sectors.{sectorOf, sectorCount}
 use Rattle.rules.specs.Descriptor.{nameOf, sectorsOf, IsDescriptor}
-use Rattle.rules.specs.Volume.{files, nameIn, placesIn, headerIn, fileIn, catalogue}
+use Rattle.rules.specs.Volume.{files, nameIn, placesIn, fileIn, catalogue}
 use Rattle.rules.specs.Sound.{Sound, fileAt}
 use Rattle.rules.specs.Tests.{Passed}
 use Rattle.rules.specs.Verdict.{volumeTests}

@@ -1,18 +1,17 @@
 -- Two images that a change leaves are one. Both have the catalogue that the change asks for, so the file of a name that lies in the same sector with the same chain is the same sector by
 -- sector; sector 0 is said; sector 1 is fixed by the names of the numbers that it lists; and all else stands as it stood.
-use mathlib.Core.Path.{_≡_, refl, sym, ap, _∙_}
+use mathlib.Core.Path.{_≡_, sym, ap, _∙_}
 use mathlib.Core.List.{List, [], _∷_, _++_}
-use Prim.Native.Nat.{ℕ, zero, suc, _+_, _*_, _/_, _≤_, _<_}
+use Prim.Native.Nat.{ℕ, _+_, _/_, _≤_, _<_}
 use native.Mathlib.Omega.{arith}
 use native.Mathlib.Decide.{decLt, ℕ-discrete}
 use lib.ListN.{length, getD}
-use Rattle.rules.specs.Bytes.{part}
 use Rattle.rules.specs.Sectors.{sectorOf, sectorCount}
-use Rattle.rules.specs.Map.{count, markedAll}
-use Rattle.rules.specs.Chain.{blocks, chainWith}
+use Rattle.rules.specs.Map.{count}
+use Rattle.rules.specs.Chain.{chainWith}
 use Rattle.rules.specs.Descriptor.{nameOf, chainOf}
 use Rattle.rules.specs.Index.{indexOf}
-use Rattle.rules.specs.Volume.{File, files, nameIn, placesIn, headerIn, contentsIn, fileIn, catalogue}
+use Rattle.rules.specs.Volume.{File, files, nameIn, placesIn, headerIn, contentsIn, fileIn}
 use Rattle.rules.specs.Sound.{Sound}
 use Rattle.rules.specs.declared.Block.{Block}
 use Rattle.rules.proofs.Bytes.{halves}
@@ -55,9 +54,6 @@ module _ (image a b name : List ℕ) (effect : Effect) (done : Done image a name
 
   many : sectorCount a ≡ sectorCount image
   many = ap (λ (m : ℕ). m / 256) (done .size)
-
-  many′ : sectorCount b ≡ sectorCount image
-  many′ = ap (λ (m : ℕ). m / 256) (done′ .size)
 
   -- a file that lies alike
   module _ (own : List ℕ) (k : ℕ) (places chain : List ℕ) (lies : Lies a own k places chain) (lies′ : Lies b own k places chain) where

@@ -3,7 +3,7 @@
 use mathlib.Core.Path.{_≡_, refl, sym, ap, _∙_}
 use mathlib.Core.Bool.{true}
 use mathlib.Core.List.{List, [], _∷_, map}
-use mathlib.Core.Logic.{_⊎_, inl, inr}
+use mathlib.Core.Logic.{inl, inr}
 use Prim.Native.Nat.{ℕ, _+_, _-_, _≤_, _<_}
 use native.Mathlib.Omega.{arith}
 use lib.ListN.{length}
@@ -12,8 +12,7 @@ use Rattle.rules.specs.Sectors.{sectorOf, sectorCount}
 use Rattle.rules.specs.Name.{nameByte, padded, nameRule}
 use Rattle.rules.specs.Map.{mapBit, count}
 use Rattle.rules.specs.declared.Block.{Block}
-use Rattle.rules.specs.Volume.{files, fileHolders, holders, placesIn, fileIn, catalogue}
-use Rattle.rules.specs.Sound.{Sound}
+use Rattle.rules.specs.Volume.{files, fileHolders, holders, fileIn, catalogue}
 use Rattle.rules.specs.Tests.{firstOf}
 use Rattle.rules.specs.Verdict.{sizeRule, volumeTests, verdict}
 use Rattle.rules.specs.Calls.Summary.{freeCountOf}
@@ -24,7 +23,6 @@ use Rattle.rules.proofs.Map.{count-none, count-other}
 use Rattle.rules.proofs.Marking.{all-other}
 use Rattle.rules.proofs.Verdict.{sound}
 use Rattle.rules.proofs.Formatted.{formatted-length}
-use Rattle.rules.proofs.Listed.{listed-range, listed-name, system-and}
 use Rattle.rules.proofs.Altered.{own-inside}
 use Rattle.demands.specs.Catalogue.{named}
 use Rattle.demands.specs.Call as call
@@ -33,10 +31,10 @@ use Rattle.demands.specs.Ours.{seen, outcome, ours}
 use Rattle.demands.specs.CaseM.{notes, caseM}
 use Rattle.demands.specs.Bench.{diskX, geometry}
 use Rattle.demands.specs.Formatting.{EmptyVolume, Formatting}
-use Rattle.demands.specs.Taking.{Free, Lowest, ForData, Takes}
+use Rattle.demands.specs.Taking.{Free, ForData, Takes}
 use Rattle.demands.specs.Grounds.{Has}
-use Rattle.demands.specs.Touches.{Stays, Gains, Leaves, Touches}
-use Rattle.demands.specs.Demand2.{FreeIs, FreeGiven, Shows, Means, Demand2}
+use Rattle.demands.specs.Touches.{Touches}
+use Rattle.demands.specs.Demand2.{FreeIs, Shows, Means, Demand2}
 use Rattle.demands.specs.Unique.{OnlyOurs}
 use Rattle.demands.specs.Wrong.{NeverDone, OneNumber, DoesNothing, InventsFree, OnlyReports, Instance, after, Wipes, MovesData, TakesHigher, WrongVersions}
 use Rattle.demands.proofs.Formatting.{formatting}

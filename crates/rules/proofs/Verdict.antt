@@ -5,14 +5,14 @@ use mathlib.Core.Bool.{true, false, _&&_}
 use mathlib.Core.List.{List, [], _∷_, _++_}
 use Prim.Native.Nat.{ℕ, zero, suc, _*_, _%_, _≤_, _<_}
 use native.Mathlib.Omega.{arith}
-use native.Mathlib.Decide.{decLt, ℕ-discrete}
+use native.Mathlib.Decide.{ℕ-discrete}
 use lib.Dec.{eqb, leb, ltb}
 use lib.ListN.{length, getD}
 use borrow.Author.Tests.{eq-eqb, eqb-true, le-leb, leb-true, le-ltb, ltb-false, not-false}
 use Rattle.rules.specs.Sectors.{sectorOf, sectorCount}
 use Rattle.rules.specs.Name.{precedes, Before}
 use Rattle.rules.specs.Label.{labelRule}
-use Rattle.rules.specs.Map.{mapBit, count, taken, mapRule}
+use Rattle.rules.specs.Map.{count, mapRule}
 use Rattle.rules.specs.Descriptor.{descriptorRule, IsDescriptor}
 use Rattle.rules.specs.Index.{indexRule}
 use Rattle.rules.specs.Volume.{files, nameIn, holders}
