@@ -36,7 +36,8 @@ use Rattle.demands.specs.Ours.{outcome}
 use Rattle.demands.specs.Effects.{effect, Done, longer}
 use Rattle.demands.specs.Grounds.{Has}
 use Rattle.demands.specs.Taking.{Takes}
-use Rattle.demands.specs.Touches.{Gains, Touches, Does}
+use Rattle.demands.specs.Touches.{Gains, Touches}
+use Rattle.demands.specs.Does.{Does}
 use Rattle.demands.proofs.Replacing.{altered-done, altered-lies, found-has}
 use Rattle.demands.proofs.Taking.{append-takes}
 

@@ -29,7 +29,7 @@ use Rattle.rules.specs.Calls.Append.{longerBlocks, appendTests, appendWrites, a
 use Rattle.rules.specs.Calls.Store.{dataWrites, newSectors, newBlocks, storeTests, storing, storeOf}
 use Rattle.rules.specs.Calls.Listing.{digits, decimal, unpadded, kindWord, kindLength, diskLine, fileLine, fileLines, listingText}
 use Rattle.rules.proofs.Tests.{both}
-use Rattle.demands.specs.Catalogue.{fileName, named}
+use Rattle.demands.specs.Catalogue.{named}
 use Rattle.demands.specs.CaseM.{notes, caseM, printed}
 use Rattle.demands.specs.Bench.{Case, diskX, geometry, tableOf}
 
@@ -75,7 +75,7 @@ passed m e =
     }
 
 all-pass : tests caseM ≡ true
-unfolding headerIn contentsIn fileIn catalogue joined labelArea oneBlock packedDescriptor packedDescriptors packedData dataSectors packedSectors packed same holds tableOf caseM over splice allAre withBit sectorOf written nameByte padded nameRule precedes labelRule mapBit count taken bitsRule mapRule byteOf bytesOf mapOf zeroBits freeCount marked markedAll blockBytes blockOf endsChain blocks blocksRule chainRule run placesFrom places extended extendedAll blocksBytes statusRule programLength kindOf kindRule nameOf chainOf fileKind descriptorRule newDescriptor withChain numbers rangeRule indexRule numbersBytes indexOf without files nameIn placesIn fileHolders holders placed sizeRule descriptorsRule heldTwice volumeTests verdict firstOf unlessMet lowestFree descriptorChoice dataChoice dataChoices findIn opening nameTests openOf changing adding newLabel formatted createStatus entered createTests creating createOf longerBlocks appendTests appendWrites appending appendOf dataWrites newSectors newBlocks storeTests storing storeOf digits decimal unpadded kindWord kindLength diskLine fileLine fileLines listingText fileName named tests ready
+unfolding headerIn contentsIn fileIn catalogue joined labelArea oneBlock packedDescriptor packedDescriptors packedData dataSectors packedSectors packed same holds tableOf caseM over splice allAre withBit sectorOf written nameByte padded nameRule precedes labelRule mapBit count taken bitsRule mapRule byteOf bytesOf mapOf zeroBits freeCount marked markedAll blockBytes blockOf endsChain blocks blocksRule chainRule run placesFrom places extended extendedAll blocksBytes statusRule programLength kindOf kindRule nameOf chainOf fileKind descriptorRule newDescriptor withChain numbers rangeRule indexRule numbersBytes indexOf without files nameIn placesIn fileHolders holders placed sizeRule descriptorsRule heldTwice volumeTests verdict firstOf unlessMet lowestFree descriptorChoice dataChoice dataChoices findIn opening nameTests openOf changing adding newLabel formatted createStatus entered createTests creating createOf longerBlocks appendTests appendWrites appending appendOf dataWrites newSectors newBlocks storeTests storing storeOf digits decimal unpadded kindWord kindLength diskLine fileLine fileLines listingText named tests ready
 all-pass = refl
 
 pub computed : Shown caseM

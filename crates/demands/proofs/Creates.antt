@@ -30,7 +30,8 @@ use Rattle.demands.specs.Ours.{outcome}
 use Rattle.demands.specs.Grounds.{CreateStatus}
 use Rattle.demands.specs.Effects.{effect, Done, newHeader, pieces}
 use Rattle.demands.specs.Taking.{Takes}
-use Rattle.demands.specs.Touches.{Enters, Touches, Does}
+use Rattle.demands.specs.Touches.{Enters, Touches}
+use Rattle.demands.specs.Does.{Does}
 use Rattle.demands.proofs.NewFile.{new-is}
 use Rattle.demands.proofs.Taking.{descriptor-lowest}
 use Rattle.demands.proofs.Entering.{new-file-done}

@@ -24,7 +24,8 @@ use Rattle.demands.specs.Catalogue.{takenOut, named, held}
 use Rattle.demands.specs.Call.{delete}
 use Rattle.demands.specs.Ours.{outcome}
 use Rattle.demands.specs.Effects.{effect, Done}
-use Rattle.demands.specs.Touches.{Leaves, Touches, Does}
+use Rattle.demands.specs.Touches.{Leaves, Touches}
+use Rattle.demands.specs.Does.{Does}
 use Rattle.demands.proofs.Filed.{named-file}
 use Rattle.demands.proofs.Replacing.{catalogue-after, replaced-done, numbers-after, found-has}
 

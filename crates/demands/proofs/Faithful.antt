@@ -30,7 +30,8 @@ use Rattle.rules.proofs.Verdict.{passes, sound-first}
 use Rattle.rules.proofs.Outcome.{reported-given}
 use Rattle.rules.proofs.Opening.{opening-passed}
 use Rattle.rules.proofs.Free.{free-holders}
-use Rattle.demands.specs.Faithful.{noFile, fileOf, Entries, Reads, Loads, Free, Faithful}
+use Rattle.demands.specs.Catalogue.{noFile, fileOf}
+use Rattle.demands.specs.Faithful.{Entries, Reads, Loads, Free, Faithful}
 
 -- an element of a mapped list, inside
 pub get-mapped : {A B : Type 0} (f : A → B) (l : List A) (p : ℕ) (d : A) (e : B) → p < length l → getD (map f l) p e ≡ f (getD l p d)

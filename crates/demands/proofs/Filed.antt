@@ -24,7 +24,7 @@ use Rattle.demands.specs.Catalogue.{fileName, putIn, takenOut, changed, 
 
 -- the name in the catalogue is the descriptor's: both are its first ten bytes
 pub file-name : (image : List ℕ) (k : ℕ) → fileName (fileIn image k) ≡ nameIn image k
-unfolding fileName fileIn headerIn nameIn nameOf
+unfolding fileIn headerIn nameIn nameOf
 file-name image k = take-take 10 28 (sectorOf image k) (omega arith)
 
 -- the catalogue is read of the image afterwards, where k has the new name and the others have theirs

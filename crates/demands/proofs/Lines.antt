@@ -25,8 +25,8 @@ use Rattle.rules.proofs.Bytes.{at-replicate}
 use Rattle.rules.proofs.Volume.{contents-count}
 use Rattle.rules.proofs.Listing.{digits-one, digits-more}
 use Rattle.rules.proofs.Free.{free-holders}
-use Rattle.demands.specs.Faithful.{fileOf, nameIs}
-use Rattle.demands.specs.Lines.{readFrom, AreDigits, IsDecimal, IsUnpadded, IsProtection, wordOf, lengthOf, kindIs, parted, IsDiskLine, IsFileLine, Lists}
+use Rattle.demands.specs.Catalogue.{fileName, fileOf, kindIs}
+use Rattle.demands.specs.Lines.{readFrom, AreDigits, IsDecimal, IsUnpadded, IsProtection, wordOf, lengthOf, parted, IsDiskLine, IsFileLine, Lists}
 use Rattle.demands.proofs.Faithful.{get-mapped, header-at, header-name, file-of}
 
 -- a digit more behind a word
@@ -223,7 +223,7 @@ module _ (image : List ℕ) (is : Sound image) where
       }
 
   module _ (k : ℕ) (d : IsDescriptor (sectorCount image) (sectorOf image k)) where
-    name-in : nameIs (fileIn image k) ≡ nameOf (sectorOf image k)
+    name-in : fileName (fileIn image k) ≡ nameOf (sectorOf image k)
     unfolding fileIn nameIn nameOf
     name-in = header-name image k
 
@@ -279,7 +279,7 @@ disk-line-one image first second is also =
 
 file-line-one : (file : File) (first second : List ℕ) → IsFileLine file first → IsFileLine file second → first ≡ second
 file-line-one file first second is also =
-    let name = unpadded-one (nameIs file) (is .name) (also .name) (is .name-is) (also .name-is) in
+    let name = unpadded-one (fileName file) (is .name) (also .name) (is .name-is) (also .name-is) in
     let size = decimal-one (lengthOf (kindIs file)) (is .size) (also .size) (is .size-is) (also .size-is) in
     let sectors = decimal-one (length (file .contents)) (is .sectors) (also .sectors) (is .sectors-are) (also .sectors-are) in
     let protection = protection-one (byteAt (file .header) 12) (is .protection) (also .protection) (is .protection-is) (also .protection-is) in

@@ -29,7 +29,7 @@ use Rattle.rules.proofs.Formatted.{formatted-length}
 use Rattle.rules.proofs.Written.{written-length}
 use Rattle.rules.proofs.Outcome.{reported-given}
 use Rattle.demands.specs.Effects.{Kept}
-use Rattle.demands.specs.Touches.{Does}
+use Rattle.demands.specs.Does.{Does}
 use Rattle.demands.specs.Formatting.{FormatCall}
 use Rattle.rules.specs.declared.Amount.the-variants as amount
 use Rattle.demands.specs.Call as call

@@ -26,7 +26,8 @@ use Rattle.demands.specs.Call.{overwrite}
 use Rattle.demands.specs.Ours.{outcome}
 use Rattle.demands.specs.Effects.{overwritten}
 use Rattle.demands.specs.Grounds.{Has}
-use Rattle.demands.specs.Touches.{Stays, Touches, Does}
+use Rattle.demands.specs.Touches.{Stays, Touches}
+use Rattle.demands.specs.Does.{Does}
 use Rattle.demands.proofs.Replacing.{altered-done, altered-lies, found-has}
 
 -- the call on the file at sector k

@@ -24,8 +24,7 @@ use Rattle.rules.proofs.Formatted.{map-length}
 use Rattle.rules.proofs.Indexed.{Ascending, index-length, numbers-index, index-is-index}
 use Rattle.rules.proofs.Written.{sound-again}
 use Rattle.rules.proofs.Pack.{descriptors-length, data-length, file-whole, label-length, used-inside}
-use Rattle.demands.specs.Catalogue.{fileName}
-use Rattle.demands.specs.Faithful.{noFile}
+use Rattle.demands.specs.Catalogue.{fileName, noFile}
 use Rattle.demands.specs.Packing.{placesOf, OneBlock, Packs}
 use Rattle.demands.proofs.Faithful.{get-mapped}
 use Rattle.demands.proofs.Filed.{file-name}
@@ -34,7 +33,7 @@ use Rattle.demands.proofs.PackedSectors.{count-runs, sector-behind, IsL
 -- A file of a sound volume, as its catalogue lists it.
 module _ (n : ℕ) (image : List ℕ) (whole : length image ≡ 256 * n) where
   is-listed : (k : ℕ) → k < n → IsDescriptor n (sectorOf image k) → IsListed (fileIn image k)
-  unfolding fileIn headerIn contentsIn nameIn fileName fileKind
+  unfolding fileIn headerIn contentsIn nameIn fileKind
   is-listed k inside is =
       let d = sectorOf image k in
       let long = sector-length image k (omega arith) in

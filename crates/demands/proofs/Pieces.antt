@@ -15,8 +15,8 @@ use Rattle.rules.specs.Sound.{Sound}
 use Rattle.rules.specs.Outcome.{gives}
 use Rattle.rules.specs.Calls.Load.{joined, loadOf}
 use Rattle.rules.proofs.Splice.{splice-length, splice-front}
-use Rattle.demands.specs.Catalogue.{fileName, putIn}
-use Rattle.demands.specs.Faithful.{noFile, fileOf, nameIs, lengthIs, Loads, Faithful}
+use Rattle.demands.specs.Catalogue.{fileName, noFile, fileOf, lengthIs, putIn}
+use Rattle.demands.specs.Faithful.{Loads, Faithful}
 use Rattle.demands.specs.Effects.{pieces}
 use Rattle.demands.proofs.Faithful.{faithful}
 
@@ -80,7 +80,7 @@ put-stands file (first ∷ more) = go (precedes (fileName file) (fileName first)
 
 -- so it is found under its name
 pub put-loads : (image : List ℕ) (file : File) (listed : List File) → Sound image → catalogue image ≡ putIn file listed → isProgram (byteAt (file .header) 12) ≡ true
-    → (room : ℕ) → lengthIs file ≤ room → loadOf image (nameIs file) room ≡ gives (lengthIs file) (take (lengthIs file) (joined (file .contents)))
+    → (room : ℕ) → lengthIs file ≤ room → loadOf image (fileName file) room ≡ gives (lengthIs file) (take (lengthIs file) (joined (file .contents)))
 unfolding Faithful Loads
 put-loads image file listed is put program room large =
     let there = put-stands file listed in

@@ -20,7 +20,8 @@ use Rattle.demands.specs.Call.{protect, unprotect}
 use Rattle.demands.specs.Ours.{outcome}
 use Rattle.demands.specs.Effects.{effect, Done, withProtection}
 use Rattle.demands.specs.Grounds.{Has}
-use Rattle.demands.specs.Touches.{Stays, Touches, Does}
+use Rattle.demands.specs.Touches.{Stays, Touches}
+use Rattle.demands.specs.Does.{Does}
 use Rattle.demands.proofs.Replacing.{byte-done, byte-stays}
 
 -- a status with that bit changed

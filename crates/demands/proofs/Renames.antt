@@ -39,7 +39,8 @@ use Rattle.demands.specs.Call.{rename}
 use Rattle.demands.specs.Ours.{outcome}
 use Rattle.demands.specs.Effects.{effect, Done, renamed}
 use Rattle.demands.specs.Grounds.{Has}
-use Rattle.demands.specs.Touches.{Numbers, Stays, Touches, Does}
+use Rattle.demands.specs.Touches.{Numbers, Stays, Touches}
+use Rattle.demands.specs.Does.{Does}
 use Rattle.demands.proofs.Filed.{named-file}
 use Rattle.demands.proofs.Replacing.{catalogue-after, replaced-done, numbers-after, lies-after, found-has}
 

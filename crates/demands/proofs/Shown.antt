@@ -27,10 +27,8 @@ use Rattle.rules.proofs.Volume.{contents-count}
 use Rattle.rules.proofs.Outcome.{reported-given}
 use Rattle.rules.proofs.Opening.{IsOpened, opened-is, open-refused}
 use Rattle.rules.proofs.Listed.{opened-listed}
-use Rattle.demands.specs.Catalogue.{named}
-use Rattle.demands.specs.Faithful.{fileOf, lengthIs}
+use Rattle.demands.specs.Catalogue.{fileOf, lengthIs, rowIs, named}
 use Rattle.demands.proofs.Faithful.{header-at, header-name, length-in, content-at, file-of}
-use Rattle.demands.specs.Demand2.{rowIs}
 use Rattle.demands.proofs.Lines.{kind-in}
 use Rattle.demands.proofs.Filed.{named-file}
 

@@ -24,13 +24,13 @@ use Rattle.rules.proofs.Choice.{Chosen, sound-fenced, choices-length, new-free,
 use Rattle.rules.proofs.Listed.{label-long}
 use Rattle.rules.proofs.Tests.{all-passed, unless-passed}
 use Rattle.rules.proofs.Opening.{IsAbsent, absent-is, open-refused, added-done}
-use Rattle.demands.specs.Catalogue.{putIn}
+use Rattle.demands.specs.Catalogue.{lengthIs, putIn}
 use Rattle.demands.specs.Call.{store}
 use Rattle.demands.specs.Ours.{outcome}
-use Rattle.demands.specs.Faithful.{lengthIs}
-use Rattle.demands.specs.Effects.{effect, Done, newHeader, pieces, newProgram, StoredLoads}
+use Rattle.demands.specs.Effects.{effect, Done, newHeader, pieces, newProgram}
 use Rattle.demands.specs.Taking.{ForDescriptor, Takes}
-use Rattle.demands.specs.Touches.{Enters, Touches, Does}
+use Rattle.demands.specs.Touches.{Enters, Touches}
+use Rattle.demands.specs.Does.{Does, StoredLoads}
 use Rattle.demands.proofs.NewFile.{header-name, header-status, header-end, with-chain-made}
 use Rattle.demands.proofs.Taking.{descriptor-lowest, new-takes}
 use Rattle.demands.proofs.Entering.{new-file-done}

@@ -3,26 +3,23 @@ use mathlib.Core.Path.{_≡_}
 use mathlib.Core.List.{List, []}
 use Prim.Native.Nat.{ℕ, _+_, _≤_}
 use lib.ListN.{length, getD, take}
-use Rattle.rules.specs.Bytes.{byteAt, part, splice}
+use Rattle.rules.specs.Bytes.{part, splice}
 use Rattle.rules.specs.Sectors.{sectorOf, sectorCount}
-use Rattle.rules.specs.Kind.{isProtected}
-use Rattle.rules.specs.Volume.{File, holders, catalogue}
+use Rattle.rules.specs.Volume.{holders, catalogue}
 use Rattle.rules.specs.Sound.{Sound}
 use Rattle.rules.specs.Calls.Format.{Geometry}
 use Rattle.rules.specs.Calls.Load.{joined}
 use Rattle.rules.specs.declared.Amount.{Amount}
 use Rattle.rules.specs.declared.Amount.the-variants as amount
 use Rattle.rules.specs.declared.Answer.the-variants as answer
-use Rattle.rules.specs.declared.Row.{Row}
 use Rattle.rules.specs.declared.Summary.{Summary}
 use Rattle.rules.specs.declared.Summary.the-variants as summary
-use Rattle.demands.specs.Catalogue.{named}
 use Rattle.demands.specs.Effects.{Kept, Changed}
-use Rattle.demands.specs.Lines.{kindIs, Lists}
+use Rattle.demands.specs.Lines.{Lists}
 use Rattle.demands.specs.Touches.{Touches}
 use Rattle.demands.specs.Packing.{Packs}
 use Rattle.demands.specs.Formatting.{EmptyVolume, Formats}
-use Rattle.demands.specs.Faithful.{fileOf, nameIs, lengthIs}
+use Rattle.demands.specs.Catalogue.{named, fileOf, lengthIs, rowIs}
 use Rattle.demands.specs.Call as call
 use Rattle.demands.specs.Call.{Form, Look, Call, Result, Version, Plain, formOf, lent, numberOf, run}
 use Rattle.demands.specs.Grounds.{First, grounds}
@@ -40,16 +37,6 @@ pub record Summarized (image : List ℕ) (given : Summary) : Type 0 where
   pub free : ℕ
   pub is : given ≡ summary.Given (sectorCount image) (length (catalogue image)) free
   pub count : FreeIs image free
-
--- the row of a file: name, kind, sectors, protection
-abbrev pub rowIs : File → Row
-rowIs file =
-    record {
-      name = nameIs file;
-      kind = kindIs file;
-      sectors = length (file .contents);
-      protected = isProtected (byteAt (file .header) 12);
-    }
 
 -- the text of the listing, put at the front of the buffer
 pub record Listed (image buffer : List ℕ) (given : Amount) (after : List ℕ) : Type 0 where

@@ -5,14 +5,11 @@ use mathlib.Core.List.{List, [], _∷_, _++_}
 use Prim.Native.Nat.{ℕ, zero, suc, _+_, _/_, _%_, _≤_, _<_}
 use lib.ListN.{length, drop, set, replicate}
 use Rattle.rules.specs.Bytes.{byteAt, wordBytes, withBit, over, splice}
-use Rattle.rules.specs.Sectors.{sectorOf, written}
+use Rattle.rules.specs.Sectors.{sectorOf}
 use Rattle.rules.specs.Map.{count, freeCount}
 use Rattle.rules.specs.Volume.{File, files, nameIn, placesIn, catalogue}
 use Rattle.rules.specs.Sound.{Sound}
-use Rattle.rules.specs.Outcome.{gives}
 use Rattle.rules.specs.Kind.{sectorsFor}
-use Rattle.rules.specs.Calls.Store.{storeOf}
-use Rattle.rules.specs.Calls.Load.{loadOf}
 use Rattle.demands.specs.Catalogue.{putIn, takenOut, changed, named, held}
 use Rattle.demands.specs.Call as call
 use Rattle.demands.specs.Call.{Change}
@@ -86,8 +83,3 @@ effectOf (call.rename new) name files = effect (putIn (renamed new (named name f
 
 abbrev pub Changed : Change → (image after name : List ℕ) → Type 0
 Changed change image after name = Done image after name (effectOf change name (catalogue image))
-
--- and a load of what was stored gives the bytes that were lent
-abbrev pub StoredLoads : Type 0
-StoredLoads = (image name bytes : List ℕ) → storeOf image name bytes .number ≡ 0 → (room : ℕ) → length bytes ≤ room
-    → loadOf (written image (storeOf image name bytes .writes)) name room ≡ gives (length bytes) bytes

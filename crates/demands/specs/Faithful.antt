@@ -4,29 +4,17 @@ use mathlib.Core.Bool.{true}
 use mathlib.Core.List.{List, []}
 use Prim.Native.Nat.{ℕ, _+_, _≤_, _<_}
 use lib.ListN.{length, getD, take}
-use Rattle.rules.specs.Bytes.{byteAt, part}
+use Rattle.rules.specs.Bytes.{byteAt}
 use Rattle.rules.specs.Sectors.{sectorOf, sectorCount}
-use Rattle.rules.specs.Kind.{isProgram, programLength}
+use Rattle.rules.specs.Kind.{isProgram}
 use Rattle.rules.specs.Map.{freeCount}
-use Rattle.rules.specs.Volume.{File, catalogue, holders}
+use Rattle.rules.specs.Volume.{catalogue, holders}
 use Rattle.rules.specs.Sound.{Sound}
 use Rattle.rules.specs.Outcome.{gives}
 use Rattle.rules.specs.Calls.Entry.{entryOf}
 use Rattle.rules.specs.Calls.Read.{readOf}
 use Rattle.rules.specs.Calls.Load.{joined, loadOf}
-
--- the file at a place of the catalogue, and what its header says: name, status, length of a program
-abbrev pub noFile : File
-noFile = record { header = []; contents = [] }
-
-abbrev pub fileOf : List ℕ → ℕ → File
-fileOf image p = getD (catalogue image) p noFile
-
-abbrev pub nameIs : File → List ℕ
-nameIs file = part (file .header) 0 10
-
-abbrev pub lengthIs : File → ℕ
-lengthIs file = programLength (length (file .contents)) (byteAt (file .header) 16)
+use Rattle.demands.specs.Catalogue.{fileName, fileOf, lengthIs}
 
 -- the entries at 0, 1, .. are the catalogue in its order, and 8 comes exactly past its end
 pub record Entries (image : List ℕ) : Type 0 where
@@ -38,13 +26,13 @@ pub record Entries (image : List ℕ) : Type 0 where
 unfoldable pub Reads : List ℕ → Type 0
 Reads image =
     (p offset room : ℕ) → p < length (catalogue image) → offset < length (fileOf image p .contents) → 256 ≤ room
-    → readOf image (nameIs (fileOf image p)) offset room ≡ gives 0 (getD (fileOf image p .contents) offset [])
+    → readOf image (fileName (fileOf image p)) offset room ≡ gives 0 (getD (fileOf image p .contents) offset [])
 
 -- a load is the contents one after another, cut at the length
 unfoldable pub Loads : List ℕ → Type 0
 Loads image =
     (p room : ℕ) → p < length (catalogue image) → isProgram (byteAt (fileOf image p .header) 12) ≡ true → lengthIs (fileOf image p) ≤ room
-    → loadOf image (nameIs (fileOf image p)) room ≡ gives (lengthIs (fileOf image p)) (take (lengthIs (fileOf image p)) (joined (fileOf image p .contents)))
+    → loadOf image (fileName (fileOf image p)) room ≡ gives (lengthIs (fileOf image p)) (take (lengthIs (fileOf image p)) (joined (fileOf image p .contents)))
 
 -- the free count is n less the holders
 unfoldable pub Free : List ℕ → Type 0

@@ -6,12 +6,11 @@ use Prim.Native.Nat.{ℕ, _+_, _-_, _*_, _≤_, _<_}
 use lib.ListN.{length, getD, replicate}
 use Rattle.rules.specs.Bytes.{byteAt, bitOf, part}
 use Rattle.rules.specs.Sectors.{sectorOf, sectorCount}
-use Rattle.rules.specs.Kind.{kindOf}
 use Rattle.rules.specs.Volume.{File, catalogue, holders}
 use Rattle.rules.specs.Calls.Load.{joined}
 use Rattle.rules.specs.declared.Kind.{Kind}
 use Rattle.rules.specs.declared.Kind.the-variants.{Program, Fixed, Variable}
-use Rattle.demands.specs.Faithful.{fileOf, nameIs}
+use Rattle.demands.specs.Catalogue.{fileName, fileOf, kindIs}
 
 -- the number that digits make, read from the left behind a number read before
 unfoldable pub readFrom : ℕ → List ℕ → ℕ
@@ -53,10 +52,6 @@ lengthOf (Program bytes) = bytes
 lengthOf (Fixed recordLength internal) = recordLength
 lengthOf (Variable recordLength internal) = recordLength
 
--- the kind of a file of the catalogue
-unfoldable pub kindIs : File → Kind
-kindIs file = kindOf (byteAt (file .header) 12) (length (file .contents)) (byteAt (file .header) 16) (byteAt (file .header) 17)
-
 -- the line of these fields: parted by one space, and a newline at the end
 unfoldable pub parted : List (List ℕ) → List ℕ
 parted [] = 10 ∷ []
@@ -77,7 +72,7 @@ pub record IsDiskLine (image line : List ℕ) : Type 0 where
 
 pub record IsFileLine (file : File) (line : List ℕ) : Type 0 where
   pub name : List ℕ
-  pub name-is : IsUnpadded (nameIs file) name
+  pub name-is : IsUnpadded (fileName file) name
   pub size : List ℕ
   pub size-is : IsDecimal (lengthOf (kindIs file)) size
   pub sectors : List ℕ

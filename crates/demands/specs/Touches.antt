@@ -4,7 +4,7 @@ use mathlib.Core.Path.{_≡_}
 use mathlib.Core.List.{List, [], _∷_, _++_}
 use Prim.Native.Nat.{ℕ, _+_, _≤_, _<_}
 use lib.ListN.{length, getD}
-use Rattle.rules.specs.Sectors.{sectorOf, sectorCount, written}
+use Rattle.rules.specs.Sectors.{sectorOf, sectorCount}
 use Rattle.rules.specs.Map.{count, markedAll}
 use Rattle.rules.specs.Chain.{blocks, chainWith}
 use Rattle.rules.specs.Kind.{sectorsFor}
@@ -14,8 +14,6 @@ use Rattle.rules.specs.Volume.{files, nameIn, placesIn}
 use Rattle.rules.specs.declared.Block.{Block}
 use Rattle.demands.specs.Call as call
 use Rattle.demands.specs.Call.{Change}
-use Rattle.demands.specs.Ours.{outcome}
-use Rattle.demands.specs.Effects.{Changed}
 use Rattle.demands.specs.Grounds.{Has}
 use Rattle.demands.specs.Taking.{ForDescriptor, Takes}
 
@@ -76,9 +74,3 @@ Touches call.protect image after name = Has image name (λ k. Stays image after 
 Touches call.unprotect image after name = Has image name (λ k. Stays image after name k (k ∷ []))
 Touches call.delete image after name = Has image name (Leaves image after)
 Touches (call.rename new) image after name = Has image name (λ k. Stays image after new k (1 ∷ (k ∷ [])) × Numbers image after [] [])
-
--- the statement of a change, by our definition of it: what it leaves of the catalogue, and of the sectors
-abbrev pub Does : Change → Type 0
-Does change = (image name : List ℕ) → outcome change image name .number ≡ 0 →
-    let after = written image (outcome change image name .writes) in
-    Changed change image after name × Touches change image after name
