@@ -150,10 +150,7 @@ module _ (image name : List ℕ) (p k : ℕ) (o : IsOpened image name p k) (byte
     appended-gains blocks-now takes chain =
         found-has image name p k o
         (record {
-          ks = new ∷ [];
-          so-many = refl;
-          chain = blocks-now;
-          takes = takes;
+          taken = record { ks = new ∷ []; so-many = refl; chain = blocks-now; takes = takes };
           lies = altered-lies altered name (o .named) (chainWith blocks-now) (ap chainOf descriptor-now ∙ chain);
           map = map-now;
           others = λ j inside apart.

@@ -192,10 +192,7 @@ module _ (image name bytes : List ℕ) (k : ℕ) (ks descriptor : List ℕ) (abs
         k = k;
         chosen = chosen;
         gains = record {
-          ks = ks;
-          so-many = refl;
-          chain = blocks;
-          takes = takes;
+          taken = record { ks = ks; so-many = refl; chain = blocks; takes = takes };
           lies = lies-after replaced ks (chainWith blocks) places-now (ap chainOf descriptor-now ∙ chain);
           map = map-now;
           others = λ j low apart.

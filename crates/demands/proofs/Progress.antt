@@ -92,9 +92,9 @@ overfull-decided : (image first places : List ℕ) (before : List Block) (ks : L
     → Decides (ltb 76 (length chain)) (Overfull image first places before (length ks))
 overfull-decided image first places before ks chain takes =
     record {
-      yes-there = λ e. record { ks = ks; so-many = refl; chain = chain; takes = takes; over = ltb-true 76 (length chain) e };
+      yes-there = λ e. record { taken = record { ks = ks; so-many = refl; chain = chain; takes = takes }; over = ltb-true 76 (length chain) e };
       not-there = λ e o.
-          let same = takes-one image first places before (o .ks) ks (o .chain) chain (o .so-many) (o .takes) takes .1 in
+          let same = takes-one image first places before (o .taken .ks) ks (o .taken .chain) chain (o .taken .so-many) (o .taken .takes) takes .1 in
           omega (arith, ltb-false 76 (length chain) e, o .over, ap length same);
     }
 

@@ -143,12 +143,12 @@ module _ (image a b name : List ℕ) (effect : Effect) (done : Done image a name
   module _ (own : List ℕ) (k : ℕ) (first places : List ℕ) (before : List Block) (m : ℕ) (system : List ℕ)
       (gains : Gains image a own k first places before m system) (gains′ : Gains image b own k first places before m system) where
     abbrev ks : List ℕ
-    ks = gains .ks
+    ks = gains .taken .ks
 
-    taken-one : (ks ≡ gains′ .ks) × (gains .chain ≡ gains′ .chain)
-    taken-one = takes-one image first places before ks (gains′ .ks) (gains .chain) (gains′ .chain) (gains .so-many ∙ sym (gains′ .so-many)) (gains .takes) (gains′ .takes)
+    taken-one : (ks ≡ gains′ .taken .ks) × (gains .taken .chain ≡ gains′ .taken .chain)
+    taken-one = takes-one image first places before ks (gains′ .taken .ks) (gains .taken .chain) (gains′ .taken .chain) (gains .taken .so-many ∙ sym (gains′ .taken .so-many)) (gains .taken .takes) (gains′ .taken .takes)
 
-    lies-second : Lies b own k (places ++ ks) (chainWith (gains .chain))
+    lies-second : Lies b own k (places ++ ks) (chainWith (gains .taken .chain))
     lies-second = rw (taken-one .0, taken-one .1) (gains′ .lies)
 
     others-second : Others image b (system ++ (k ∷ ks))
@@ -159,24 +159,24 @@ module _ (image a b name : List ℕ) (effect : Effect) (done : Done image a name
 
     own-one : (j : ℕ) → 1 ≤ count j (k ∷ ks) → Same j
     own-one =
-        among Same k ks (descriptor-one own k (places ++ ks) (chainWith (gains .chain)) (gains .lies) lies-second)
-        (λ j some. place-one own k (places ++ ks) (chainWith (gains .chain)) (gains .lies) lies-second j (omega (arith, some, count-append j places ks)))
+        among Same k ks (descriptor-one own k (places ++ ks) (chainWith (gains .taken .chain)) (gains .lies) lies-second)
+        (λ j some. place-one own k (places ++ ks) (chainWith (gains .taken .chain)) (gains .lies) lies-second j (omega (arith, some, count-append j places ks)))
 
   grown-one : (k : ℕ) (places : List ℕ) (before : List Block) → Gains image a name k [] places before 1 (0 ∷ []) → Gains image b name k [] places before 1 (0 ∷ []) → a ≡ b
   grown-one k places before gains gains′ =
-      image-one (0 ∷ (k ∷ gains .ks)) (gains .others) (others-second name k [] places before 1 (0 ∷ []) gains gains′)
-      (among Same 0 (k ∷ gains .ks) (map-one name k [] places before 1 (0 ∷ []) gains gains′) (own-one name k [] places before 1 (0 ∷ []) gains gains′))
+      image-one (0 ∷ (k ∷ gains .taken .ks)) (gains .others) (others-second name k [] places before 1 (0 ∷ []) gains gains′)
+      (among Same 0 (k ∷ gains .taken .ks) (map-one name k [] places before 1 (0 ∷ []) gains gains′) (own-one name k [] places before 1 (0 ∷ []) gains gains′))
 
   entered-one : (m k : ℕ) → Gains image a name k (k ∷ []) [] [] m (0 ∷ (1 ∷ [])) → Gains image b name k (k ∷ []) [] [] m (0 ∷ (1 ∷ [])) → Numbers image a [] (k ∷ []) → Numbers image b [] (k ∷ []) → a ≡ b
   entered-one m k gains gains′ numbers numbers′ =
       let system : List ℕ = 0 ∷ (1 ∷ []) in
-      let touched : List ℕ = 0 ∷ (1 ∷ (k ∷ gains .ks)) in
+      let touched : List ℕ = 0 ∷ (1 ∷ (k ∷ gains .taken .ks)) in
       let others′ = others-second name k (k ∷ []) [] [] m system gains gains′ in
       let held = own-one name k (k ∷ []) [] [] m system gains gains′ in
       image-one touched (gains .others) others′
-      (among Same 0 (1 ∷ (k ∷ gains .ks)) (map-one name k (k ∷ []) [] [] m system gains gains′)
-      (among Same 1 (k ∷ gains .ks)
-      (index-one touched (gains .others) others′ [] (k ∷ []) numbers numbers′ (λ j two some. held j (omega (arith, some, behind-system j (k ∷ gains .ks) two))))
+      (among Same 0 (1 ∷ (k ∷ gains .taken .ks)) (map-one name k (k ∷ []) [] [] m system gains gains′)
+      (among Same 1 (k ∷ gains .taken .ks)
+      (index-one touched (gains .others) others′ [] (k ∷ []) numbers numbers′ (λ j two some. held j (omega (arith, some, behind-system j (k ∷ gains .taken .ks) two))))
       held))
 
   enters-one : (m : ℕ) → Enters image a name m → Enters image b name m → a ≡ b

@@ -174,8 +174,8 @@ unfolding Touches
 takes-higher version kind all =
     let some = kind .some in
     let gains = touched version all some .so in
-    let apart = taken-low (some .image) _ (gains .chain) _ (gains .ks) (kind .lower) (kind .higher) (kind .order .0) (kind .order .1) (kind .lower-free) (gains .takes) (gains .so-many) in
-    let stays = all-other 1 (omega arith) (sectorOf (some .image) 0) (gains .ks) (kind .higher) apart in
+    let apart = taken-low (some .image) _ (gains .taken .chain) _ (gains .taken .ks) (kind .lower) (kind .higher) (kind .order .0) (kind .order .1) (kind .lower-free) (gains .taken .takes) (gains .taken .so-many) in
+    let stays = all-other 1 (omega arith) (sectorOf (some .image) 0) (gains .taken .ks) (kind .higher) apart in
     omega (arith, sym (kind .taken) ∙ ap (λ (s : List ℕ). mapBit s (kind .higher)) (gains .map) ∙ stays ∙ kind .higher-free .free)
 
 pub wrong-versions : WrongVersions

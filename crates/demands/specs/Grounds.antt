@@ -16,7 +16,7 @@ use Rattle.rules.specs.Index.{IsIndex}
 use Rattle.rules.specs.Volume.{files, nameIn, placesIn, holders}
 use Rattle.rules.specs.Sound.{fileAt}
 use Rattle.rules.specs.declared.Block.{Block}
-use Rattle.demands.specs.Taking.{ForDescriptor, Takes}
+use Rattle.demands.specs.Taking.{ForDescriptor, Taken}
 use Rattle.demands.specs.Lines.{Lists}
 use Rattle.demands.specs.Call as call
 use Rattle.demands.specs.Call.{Form, Look, Change, Call}
@@ -81,11 +81,8 @@ pub record CreateStatus (status : ℕ) : Type 0 where
 
 -- 13: what the call takes for the data of a file, behind the places and blocks that it has, makes a 77th block; of a new file, whose descriptor is chosen before
 pub record Overfull (image first places : List ℕ) (before : List Block) (many : ℕ) : Type 0 where
-  pub ks : List ℕ
-  pub so-many : length ks ≡ many
-  pub chain : List Block
-  pub takes : Takes image first places before ks chain
-  pub over : 76 < length chain
+  pub taken : Taken image first places before many
+  pub over : 76 < length (taken .chain)
 
 pub record NewOverfull (image : List ℕ) (many : ℕ) : Type 0 where
   pub k : ℕ

@@ -60,3 +60,10 @@ unfoldable pub Takes : (image taken places : List ℕ) (before : List Block) (ks
 Takes image taken places before [] after = after ≡ before
 Takes image taken places before (k ∷ ks) after =
     ForData image taken k × Through (Longer places k before) (λ between. Takes image (k ∷ taken) (places ++ (k ∷ [])) between ks after)
+
+-- so many of them
+pub record Taken (image first places : List ℕ) (before : List Block) (many : ℕ) : Type 0 where
+  pub ks : List ℕ
+  pub so-many : length ks ≡ many
+  pub chain : List Block
+  pub takes : Takes image first places before ks chain

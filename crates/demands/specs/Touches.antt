@@ -15,7 +15,7 @@ use Rattle.rules.specs.declared.Block.{Block}
 use Rattle.demands.specs.Call as call
 use Rattle.demands.specs.Call.{Change}
 use Rattle.demands.specs.Grounds.{Has}
-use Rattle.demands.specs.Taking.{ForDescriptor, Takes}
+use Rattle.demands.specs.Taking.{ForDescriptor, Taken}
 
 -- every sector but those touched stands as it stood
 abbrev pub Others : (image after touched : List ℕ) → Type 0
@@ -41,13 +41,10 @@ pub record Stays (image after name : List ℕ) (k : ℕ) (touched : List ℕ) : 
 -- a file that takes so many sectors behind those that it has; `first` are those that the call has taken before them, `system` what it touches of sectors 0 and 1. Their map bits are one now,
 -- and nothing else of sector 0 changes.
 pub record Gains (image after name : List ℕ) (k : ℕ) (first places : List ℕ) (before : List Block) (many : ℕ) (system : List ℕ) : Type 0 where
-  pub ks : List ℕ
-  pub so-many : length ks ≡ many
-  pub chain : List Block
-  pub takes : Takes image first places before ks chain
-  pub lies : Lies after name k (places ++ ks) (chainWith chain)
-  pub map : sectorOf after 0 ≡ markedAll 1 (sectorOf image 0) (first ++ ks)
-  pub others : Others image after (system ++ (k ∷ ks))
+  pub taken : Taken image first places before many
+  pub lies : Lies after name k (places ++ taken .ks) (chainWith (taken .chain))
+  pub map : sectorOf after 0 ≡ markedAll 1 (sectorOf image 0) (first ++ taken .ks)
+  pub others : Others image after (system ++ (k ∷ taken .ks))
 
 -- a new file: its descriptor is chosen before its data
 pub record Enters (image after name : List ℕ) (many : ℕ) : Type 0 where
