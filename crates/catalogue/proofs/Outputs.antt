@@ -25,7 +25,7 @@ pub front : (before bytes : List ℕ) {after : List ℕ} {size : ℕ} → size �
 front before bytes {after} long is room = ap (λ (n : ℕ). take n after) long ∙ ap (take (length bytes)) is ∙ splice-front before bytes room
 
 -- the two answers of the listing, where there is room for any
-module _ (image : List ℕ) (room : ℕ) (small : (i : ℕ) → byteAt image i < 256) (wide : 4593 ≤ room) where
+module _ (image : List ℕ) (room : ℕ) (small : (i : ℕ) → byteAt image i < 256) (wide : 4212 ≤ room) where
   pub record IsListed (size : ℕ) : Type 0 where
     pub long : size ≡ length (listed image)
     pub is : listingOf image room .bytes ≡ listed image

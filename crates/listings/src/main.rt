@@ -16,8 +16,8 @@ use rules::Amount;
 use sector::buffer::lay;
 use sector::bytes::part;
 
-// No listing is longer: a line of at most 21 bytes and at most 127 of at most 36.
-const TEXT_ROOM: usize = 4593;
+// Room for every listing: a line of at most 21 bytes and at most 127 of at most 33.
+const TEXT_ROOM: usize = 4212;
 
 // Each `put_` puts a text at the front of the lent one and gives its length.
 fn put_listing(image: &[u8], text: &mut [u8]) -> usize {

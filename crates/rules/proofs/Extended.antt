@@ -14,13 +14,14 @@ use Rattle.rules.specs.Sectors.{sectorOf, sectorCount}
 use Rattle.rules.specs.declared.Block.{Block}
 use Rattle.rules.specs.Chain.{blockBytes, endsChain, blocks, run, placesFrom, places, extended, extendedAll, blocksBytes, chainWith, Linked, IsChain}
 use Rattle.rules.specs.Map.{count}
-use Rattle.rules.specs.Descriptor.{sectorsOf, chainOf, withChain, IsDescriptor}
+use Rattle.rules.specs.Descriptor.{sectorsOf, chainOf, withChain}
 use Rattle.rules.specs.Volume.{files, placesIn, fileHolders, holders}
 use Rattle.rules.specs.Sound.{fileAt, Sound}
 use Rattle.rules.proofs.Bytes.{part-length, part-short, part-at}
 use Rattle.rules.proofs.Map.{count-here, count-more}
 use Rattle.rules.proofs.Splice.{splice-length, splice-inside, splice-below, splice-above, splice-parts}
-use Rattle.rules.proofs.Chain.{block-bytes, run-step, places-length}
+use Rattle.rules.proofs.Chain.{block-bytes, run-step}
+use Rattle.rules.proofs.Volume.{places-count}
 use Rattle.rules.proofs.Free.{free-holders}
 
 -- three bytes a block
@@ -353,13 +354,7 @@ places-among image (k ∷ ks) zero h = omega (arith, length-append (placesIn ima
 places-among image (k ∷ ks) (suc p) h =
     omega (arith, places-among image ks p (omega arith), length-append (placesIn image k) (fileHolders image ks))
 
-places-many : (image : List ℕ) (n k : ℕ) → IsDescriptor n (sectorOf image k) → length (placesIn image k) ≡ sectorsOf (sectorOf image k)
-unfolding placesIn places
-places-many image n k is =
-    let e = places-length n (sectorsOf (sectorOf image k)) 0 (blocks (chainOf (sectorOf image k))) (is .chain .linked) in
-    omega (arith, e)
-
 pub sectors-few : (image : List ℕ) (p : ℕ) → Sound image → p < length (files image) → sectorsOf (sectorOf image (fileAt image p)) ≤ 1600
 unfolding holders
 sectors-few image p is h =
-    omega (arith, free-holders image is, is .size, places-among image (files image) p h, places-many image (sectorCount image) (fileAt image p) (is .descriptors p h))
+    omega (arith, free-holders image is, is .size, places-among image (files image) p h, places-count (sectorCount image) image (fileAt image p) (is .descriptors p h))

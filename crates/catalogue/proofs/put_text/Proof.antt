@@ -38,8 +38,10 @@ returns-3 c =
     let start = short .before .before .before in
     let image = start .args .image .now in
     let text = start .args .text .now in
-    let is = when-refused image (length text) (λ i. omega (arith, short .before .before .shared-slice-known .given i)) (omega (arith, start .pre)) _ (rw (o .amount2 .given .1) at (l .listing .ensures .said)) in
-    front _ _ (y .refused-line2 .ensures .0) (y .refused-line2 .ensures .1) (omega (arith, refused-short (o .amount2 .given .0 .0) (omega (arith, y .before .before .known-told2 .given)), start .pre)) ∙ is ∙ sym (output-short image (short .if1 .left))
+    let number = o .amount2 .given .0 .0 in
+    let is = when-refused image (length text) (λ i. omega (arith, short .before .before .shared-slice-known .given i)) (omega (arith, start .pre)) number (rw (o .amount2 .given .1) at (l .listing .ensures .said)) in
+    let fits = refused-short number (omega (arith, y .before .before .known-told2 .given)) in
+    front _ (refusedLine number) (y .refused-line2 .ensures .0) (y .refused-line2 .ensures .1) (omega (arith, fits, start .pre)) ∙ is ∙ sym (output-short image (short .if1 .left))
 
 pub put-text-spec : {M : Type 1} → statement M
 put-text-spec =
