@@ -7,15 +7,14 @@
 ghost use mathlib.Core.Path.{_≡_};
 ghost use Prim.Native.Nat.{_≤_};
 ghost use lib.ListN.{length};
-ghost use Rattle.rules.specs.Bytes.{part};
+ghost use Rattle.rules.specs.Bytes.{part, splice};
 ghost use Rattle.catalogue.specs.Output.{output};
 use input::Received;
 use input::read_or_tell;
 use libc::STDIN_FILENO;
 use libc::STDOUT_FILENO;
-use listing::listing;
 use listing::refused_line;
-use rules::Amount;
+use listing::show;
 use sector::bytes::part;
 
 // The longest image that the program takes.
@@ -32,15 +31,12 @@ const TEXT_ROOM: usize = 4212;
 fn put_text(image: &[u8], text: &mut [u8]) -> usize
     requires { ⌜ 4212 ≤ length (now text) ⌝ }
     ensures { λ r. ⌜ part (now (text .exit)) 0 r ≡ output (now (image .entry)) ⌝ }
+    ensures { λ r. ⌜ (r ≡ length (output (now (image .entry)))) × (now (text .exit) ≡ splice (now (text .entry)) 0 (output (now (image .entry)))) ⌝ }
 {
     if image.len() > IMAGE_MOST {
         return refused_line(1, text);
     }
-    let amount = listing(image, text);
-    match amount {
-        Amount::Given(length) => length,
-        Amount::Refused(number) => refused_line(number, text),
-    }
+    show(image, text)
 }
 
 fn run(buffer: &mut [u8], text: &mut [u8])

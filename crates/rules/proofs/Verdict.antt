@@ -19,7 +19,7 @@ use Rattle.rules.specs.Volume.{files, nameIn, holders}
 use Rattle.rules.specs.Tests.{Test, firstOf, Passed}
 use Rattle.rules.specs.Verdict.{sizeRule, descriptorsRule, heldTwice, volumeTests, verdict}
 use Rattle.rules.specs.Sound.{Sound, fileAt}
-use Rattle.rules.proofs.Tests.{both, neither, all-passed, first-passed, first-met}
+use Rattle.rules.proofs.Tests.{both, neither, all-passed, first-passed, first-met, AtMost, first-most}
 use Rattle.rules.proofs.Name.{precedes-is, is-precedes, before-trans}
 use Rattle.rules.proofs.Label.{label-is, is-label}
 use Rattle.rules.proofs.Map.{count-none, count-here, count-other, count-more, taken-below, taken-past, bits-taken, map-at, at-map}
@@ -174,6 +174,11 @@ passes image is =
 
 pub verdict-sound : (image : List ℕ) → (verdict image ≡ 0) ↔ Sound image
 verdict-sound image = (sound image, passes image)
+
+-- the numbers are 0 to 6
+pub verdict-small : (image : List ℕ) → verdict image ≤ 6
+unfolding verdict volumeTests AtMost
+verdict-small image = first-most 6 (volumeTests image) (omega arith, (omega arith, (omega arith, (omega arith, (omega arith, (omega arith, tt))))))
 
 -- a call whose tests begin with those of the volume
 module _ (image : List ℕ) (tests : List Test) where

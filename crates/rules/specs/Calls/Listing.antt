@@ -11,7 +11,7 @@ use Rattle.rules.specs.Descriptor.{nameOf, statusOf, sectorsOf, fileKind
 use Rattle.rules.specs.Volume.{files}
 use Rattle.rules.specs.Kind.{isProtected}
 use Rattle.rules.specs.Tests.{Test, refuse}
-use Rattle.rules.specs.Verdict.{volumeTests}
+use Rattle.rules.specs.Verdict.{volumeTests, verdict}
 use Rattle.rules.specs.Outcome.{Report, reported}
 use Rattle.rules.specs.declared.Kind.{Kind}
 use Rattle.rules.specs.declared.Kind.the-variants.{Program, Fixed, Variable}
@@ -74,3 +74,10 @@ listingOf image room = reported (listingTests image room) (length (listingText i
 -- an unsound image gives only `REFUSED` and its number
 unfoldable pub refusedLine : ℕ → List ℕ
 refusedLine number = 0x52 ∷ (0x45 ∷ (0x46 ∷ (0x55 ∷ (0x53 ∷ (0x45 ∷ (0x44 ∷ (32 ∷ (decimal number ++ (10 ∷ [])))))))))
+
+unfoldable pub listed : List ℕ → List ℕ
+listed image = cond (eqb (verdict image) 0) (listingText image) (refusedLine (verdict image))
+
+-- what the call shows of an image in a buffer of `room` bytes: the text, or the line of its refusal
+unfoldable pub shown : List ℕ → ℕ → List ℕ
+shown image room = cond (eqb (listingOf image room .number) 0) (listingText image) (refusedLine (listingOf image room .number))
