@@ -34,8 +34,7 @@ module _ (image before : List ℕ) where
   unfolding AmountSays listingOf
   shown-given gave =
       let none = gave .said .0 in
-      let text = shown-text none in
-      (
+      let text = shown-text none in (
         gave .said .1 ∙ unless-passed (listingTests image (length before)) (length (listingText image)) 0 none ∙ sym (ap length text),
         gave .left ∙ ap (splice before 0) (unless-passed (listingTests image (length before)) (listingText image) [] none ∙ sym text),
       )
@@ -44,8 +43,7 @@ module _ (image before : List ℕ) where
   pub shown-refused : {number : ℕ} {after : List ℕ} → Gives AmountSays report (Refused number) before after → (after ≡ before) × (refusedLine number ≡ shown image (length before))
   unfolding AmountSays listingOf
   shown-refused gave =
-      let some = gave .said .1 in
-      (
+      let some = gave .said .1 in (
         gave .left ∙ ap (splice before 0) (unless-met (listingTests image (length before)) (listingText image) [] some) ∙ splice-none before 0,
         ap refusedLine (gave .said .0) ∙ sym (shown-line some),
       )
