@@ -2,9 +2,8 @@
 mod Computed
 pub mod Bench
 pub mod Formatting
-pub mod Faithful
-pub mod Lines
 mod Filed
+pub mod Lines
 mod Replacing
 mod Taking
 mod Touched
@@ -33,5 +32,6 @@ mod PackedSound
 mod PackedOne
 pub mod Demand3
 pub mod Complete
+pub mod StoredLoads
 pub mod Wrong
 pub mod WrongPacking

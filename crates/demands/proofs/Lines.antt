@@ -22,12 +22,12 @@ use Rattle.rules.specs.Calls.Listing.{digits, decimal, unpadded, kindWord, kind
 use Rattle.rules.specs.declared.Kind.{Kind}
 use Rattle.rules.specs.declared.Kind.the-variants.{Program, Fixed, Variable}
 use Rattle.rules.proofs.Bytes.{at-replicate}
-use Rattle.rules.proofs.Volume.{contents-count}
+use Rattle.rules.proofs.Volume.{get-mapped, contents-count, header-at, header-name}
 use Rattle.rules.proofs.Listing.{digits-one, digits-more}
 use Rattle.rules.proofs.Free.{free-holders}
 use Rattle.demands.specs.Catalogue.{fileName, fileOf, kindIs}
 use Rattle.demands.specs.Lines.{readFrom, AreDigits, IsDecimal, IsUnpadded, IsProtection, wordOf, lengthOf, parted, IsDiskLine, IsFileLine, Lists}
-use Rattle.demands.proofs.Faithful.{get-mapped, header-at, header-name, file-of}
+use Rattle.demands.proofs.Filed.{file-of}
 
 -- a digit more behind a word
 read-more : (before : ℕ) (word : List ℕ) (digit : ℕ) → readFrom before (word ++ (digit ∷ [])) ≡ 10 * readFrom before word + (digit - 48)
@@ -253,7 +253,7 @@ module _ (image : List ℕ) (is : Sound image) where
         }
 
   lines-are : (p : ℕ) → p < length (files image) → IsFileLine (fileOf image p) (getD (map (lineIn image) (files image)) p [])
-  lines-are p h = rw (file-of image is p h, get-mapped (lineIn image) (files image) p 0 [] h) (file-line (fileAt image p) (is .descriptors p h))
+  lines-are p h = rw (file-of image p h, get-mapped (lineIn image) (files image) p 0 [] h) (file-line (fileAt image p) (is .descriptors p h))
 
   pub listing-lists : Lists image (listingText image)
   unfolding listingText catalogue

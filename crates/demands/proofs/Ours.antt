@@ -2,7 +2,7 @@
 -- rest as it stood, and a sound volume stays sound. Each part is proved call by call.
 use mathlib.Core.Path.{_≡_, refl, sym, ap, _∙_}
 use mathlib.Core.List.{List, [], _∷_}
-use Prim.Native.Nat.{ℕ, _≤_}
+use Prim.Native.Nat.{ℕ}
 use native.Mathlib.Omega.{arith}
 use native.Mathlib.Decide.{ℕ-discrete}
 use lib.ListN.{length}
@@ -31,7 +31,6 @@ use Rattle.rules.proofs.Outcome.{reported-given}
 use Rattle.demands.specs.Effects.{Kept}
 use Rattle.demands.specs.Does.{Does}
 use Rattle.demands.specs.Formatting.{FormatCall}
-use Rattle.rules.specs.declared.Amount.the-variants as amount
 use Rattle.demands.specs.Call as call
 use Rattle.demands.specs.Call.{Form, answerNumber, numberIn, Look, Change, Call, lent, numberOf, run}
 use Rattle.demands.specs.Ours.{seen, outcome, ours}
@@ -40,7 +39,7 @@ use Rattle.demands.specs.Grounds.{First, grounds}
 use Rattle.demands.specs.Demand2.{FreeIs, FreeGiven, Summarized, Shows, Means, Frame, Demand2}
 use Rattle.demands.proofs.Formatting.{format-passed, format-size, format-call, format-bytes}
 use Rattle.demands.proofs.Creates.{creates}
-use Rattle.demands.proofs.Stores.{stores, stored-loads}
+use Rattle.demands.proofs.Stores.{stores}
 use Rattle.demands.proofs.Appends.{appends}
 use Rattle.demands.proofs.Overwrites.{overwrites}
 use Rattle.demands.proofs.Protects.{protects, unprotects}
@@ -179,15 +178,6 @@ means (call.look look buffer) image is e = shows look buffer image is e
 means (call.change name change) image is e = does change image name (sym (answer-number (outcome change image name .number)) ∙ e)
 means (call.format n name geometry) image is e = formats n name geometry image e
 
-loads : (name bytes buffer image : List ℕ) → Sound image → length bytes ≤ length buffer →
-    let c = call.change name (call.store bytes) in
-    let loaded = ours (call.look (call.load name) buffer) (ours c image .image) in
-    numberOf ours c image ≡ 0 → (loaded .answer ≡ amount.Given (length bytes)) × (loaded .buffer ≡ splice buffer 0 bytes)
-unfolding ours outcome seen amountOf
-loads name bytes buffer image is room e =
-    let loaded = stored-loads image name bytes (sym (answer-number (outcome (call.store bytes) image name .number)) ∙ e) (length buffer) room in
-    (ap amountOf loaded, ap (λ (r : Report). splice buffer 0 (r .bytes)) loaded)
-
 -- the frame: of a call that was done, and of a refusal
 kept-same : (image after name : List ℕ) → after ≡ image → Kept image after name
 kept-same image after name e =
@@ -233,4 +223,4 @@ sound-run (c ∷ calls) image is = sound-run calls (ours c image .image) (sound-
 
 pub demand2-but-progress : ((c : Call) (image : List ℕ) → First (numberOf ours c image) (grounds c image)) → Demand2 ours
 demand2-but-progress progress =
-    record { plain = plain; lengths = lengths; refuses = refuses; sound = sound-run; formats = formats; frame = frame; means = means; stores = loads; progress = progress }
+    record { plain = plain; lengths = lengths; refuses = refuses; sound = sound-run; formats = formats; frame = frame; means = means; progress = progress }

@@ -26,7 +26,7 @@ use Rattle.rules.proofs.Written.{sound-again}
 use Rattle.rules.proofs.Pack.{descriptors-length, data-length, file-whole, label-length, used-inside}
 use Rattle.demands.specs.Catalogue.{fileName, noFile}
 use Rattle.demands.specs.Packing.{placesOf, OneBlock, Packs}
-use Rattle.demands.proofs.Faithful.{get-mapped}
+use Rattle.rules.proofs.Volume.{get-mapped}
 use Rattle.demands.proofs.Filed.{file-name}
 use Rattle.demands.proofs.PackedSectors.{count-runs, sector-behind, IsListed, Each, each-whole, Laid, laid, laid-files, laid-each, laid-data, laid-holders, filled-behind, packed-block, packed-descriptor}
 

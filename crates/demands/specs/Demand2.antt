@@ -88,10 +88,12 @@ pub record Demand2 (version : Version) : Type 0 where
   pub frame : (c : Call) (image : List ℕ) → Sound image → Frame c image (version c image .image)
   -- the meaning
   pub means : (c : Call) (image : List ℕ) → Sound image → numberOf version c image ≡ 0 → Means c image (version c image)
-  -- what was stored is what a load gives
-  pub stores : (name bytes buffer image : List ℕ) → Sound image → length bytes ≤ length buffer →
-      let c = call.change name (call.store bytes) in
-      let loaded = version (call.look (call.load name) buffer) (version c image .image) in
-      numberOf version c image ≡ 0 → (loaded .answer ≡ amount.Given (length bytes)) × (loaded .buffer ≡ splice buffer 0 bytes)
   -- progress: the number is that of the first ground that is there, and 0 exactly where none is
   pub progress : (c : Call) (image : List ℕ) → First (numberOf version c image) (grounds c image)
+
+-- So what was stored is what a load gives, in every version that meets it.
+unfoldable pub StoredLoads : Type 0
+StoredLoads = (version : Version) → Demand2 version → (name bytes buffer image : List ℕ) → Sound image → length bytes ≤ length buffer →
+    let c = call.change name (call.store bytes) in
+    let loaded = version (call.look (call.load name) buffer) (version c image .image) in
+    numberOf version c image ≡ 0 → (loaded .answer ≡ amount.Given (length bytes)) × (loaded .buffer ≡ splice buffer 0 bytes)

@@ -2,7 +2,6 @@
 pub mod Call
 pub mod Ours
 pub mod Catalogue
-pub mod Faithful
 pub mod Effects
 pub mod Taking
 pub mod Lines

@@ -12,7 +12,7 @@ use borrow.Author.Tests.{eq-eqb, ne-eqb, eqb-true}
 use Rattle.rules.specs.Bytes.{byteAt, wordBytes, part, over, splice}
 use Rattle.rules.specs.Sectors.{sectorOf, sectorCount}
 use Rattle.rules.specs.declared.Block.{Block}
-use Rattle.rules.specs.Chain.{blockBytes, endsChain, blocks, run, placesFrom, places, extended, extendedAll, blocksBytes, chainWith, Linked, IsChain}
+use Rattle.rules.specs.Chain.{blockBytes, endsChain, blocks, run, placesFrom, extended, extendedAll, blocksBytes, chainWith, Linked, IsChain}
 use Rattle.rules.specs.Map.{count}
 use Rattle.rules.specs.Descriptor.{sectorsOf, chainOf, withChain}
 use Rattle.rules.specs.Volume.{files, placesIn, fileHolders, holders}

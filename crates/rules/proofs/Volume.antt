@@ -1,16 +1,19 @@
--- The holders of an image: how they count, and that those of kept rules are sectors of the volume.
-use mathlib.Core.Path.{_≡_, _∙_}
-use mathlib.Core.List.{List, [], _∷_, _++_}
-use Prim.Native.Nat.{ℕ, _≤_, _<_}
+-- The files of an image: how many places and contents they have, and what is read of them; and the holders: how they count, and that those of kept rules are sectors of the volume.
+use mathlib.Core.Path.{_≡_, refl, _∙_}
+use mathlib.Core.List.{List, [], _∷_, _++_, map}
+use Prim.Native.Nat.{ℕ, zero, suc, _+_, _≤_, _<_}
 use native.Mathlib.Omega.{arith}
 use native.Mathlib.Decide.{decLt, ℕ-discrete}
 use lib.ListN.{length, getD, length-map}
+use lib.Seq.{take-take}
+use Rattle.rules.specs.Bytes.{byteAt}
 use Rattle.rules.specs.Sectors.{sectorOf}
 use Rattle.rules.specs.Chain.{places, blocks}
 use Rattle.rules.specs.Map.{count}
-use Rattle.rules.specs.Descriptor.{sectorsOf, chainOf, IsDescriptor}
+use Rattle.rules.specs.Descriptor.{nameOf, sectorsOf, chainOf, IsDescriptor}
 use Rattle.rules.specs.Index.{IsIndex}
-use Rattle.rules.specs.Volume.{files, placesIn, fileHolders, holders, contentsIn}
+use Rattle.rules.specs.Volume.{files, nameIn, placesIn, fileHolders, holders, headerIn, contentsIn}
+use Rattle.rules.proofs.Bytes.{part-at}
 use Rattle.rules.proofs.Map.{count-none, count-here, count-other, count-more, count-at, counted-all, count-append}
 use Rattle.rules.proofs.Chain.{places-length, places-hold}
 
@@ -27,6 +30,25 @@ places-count n image k is = omega (arith, places-length n (sectorsOf (sectorOf i
 pub contents-count : (n : ℕ) (image : List ℕ) (k : ℕ) → IsDescriptor n (sectorOf image k) → length (contentsIn image k) ≡ sectorsOf (sectorOf image k)
 unfolding contentsIn
 contents-count n image k is = length-map (placesIn image k) (sectorOf image) ∙ places-count n image k is
+
+-- a content by its offset, and a byte and the name of the header, are those of the sectors
+pub get-mapped : {A B : Type 0} (f : A → B) (l : List A) (p : ℕ) (d : A) (e : B) → p < length l → getD (map f l) p e ≡ f (getD l p d)
+get-mapped f [] p d e h = absurd (omega arith)
+get-mapped f (x ∷ l) zero d e h = refl
+get-mapped f (x ∷ l) (suc p) d e h = get-mapped f l p d e (omega arith)
+
+pub content-at : (n : ℕ) (image : List ℕ) (k : ℕ) → IsDescriptor n (sectorOf image k) → (offset : ℕ) → offset < sectorsOf (sectorOf image k)
+    → getD (contentsIn image k) offset [] ≡ sectorOf image (getD (placesIn image k) offset 0)
+unfolding contentsIn
+content-at n image k is offset low = get-mapped (sectorOf image) (placesIn image k) offset 0 [] (rw (places-count n image k is) low)
+
+pub header-at : (image : List ℕ) (k i : ℕ) → i < 28 → byteAt (headerIn image k) i ≡ byteAt (sectorOf image k) i
+unfolding headerIn
+header-at image k i low = let e : 0 + i ≡ i = omega arith in rw e at (part-at (sectorOf image k) 0 28 i low)
+
+pub header-name : (image : List ℕ) (k : ℕ) → nameOf (headerIn image k) ≡ nameIn image k
+unfolding headerIn nameIn nameOf
+header-name image k = take-take 10 28 (sectorOf image k) (omega arith)
 
 pub place-inside : (n : ℕ) (image : List ℕ) (k offset : ℕ) → IsDescriptor n (sectorOf image k) → offset < sectorsOf (sectorOf image k)
     → (2 ≤ getD (placesIn image k) offset 0) × (getD (placesIn image k) offset 0 < n)
