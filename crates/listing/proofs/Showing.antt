@@ -1,5 +1,5 @@
 -- What is shown of an image, by what `listing::listing` answers; and where there is room for any text it is that of the image, whatever the room. Assumes nothing.
-use mathlib.Core.Path.{_≡_, refl, sym, ap, _∙_}
+use mathlib.Core.Path.{_≡_, sym, ap, _∙_}
 use mathlib.Core.Bool.{Bool, true, false, cond}
 use mathlib.Core.List.{List, [], _∷_, _++_}
 use Prim.Native.Nat.{ℕ, zero, suc, _+_, _/_, _%_, _≤_, _<_}
@@ -35,8 +35,7 @@ module _ (image before : List ℕ) where
   unfolding AmountSays listingOf
   shown-given gave =
       let none = gave .said .0 in
-      let text = shown-text none in
-      (
+      let text = shown-text none in (
         gave .said .1 ∙ unless-passed (listingTests image (length before)) (length (listingText image)) 0 none ∙ sym (ap length text),
         gave .left ∙ ap (splice before 0) (unless-passed (listingTests image (length before)) (listingText image) [] none ∙ sym text),
       )
@@ -45,8 +44,7 @@ module _ (image before : List ℕ) where
   pub shown-refused : {number : ℕ} {after : List ℕ} → Gives AmountSays report (Refused number) before after → (after ≡ before) × (refusedLine number ≡ shown image (length before))
   unfolding AmountSays listingOf
   shown-refused gave =
-      let some = gave .said .1 in
-      (
+      let some = gave .said .1 in (
         gave .left ∙ ap (splice before 0) (unless-met (listingTests image (length before)) (listingText image) [] some) ∙ splice-none before 0,
         ap refusedLine (gave .said .0) ∙ sym (shown-line some),
       )

@@ -24,8 +24,7 @@ returns c =
     let second = third .before .before .before .before .before in
     let first = second .before .before .before .before in
     let a = first .before .before .before .before .before .args in
-    let path = a .path .now in
-    (
+    let path = a .path .now in (
       rw length-append (omega arith),
       third .lay3 .ensures ∙ ap (λ (b : List ℕ). splice b (2 + length path) (10 ∷ [])) (second .lay2 .ensures ∙ ap (λ (b : List ℕ). splice b 2 path) (first .lay .ensures)) ∙ laid (a .buffer .now) path (a .mark),
     )
