@@ -1,7 +1,4 @@
 -- `listing::show` meets its contract: what the listing gave, or the line over a buffer that was left as it was. Assumes nothing.
-use mathlib.Core.Path.{sym, ap, _∙_}
-use lib.ListN.{length}
-use Rattle.rules.specs.Bytes.{splice}
 use Rattle.listing.proofs.Showing.{shown-given, shown-refused}
 use borrow.Author.Needs.{needs}
 use Rattle.listing.proofs.show.Statement.{statement}

@@ -75,9 +75,10 @@ listingOf image room = reported (listingTests image room) (length (listingText i
 unfoldable pub refusedLine : ℕ → List ℕ
 refusedLine number = 0x52 ∷ (0x45 ∷ (0x46 ∷ (0x55 ∷ (0x53 ∷ (0x45 ∷ (0x44 ∷ (32 ∷ (decimal number ++ (10 ∷ [])))))))))
 
+-- the text of an image, sound or not
 unfoldable pub listed : List ℕ → List ℕ
 listed image = cond (eqb (verdict image) 0) (listingText image) (refusedLine (verdict image))
 
--- what the call shows of an image in a buffer of `room` bytes: the text, or the line of its refusal
+-- what the call leaves a program to show, for a buffer of `room` bytes: the listing, or the line of the refusal
 unfoldable pub shown : List ℕ → ℕ → List ℕ
 shown image room = cond (eqb (listingOf image room .number) 0) (listingText image) (refusedLine (listingOf image room .number))
