@@ -23,7 +23,7 @@
 
 #define SECTOR 256
 #define IMAGE_MOST (SECTOR * 1600)
-#define LISTING_MOST 4593
+#define LISTING_ROOM 4212
 #define DISPLAY_FIXED 0x00
 
 static uint8_t image[IMAGE_MOST + 1]; /* one byte more: an image that is too long has number 1 */
@@ -51,7 +51,7 @@ static void write_file(const char *path, const uint8_t *buffer, size_t length) {
 }
 
 static uint32_t list(void) {
-    static uint8_t text[LISTING_MOST];
+    static uint8_t text[LISTING_ROOM];
     size_t length;
     uint32_t number = pno_listing(image, image_len, text, sizeof text, &length);
     if (number == PNO_DONE)

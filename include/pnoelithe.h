@@ -143,7 +143,7 @@ uint32_t pno_load(const uint8_t *image, size_t image_len, const uint8_t *name, s
  * sectors, and P or U for protected or not. One space between fields, names without their padding, and one
  * newline at the end of each line; no byte of zero ends the text.
  *
- * Numbers: 1 to 6; 15 where out_len is below the length of the text. 4,593 bytes are always enough.
+ * Numbers: 1 to 6; 15 where out_len is below the length of the text, which has at most 4,212 bytes.
  * Stack: at most 1,816 bytes.
  */
 uint32_t pno_listing(const uint8_t *image, size_t image_len, uint8_t *out, size_t out_len, size_t *length);

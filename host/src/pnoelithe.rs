@@ -14,8 +14,8 @@ use std::fmt::{self, Display, Formatter};
 /// A disk's or a file's name, with its padding.
 pub type Name = [u8; 10];
 
-/// Room for the longest listing.
-pub const LISTING_BYTES: usize = 4593;
+/// Room for every listing.
+pub const LISTING_BYTES: usize = 4212;
 /// Bytes of a descriptor that an entry gives.
 pub const HEADER_BYTES: usize = 28;
 pub const SECTOR_BYTES: usize = 256;

@@ -1,10 +1,15 @@
 // Judges images of disks: one line for each image that the command line names, or, where it names
 // none, the number of the image on standard input.
 //
-// The number is `judge::judge`'s: 0 for a sound image, 1 to 6 for its first fault. What stands here
-// reads the images and writes the lines, and of that only safety is proved, since no contract can
-// say what is read or written. An image that cannot be read has `-` in the number's place and the
-// reason on standard error, and the images after it are judged all the same.
+// `mark_of` gives the mark that a line begins with and `put_line` makes the line, and both are proved to
+// give what `specs/` says: 0 for a sound image, 1 to 6 for its first fault. The rest reads the images
+// and writes the lines, and of that only safety is proved, since no contract can say what is read or
+// written. An image that cannot be read has `-` in the number's place and the reason on standard error,
+// and the images after it are judged all the same.
+ghost use mathlib.Core.Path.{_≡_};
+ghost use lib.ListN.{length};
+ghost use Rattle.rules.specs.Bytes.{splice};
+ghost use Rattle.belt.specs.Line.{markOf, lineOf};
 use input::ARGUMENT_ROOM;
 use input::IMAGE_ROOM;
 use input::Received;
@@ -15,36 +20,33 @@ use libc::STDOUT_FILENO;
 use sector::buffer::lay;
 use sector::bytes::part;
 
-// What a line begins with: the judge's number, or that there was no image to judge.
-enum Verdict {
-    Number(u32),
-    Unread,
-}
-
-fn judge_received(received: Received, buffer: &[u8]) -> Verdict {
+// The judge's number, which has one digit, or that there was no image to judge.
+fn mark_of(received: Received, buffer: &[u8]) -> u8
+    ensures { λ r. ⌜ r ≡ markOf received (now (buffer .entry)) ⌝ }
+{
     match received {
-        Received::Bytes(length) => Verdict::Number(judge::judge(part(buffer, 0, length))),
-        Received::Failed => Verdict::Unread,
+        Received::Bytes(length) => b'0' + judge::judge(part(buffer, 0, length)) as u8,
+        Received::Failed => b'-',
     }
 }
 
-// The numbers have one digit.
-fn mark_of(verdict: Verdict) -> u8 {
-    match verdict {
-        Verdict::Number(number) => b'0' + (number % 10) as u8,
-        Verdict::Unread => b'-',
-    }
-}
-
-// The line is put together where the image was, and written at once, so that the lines of several
-// processes on one output do not mix.
-fn write_line(verdict: Verdict, path: &[u8], buffer: &mut [u8]) -> bool {
-    let front = [mark_of(verdict), b' '];
+// As much of the line as there is room for; its length is given in any case.
+fn put_line(mark: u8, path: &[u8], buffer: &mut [u8]) -> usize
+    ensures { λ r. ⌜ (r ≡ length (lineOf mark (now (path .entry)))) × (now (buffer .exit) ≡ splice (now (buffer .entry)) 0 (lineOf mark (now (path .entry)))) ⌝ }
+{
+    let front = [mark, b' '];
     lay(buffer, 0, &front);
     lay(buffer, 2, path);
     let end = 2 + path.len();
     lay(buffer, end, b"\n");
-    io::write_all(STDOUT_FILENO, part(buffer, 0, end + 1))
+    end + 1
+}
+
+// The line is put together where the image was, and written at once, so that the lines of several
+// processes on one output do not mix.
+fn write_line(mark: u8, path: &[u8], buffer: &mut [u8]) -> bool {
+    let size = put_line(mark, path, buffer);
+    io::write_all(STDOUT_FILENO, part(buffer, 0, size))
 }
 
 // Judges the image that an argument names and writes its line. The answer, here and below, is
@@ -53,11 +55,11 @@ fn judge_argument(position: usize, argument: &mut [u8], buffer: &mut [u8]) -> bo
     let length = os::arg(position, argument);
     if os::errno() != 0 {
         os::fail(b"argument");
-        return write_line(Verdict::Unread, b"", buffer);
+        return write_line(mark_of(Received::Failed, buffer), b"", buffer);
     }
     let path = &argument[..length];
     let received = read_file(path, buffer);
-    write_line(judge_received(received, buffer), path, buffer)
+    write_line(mark_of(received, buffer), path, buffer)
 }
 
 // Argument 0 is the program's own name.
@@ -76,7 +78,7 @@ fn judge_arguments(
 
 fn judge_standard_input(buffer: &mut [u8]) -> bool {
     let received = read_or_tell(STDIN_FILENO, b"standard input", buffer);
-    let line = [mark_of(judge_received(received, buffer)), b'\n'];
+    let line = [mark_of(received, buffer), b'\n'];
     io::write_all(STDOUT_FILENO, &line)
 }
 

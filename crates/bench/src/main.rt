@@ -169,7 +169,7 @@ fn case_14() -> bool {
 
 // The listing of an image, or its number.
 fn write_listing(image: &[u8]) -> bool {
-    let mut text = [0u8; 4608];
+    let mut text = [0u8; 4212];
     let listed = listing(image, &mut text);
     match listed {
         Amount::Refused(number) => write_line(b"M refused", number),

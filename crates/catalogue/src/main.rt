@@ -7,15 +7,14 @@
 ghost use mathlib.Core.Path.{_≡_};
 ghost use Prim.Native.Nat.{_≤_};
 ghost use lib.ListN.{length};
-ghost use Rattle.rules.specs.Bytes.{part};
+ghost use Rattle.rules.specs.Bytes.{part, splice};
 ghost use Rattle.catalogue.specs.Output.{output};
 use input::Received;
 use input::read_or_tell;
 use libc::STDIN_FILENO;
 use libc::STDOUT_FILENO;
-use listing::listing;
 use listing::refused_line;
-use rules::Amount;
+use listing::show;
 use sector::bytes::part;
 
 // The longest image that the program takes.
@@ -24,27 +23,24 @@ const IMAGE_MOST: usize = 65536;
 // One byte more than that: an image that is too long fills the buffer, whatever comes after.
 const IMAGE_ROOM: usize = 65537;
 
-// No listing is longer: a line of at most 21 bytes and at most 127 of at most 36.
-const TEXT_ROOM: usize = 4593;
+// Room for every listing: a line of at most 21 bytes and at most 127 of at most 33.
+const TEXT_ROOM: usize = 4212;
 
 // Puts what the program writes for an image at the front of the text, and gives its length. The
 // length is tested here, since the library takes images that are longer than the program's.
 fn put_text(image: &[u8], text: &mut [u8]) -> usize
-    requires { ⌜ 4593 ≤ length (now text) ⌝ }
+    requires { ⌜ 4212 ≤ length (now text) ⌝ }
     ensures { λ r. ⌜ part (now (text .exit)) 0 r ≡ output (now (image .entry)) ⌝ }
+    ensures { λ r. ⌜ (r ≡ length (output (now (image .entry)))) × (now (text .exit) ≡ splice (now (text .entry)) 0 (output (now (image .entry)))) ⌝ }
 {
     if image.len() > IMAGE_MOST {
         return refused_line(1, text);
     }
-    let amount = listing(image, text);
-    match amount {
-        Amount::Given(length) => length,
-        Amount::Refused(number) => refused_line(number, text),
-    }
+    show(image, text)
 }
 
 fn run(buffer: &mut [u8], text: &mut [u8])
-    requires { ⌜ 4593 ≤ length (now text) ⌝ }
+    requires { ⌜ 4212 ≤ length (now text) ⌝ }
 {
     let received = read_or_tell(STDIN_FILENO, b"standard input", buffer);
     let Received::Bytes(length) = received else {

@@ -1,6 +1,6 @@
 -- Append: the sector taken was free, so it is nobody's, and the three writes are to different sectors. The descriptor with the longer chain keeps its rules, its places
 -- are the old ones and the new one behind them, and its header changes in the number of sectors alone.
-use mathlib.Core.Path.{_≡_, sym, ap, _∙_}
+use mathlib.Core.Path.{_≡_, refl, sym, ap, _∙_}
 use mathlib.Core.List.{List, [], _∷_, _++_, map, map-append}
 use Prim.Native.Nat.{ℕ, _+_, _-_, _≤_, _<_}
 use native.Mathlib.Omega.{arith}
@@ -9,19 +9,20 @@ use borrow.Author.Tests.{not-false, eqb-true, ltb-false}
 use Rattle.rules.specs.Bytes.{wordBytes, splice}
 use Rattle.rules.specs.Sectors.{Write, sectorOf, sectorCount, written}
 use Rattle.rules.specs.Map.{count, freeCount, marked, markedAll}
-use Rattle.rules.specs.Chain.{places}
+use Rattle.rules.specs.Chain.{blocks, places, chainWith}
 use Rattle.rules.specs.Descriptor.{nameOf, sectorsOf, chainOf, IsDescriptor}
 use Rattle.rules.specs.Volume.{files, nameIn, placesIn, fileHolders, holders, headerIn, contentsIn, fileIn, catalogue}
 use Rattle.rules.specs.Choice.{dataChoice}
+use Rattle.rules.specs.declared.Block.{Block}
 use Rattle.rules.specs.Outcome.{write}
 use Rattle.rules.specs.Tests.{Passed}
 use Rattle.rules.specs.Opening.{openOf}
 use Rattle.rules.specs.Calls.Append.{longerBlocks, appendTests, appendWrites, appending, appendOf}
 use Rattle.rules.proofs.Extended.{with-chain-length, sectors-few}
-use Rattle.rules.proofs.Map.{count-here, count-more, only-one, one-once}
+use Rattle.rules.proofs.Map.{count-here, count-more, only-one, one-once, count-apart}
 use Rattle.rules.proofs.Volume.{places-count}
 use Rattle.rules.proofs.Marking.{marked-length}
-use Rattle.rules.proofs.Longer.{longer-blocks, longer-descriptor, longer-name, longer-header, longer-places, longer-rules}
+use Rattle.rules.proofs.Longer.{longer-blocks, longer-descriptor, longer-name, longer-header, longer-places, longer-chain, longer-rules}
 use Rattle.rules.proofs.Choice.{Chosen, sound-fenced, data-choice-free}
 use Rattle.rules.proofs.Tests.{all-passed, unless-passed}
 use Rattle.rules.proofs.Opening.{IsOpened, opened-is, open-refused, changed-done}
@@ -32,8 +33,13 @@ use Rattle.rules.proofs.Staying.{file-holds, free-unheld, map-agree}
 use Rattle.demands.specs.Catalogue.{changed}
 use Rattle.demands.specs.Call.{append}
 use Rattle.demands.specs.Ours.{outcome}
-use Rattle.demands.specs.Effects.{effect, Done, longer, Does}
-use Rattle.demands.proofs.Replacing.{altered-done}
+use Rattle.demands.specs.Effects.{effect, Done, longer}
+use Rattle.demands.specs.Grounds.{Has}
+use Rattle.demands.specs.Taking.{Takes}
+use Rattle.demands.specs.Touches.{Gains, Touches}
+use Rattle.demands.specs.Does.{Does}
+use Rattle.demands.proofs.Replacing.{altered-done, altered-lies, found-has}
+use Rattle.demands.proofs.Taking.{append-takes}
 
 -- The three writes, with a free sector `new` and a descriptor `d` for the file at sector k.
 module _ (image name : List ℕ) (p k : ℕ) (o : IsOpened image name p k) (bytes : List ℕ) (long : length bytes ≡ 256)
@@ -137,26 +143,48 @@ module _ (image name : List ℕ) (p k : ℕ) (o : IsOpened image name p k) (byte
     unfolding longer fileIn headerIn
     appended-done header = altered-done altered name (o .named) (longer bytes) (rw (many, descriptor-now, header, contents-now))
 
-appending-done : (image name bytes : List ℕ) (p k : ℕ) → IsOpened image name p k → Passed (appendTests image bytes k)
-    → Done image (written image (appendWrites image bytes k)) name (effect (changed name (longer bytes) (catalogue image)) 1 0)
+    -- and its blocks are those that the sector makes longer
+    appended-gains : (blocks-now : List Block) → Takes image [] (placesIn image k) (blocks (chainOf (sectorOf image k))) (new ∷ []) blocks-now → chainOf d ≡ chainWith blocks-now
+        → Has image name (λ j. Gains image after name j [] (placesIn image j) (blocks (chainOf (sectorOf image j))) 1 (0 ∷ []))
+    unfolding markedAll
+    appended-gains blocks-now takes chain =
+        found-has image name p k o
+        (record {
+          taken = record { ks = new ∷ []; so-many = refl; chain = blocks-now; takes = takes };
+          lies = altered-lies altered name (o .named) (chainWith blocks-now) (ap chainOf descriptor-now ∙ chain);
+          map = map-now;
+          others = λ j inside apart.
+              let some = count-apart j 0 (k ∷ (new ∷ [])) apart in
+              let own = count-apart j k (new ∷ []) (some .1) in
+              else-same j (omega (arith, some .0)) (count-apart j new [] (own .1) .0) (own .0);
+        })
+
+appending-done : (image name bytes : List ℕ) (p k : ℕ) → IsOpened image name p k → Passed (appendTests image bytes k) →
+    let after = written image (appendWrites image bytes k) in
+    Done image after name (effect (changed name (longer bytes) (catalogue image)) 1 0)
+    × Has image name (λ j. Gains image after name j [] (placesIn image j) (blocks (chainOf (sectorOf image j))) 1 (0 ∷ []))
 unfolding nameIn placesIn appendTests appendWrites longerBlocks Passed
 appending-done image name bytes p k o passed =
     let n = sectorCount image in
     let d = sectorOf image k in
     let new = dataChoice (sectorOf image 0) in
-    let chosen = data-choice-free n (sectorOf image 0) (sound-fenced image (o .whole)) (ltb-false (freeCount (sectorOf image 0)) 1 (passed .1 .1 .1 .0)) in
+    let room = ltb-false (freeCount (sectorOf image 0)) 1 (passed .1 .1 .1 .0) in
+    let chosen = data-choice-free n (sectorOf image 0) (sound-fenced image (o .whole)) room in
     let short : sectorsOf d ≤ 1600 = rw (o .is) at (sectors-few image p (o .whole) (o .inside)) in
     let small = o .whole .size .1 in
     let few = ltb-false 76 (length (longer-blocks d new)) (passed .1 .1 .1 .1 .0) in
-    appended-done image name p k o bytes (eqb-true (length bytes) 256 (not-false _ (passed .1 .1 .0))) new chosen (longer-descriptor d new)
-    (with-chain-length d (sectorsOf d + 1) (longer-blocks d new) ∙ o .long)
-    (longer-rules n d new (o .long) (o .descriptor) small short (chosen .from) (chosen .inside) (passed .1 .0) few)
-    (longer-name d new)
-    (longer-places n d new (o .long) (o .descriptor) small short (chosen .from) (chosen .inside) (passed .1 .0) few)
-    (longer-header d new)
+    let long = eqb-true (length bytes) 256 (not-false _ (passed .1 .1 .0)) in
+    let size = with-chain-length d (sectorsOf d + 1) (longer-blocks d new) ∙ o .long in
+    let rules = longer-rules n d new (o .long) (o .descriptor) small short (chosen .from) (chosen .inside) (passed .1 .0) few in
+    let places = longer-places n d new (o .long) (o .descriptor) small short (chosen .from) (chosen .inside) (passed .1 .0) few in
+    let chain = longer-chain n d new (o .long) (o .descriptor) small short (chosen .from) (chosen .inside) (passed .1 .0) few in (
+      appended-done image name p k o bytes long new chosen (longer-descriptor d new) size rules (longer-name d new) places (longer-header d new),
+      appended-gains image name p k o bytes long new chosen (longer-descriptor d new) size rules (longer-name d new) places (longer-blocks d new)
+          (append-takes image k (o .whole) (opened-listed image name p k o) room) chain,
+    )
 
 pub appends : (bytes : List ℕ) → Does (append bytes)
-unfolding outcome appendOf appending
+unfolding outcome appendOf appending Touches
 appends bytes image name e =
     let c = changed-done (openOf image name) (appending image bytes) (open-refused image name) e in
     let k = c .sector in

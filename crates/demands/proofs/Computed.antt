@@ -1,13 +1,12 @@
 -- What is computed of case M, in one test, so that its image is built once: the bench table holds, the listing is what the paper prints, the volume is sound, and
 -- NOTES, which has a sector, can be appended to.
 use mathlib.Core.Path.{_≡_, refl}
-use mathlib.Core.Bool.{Bool, true, false, _&&_}
+use mathlib.Core.Bool.{Bool, true, _&&_}
 use mathlib.Core.List.{List, [], _∷_, _++_}
-use Prim.Native.Nat.{ℕ}
-use native.Mathlib.Omega.{arith}
+use Prim.Native.Nat.{ℕ, _≤_}
 use lib.Dec.{eqb, ltb}
 use lib.ListN.{length, replicate}
-use borrow.Author.Tests.{eqb-true, ltb-true, ne-eqb}
+use borrow.Author.Tests.{eqb-true, ltb-true}
 use Rattle.rules.specs.Bytes.{allAre, same, over, splice, withBit}
 use Rattle.rules.specs.Sectors.{sectorOf, written}
 use Rattle.rules.specs.Name.{nameByte, padded, nameRule, precedes}
@@ -30,7 +29,7 @@ use Rattle.rules.specs.Calls.Append.{longerBlocks, appendTests, appendWrites, a
 use Rattle.rules.specs.Calls.Store.{dataWrites, newSectors, newBlocks, storeTests, storing, storeOf}
 use Rattle.rules.specs.Calls.Listing.{digits, decimal, unpadded, kindWord, kindLength, diskLine, fileLine, fileLines, listingText}
 use Rattle.rules.proofs.Tests.{both}
-use Rattle.demands.specs.Catalogue.{fileName, named}
+use Rattle.demands.specs.Catalogue.{named}
 use Rattle.demands.specs.CaseM.{notes, caseM, printed}
 use Rattle.demands.specs.Bench.{Case, diskX, geometry, tableOf}
 
@@ -58,7 +57,7 @@ pub record Shown (m : List ℕ) : Type 0 where
   pub listed : same (listingText m) printed ≡ true
   pub judged : verdict m ≡ 0
   pub appended : appendOf m notes secondSector .number ≡ 0
-  pub held : eqb (length (named notes (catalogue m) .contents)) 0 ≡ false
+  pub held : 1 ≤ length (named notes (catalogue m) .contents)
 
 passed : (m : List ℕ) → tests m ≡ true → Shown m
 unfolding tests ready
@@ -67,17 +66,16 @@ passed m e =
     let next = both (same (listingText m) printed) (ready m) (first .1) in
     let sound = both (eqb (verdict m) 0) (eqb (appendOf m notes secondSector .number) 0 && ltb 0 (length (named notes (catalogue m) .contents))) (next .1) in
     let last = both (eqb (appendOf m notes secondSector .number) 0) (ltb 0 (length (named notes (catalogue m) .contents))) (sound .1) in
-    let some = ltb-true 0 (length (named notes (catalogue m) .contents)) (last .1) in
     record {
       tabled = first .0;
       listed = next .0;
       judged = eqb-true (verdict m) 0 (sound .0);
       appended = eqb-true (appendOf m notes secondSector .number) 0 (last .0);
-      held = ne-eqb (length (named notes (catalogue m) .contents)) 0 (λ z. omega (arith, z, some));
+      held = ltb-true 0 (length (named notes (catalogue m) .contents)) (last .1);
     }
 
 all-pass : tests caseM ≡ true
-unfolding headerIn contentsIn fileIn catalogue joined labelArea oneBlock packedDescriptor packedDescriptors packedData dataSectors packedSectors packed same holds tableOf caseM over splice allAre withBit sectorOf written nameByte padded nameRule precedes labelRule mapBit count taken bitsRule mapRule byteOf bytesOf mapOf zeroBits freeCount marked markedAll blockBytes blockOf endsChain blocks blocksRule chainRule run placesFrom places extended extendedAll blocksBytes statusRule programLength kindOf kindRule nameOf chainOf fileKind descriptorRule newDescriptor withChain numbers rangeRule indexRule numbersBytes indexOf without files nameIn placesIn fileHolders holders placed sizeRule descriptorsRule heldTwice volumeTests verdict firstOf unlessMet lowestFree descriptorChoice dataChoice dataChoices findIn opening nameTests openOf changing adding newLabel formatted createStatus entered createTests creating createOf longerBlocks appendTests appendWrites appending appendOf dataWrites newSectors newBlocks storeTests storing storeOf digits decimal unpadded kindWord kindLength diskLine fileLine fileLines listingText fileName named tests ready
+unfolding headerIn contentsIn fileIn catalogue joined labelArea oneBlock packedDescriptor packedDescriptors packedData dataSectors packedSectors packed same holds tableOf caseM over splice allAre withBit sectorOf written nameByte padded nameRule precedes labelRule mapBit count taken bitsRule mapRule byteOf bytesOf mapOf zeroBits freeCount marked markedAll blockBytes blockOf endsChain blocks blocksRule chainRule run placesFrom places extended extendedAll blocksBytes statusRule programLength kindOf kindRule nameOf chainOf fileKind descriptorRule newDescriptor withChain numbers rangeRule indexRule numbersBytes indexOf without files nameIn placesIn fileHolders holders placed sizeRule descriptorsRule heldTwice volumeTests verdict firstOf unlessMet lowestFree descriptorChoice dataChoice dataChoices findIn opening nameTests openOf changing adding newLabel formatted createStatus entered createTests creating createOf longerBlocks appendTests appendWrites appending appendOf dataWrites newSectors newBlocks storeTests storing storeOf digits decimal unpadded kindWord kindLength diskLine fileLine fileLines listingText named tests ready
 all-pass = refl
 
 pub computed : Shown caseM

@@ -28,8 +28,12 @@ use Rattle.demands.specs.Catalogue.{putIn}
 use Rattle.demands.specs.Call.{create}
 use Rattle.demands.specs.Ours.{outcome}
 use Rattle.demands.specs.Grounds.{CreateStatus}
-use Rattle.demands.specs.Effects.{effect, Done, newHeader, pieces, Does}
+use Rattle.demands.specs.Effects.{effect, Done, newHeader, pieces}
+use Rattle.demands.specs.Taking.{Takes}
+use Rattle.demands.specs.Touches.{Enters, Touches}
+use Rattle.demands.specs.Does.{Does}
 use Rattle.demands.proofs.NewFile.{new-is}
+use Rattle.demands.proofs.Taking.{descriptor-lowest}
 use Rattle.demands.proofs.Entering.{new-file-done}
 
 -- the four statuses, as the test and as the ground states them
@@ -80,15 +84,18 @@ module _ (image name : List ℕ) (status recordLength recordsPerSector : ℕ) wh
     chosen : Chosen (sectorCount image) (sectorOf image 0) k
     chosen = descriptor-choice-free (sectorCount image) (sectorOf image 0) (sound-fenced image (absent .whole)) room
 
-    created-done : Done image (written image writes) name (effect (putIn (record { header = newHeader name status recordsPerSector 0 0 recordLength; contents = [] }) (catalogue image)) 1 0)
-    unfolding markedAll dataWrites pieces extendedAll
+    created-done :
+        let after = written image writes in
+        Done image after name (effect (putIn (record { header = newHeader name status recordsPerSector 0 0 recordLength; contents = [] }) (catalogue image)) 1 0) × Enters image after name 0
+    unfolding markedAll dataWrites pieces extendedAll Takes
     created-done =
         new-file-done image name [] k [] status recordsPerSector 0 recordLength absent place (one-once k) (λ j some. rw (← only-one k j some) chosen) (omega arith) (omega arith)
         (status-rules status allowed) (kind-rules 0 0 recordLength status allowed)
         (newDescriptor name status recordsPerSector 0 recordLength) (new-is name status recordsPerSector 0 recordLength (name-is name (absent .rule) .ten))
+        (descriptor-lowest image (absent .whole) room) refl
 
 pub creates : (status recordLength recordsPerSector : ℕ) → Does (create status recordLength recordsPerSector)
-unfolding outcome createOf creating createTests Passed
+unfolding outcome createOf creating createTests Passed Touches
 creates status recordLength recordsPerSector image name e =
     let added = added-done (openOf image name) (creating image name status recordLength recordsPerSector) (open-refused image name) e in
     let tests = createTests image status in

@@ -13,6 +13,7 @@ use Rattle.rules.specs.Outcome.{write}
 use Rattle.rules.specs.Opening.{openOf}
 use Rattle.rules.specs.Calls.Delete.{deleteTests, deleting, deleteOf}
 use Rattle.rules.proofs.Tests.{unless-passed}
+use Rattle.rules.proofs.Map.{count-apart}
 use Rattle.rules.proofs.Marking.{all-length}
 use Rattle.rules.proofs.Indexed.{without-length, index-length}
 use Rattle.rules.proofs.Opening.{opened-is, open-refused, changed-done, place-many}
@@ -22,9 +23,11 @@ use Rattle.rules.proofs.Replaced.{none, at, Replaced, index-anew, given-mapped}
 use Rattle.demands.specs.Catalogue.{takenOut, named, held}
 use Rattle.demands.specs.Call.{delete}
 use Rattle.demands.specs.Ours.{outcome}
-use Rattle.demands.specs.Effects.{effect, Done, Does}
+use Rattle.demands.specs.Effects.{effect, Done}
+use Rattle.demands.specs.Touches.{Leaves, Touches}
+use Rattle.demands.specs.Does.{Does}
 use Rattle.demands.proofs.Filed.{named-file}
-use Rattle.demands.proofs.Replacing.{catalogue-after, replaced-done}
+use Rattle.demands.proofs.Replacing.{catalogue-after, replaced-done, numbers-after, found-has}
 
 module _ (image name : List ℕ) (k : ℕ) (is : Sound image) (there : 1 ≤ count k (files image)) (is-named : name ≡ nameIn image k) where
   abbrev first : Write
@@ -78,12 +81,25 @@ module _ (image name : List ℕ) (k : ℕ) (is : Sound image) (there : 1 ≤ cou
   deleted : Done image after name (effect (takenOut name (catalogue image)) 0 (held (named name (catalogue image))))
   deleted = replaced-done replaced name is-named _ 0 _ (catalogue-after replaced name is-named) (omega (arith, was-held))
 
+  leaves : Leaves image after k
+  leaves =
+      record {
+        map = sector0;
+        numbers = numbers-after replaced sector1;
+        others = λ j inside apart.
+            let some = count-apart j 0 (1 ∷ []) apart in
+            let more = count-apart j 1 [] (some .1) .0 in
+            others j (omega (arith, some .0, more));
+      }
+
 pub deletes : Does delete
-unfolding outcome deleteOf deleting
+unfolding outcome deleteOf deleting Touches
 deletes image name e =
     let was = changed-done (openOf image name) (deleting image) (open-refused image name) e in
     let k = was .sector in
     let opened = opened-is image name (was .place) k (was .found-at) in
     let there = opened-listed image name (was .place) k opened in
-    rw (was .is, unless-passed (deleteTests image k) (first image name k (opened .whole) there (opened .named) ∷ (second image name k (opened .whole) there (opened .named) ∷ [])) [] (was .number))
-    (deleted image name k (opened .whole) there (opened .named))
+    rw (was .is, unless-passed (deleteTests image k) (first image name k (opened .whole) there (opened .named) ∷ (second image name k (opened .whole) there (opened .named) ∷ [])) [] (was .number)) (
+      deleted image name k (opened .whole) there (opened .named),
+      found-has image name (was .place) k opened (leaves image name k (opened .whole) there (opened .named)),
+    )

@@ -1,9 +1,10 @@
 -- Packing meets demand 3. The number is read off its two tests; the rest follows from what the packed image of a sound volume keeps, since the bytes are a function of
--- label area and catalogue: the label area holds n, in bytes 10 and 11.
+-- label area and catalogue: the label area holds n, in bytes 10 and 11. Two versions that meet it do the same: numbers and refusals are fixed, and the laid down form is one.
 use mathlib.Core.Path.{_≡_, refl, sym, ap, _∙_}
 use mathlib.Core.List.{List}
 use Prim.Native.Nat.{ℕ}
 use native.Mathlib.Omega.{arith}
+use native.Mathlib.Decide.{ℕ-discrete}
 use lib.ListN.{length}
 use borrow.Author.Tests.{not-false, eq-eqb, ne-eqb, eqb-true}
 use Rattle.rules.specs.Bytes.{wordAt}
@@ -15,8 +16,10 @@ use Rattle.rules.specs.Sound.{Sound}
 use Rattle.rules.specs.Calls.Pack.{labelArea, packed, packTests, packNumber, afterPack}
 use Rattle.rules.proofs.Tests.{all-passed, none-met, passed-both, unless-passed, unless-met}
 use Rattle.rules.proofs.Verdict.{sound, passes, unsound-first, sound-first}
-use Rattle.demands.specs.Demand3.{Packable, Demand3, packs}
-use Rattle.demands.proofs.PackedSound.{label-byte, packedImage, same-size, same-label, same-catalogue, packed-sound}
+use Rattle.demands.specs.Packing.{Packs}
+use Rattle.demands.specs.Demand3.{Packed, Packer, Packable, Demand3, OnePacking, packs}
+use Rattle.demands.proofs.PackedSound.{label-byte, packedImage, packed-sound, laid-packs}
+use Rattle.demands.proofs.PackedOne.{packs-one}
 
 -- the number
 module _ (source target : List ℕ) where
@@ -67,17 +70,15 @@ module _ (source target : List ℕ) (can : Packable source target) where
   after-sound : Sound (afterPack source target)
   after-sound = rw (after-packed source target can) (packed-sound source (can .sound))
 
-  after-size : length (afterPack source target) ≡ length source
-  after-size = rw (after-packed source target can) (same-size source (can .sound))
+  after-laid : Packs source (afterPack source target)
+  after-laid = rw (after-packed source target can) (laid-packs source (can .sound))
 
   after-label : labelArea (afterPack source target) ≡ labelArea source
-  after-label = rw (after-packed source target can) (same-label source (can .sound))
-
-  after-listed : catalogue (afterPack source target) ≡ catalogue source
-  after-listed = rw (after-packed source target can) (same-catalogue source (can .sound))
+  unfolding labelArea
+  after-label = after-laid .label
 
   after-packable : (other : List ℕ) → length other ≡ length source → Packable (afterPack source target) other
-  after-packable other long = record { sound = after-sound; long = long ∙ sym after-size }
+  after-packable other long = record { sound = after-sound; long = long ∙ sym (after-laid .size) }
 
 after-form : (first second target other : List ℕ) → Packable first target → Packable second other → labelArea first ≡ labelArea second → catalogue first ≡ catalogue second
     → afterPack first target ≡ afterPack second other
@@ -92,19 +93,54 @@ packing-demand =
       judged = unsound-number;
       measured = unmeasured-number;
       refuses = after-refused;
+      laid = after-laid;
       sound = after-sound;
-      size = after-size;
-      label = after-label;
-      listed = after-listed;
       again = λ source target other can long.
           let next = after-packable source target can other long in
-          (packable-number (afterPack source target) other next, after-form (afterPack source target) source other target next can (after-label source target can) (after-listed source target can));
+          (packable-number (afterPack source target) other next, after-form (afterPack source target) source other target next can (after-label source target can) (after-laid source target can .listed));
       form = λ first second target other can can′. (
         (λ e. (
           sym (after-label first target can) ∙ ap labelArea e ∙ after-label second other can′,
-          sym (after-listed first target can) ∙ ap catalogue e ∙ after-listed second other can′,
+          sym (after-laid first target can .listed) ∙ ap catalogue e ∙ after-laid second other can′ .listed,
         )),
         (λ both. after-form first second target other can can′ (both .0) (both .1)),
       );
       fresh = λ source target other can can′. after-form source source target other can can′ refl refl;
     }
+
+-- The demand is complete.
+same-result : (number number′ : ℕ) (target target′ : List ℕ) → number ≡ number′ → target ≡ target′
+    → _≡_ {A = Packed} (record { number = number; target = target }) (record { number = number′; target = target′ })
+same-result number number′ target target′ e f = rw (e, f)
+
+module _ (first second : Packer) (is : Demand3 first) (is′ : Demand3 second) (source target : List ℕ) where
+  abbrev Same : Type 0
+  Same = first source target ≡ second source target
+
+  both-done : Packable source target → Same
+  both-done can =
+      same-result _ _ _ _ (is .done source target .1 can ∙ sym (is′ .done source target .1 can))
+      (packs-one source _ _ (can .sound) (is .laid source target can) (is′ .laid source target can))
+
+  both-refused : (Packable source target → ⊥) → first source target .number ≡ second source target .number → Same
+  both-refused not e =
+      same-result _ _ _ _ e
+      (is .refuses source target (λ zero. not (is .done source target .0 zero)) ∙ sym (is′ .refuses source target (λ zero. not (is′ .done source target .0 zero))))
+
+  both-same : Same
+  both-same =
+      elim (ℕ-discrete (verdict source) 0) [
+        | no some ↦
+            let unsound : Sound source → ⊥ = λ volume. some (passes source volume) in
+            both-refused (λ can. unsound (can .sound)) (is .judged source target unsound ∙ sym (is′ .judged source target unsound))
+        | yes zero ↦
+            let volume = sound source zero in
+            elim (ℕ-discrete (length target) (length source)) [
+              | yes long ↦ both-done (record { sound = volume; long = long })
+              | no other ↦ both-refused (λ can. other (can .long)) (is .measured source target volume other ∙ sym (is′ .measured source target volume other))
+            ]
+      ]
+
+pub one-packing : OnePacking
+unfolding OnePacking
+one-packing = both-same

@@ -8,7 +8,7 @@ use lib.ListN.{length, drop, replicate}
 use Rattle.rules.specs.Bytes.{part, over, splice}
 use Rattle.rules.specs.Sectors.{sectorOf, sectorCount, written, Write}
 use Rattle.rules.specs.Map.{count, markedAll}
-use Rattle.rules.specs.Chain.{placesFrom, places, extendedAll, Linked}
+use Rattle.rules.specs.Chain.{placesFrom, places, extendedAll, Linked, chainWith}
 use Rattle.rules.specs.Kind.{kindOf, IsStatus, IsKind}
 use Rattle.rules.specs.Descriptor.{nameOf, chainOf, IsDescriptor}
 use Rattle.rules.specs.Volume.{File, files, nameIn, placesIn, fileHolders, holders, headerIn, contentsIn, fileIn, catalogue, placed}
@@ -17,11 +17,12 @@ use Rattle.rules.specs.Calls.Create.{entered}
 use Rattle.rules.specs.Calls.Store.{dataWrites}
 use Rattle.rules.specs.Index.{indexOf}
 use Rattle.rules.specs.Outcome.{write}
+use Rattle.rules.specs.declared.Block.{Block}
 use Rattle.rules.proofs.Opening.{IsAbsent, unfound}
 use Rattle.rules.proofs.Name.{name-is}
-use Rattle.rules.proofs.Map.{count-none, count-here, count-more}
+use Rattle.rules.proofs.Map.{count-none, count-here, count-more, count-apart}
 use Rattle.rules.proofs.Marking.{all-length}
-use Rattle.rules.proofs.Extended.{chainWith, extended-all-linked, extended-all-places}
+use Rattle.rules.proofs.Extended.{extended-all-linked, extended-all-places}
 use Rattle.rules.proofs.Choice.{Chosen}
 use Rattle.rules.proofs.Indexed.{placed-length, index-length}
 use Rattle.rules.proofs.Listed.{label-long, sector-inside, held-inside}
@@ -30,8 +31,10 @@ use Rattle.rules.proofs.Splice.{splice-length}
 use Rattle.rules.proofs.Written.{sector-same, Whole, Apart, written-length, written-both, written-apart, written-at}
 use Rattle.demands.specs.Catalogue.{putIn}
 use Rattle.demands.specs.Effects.{effect, Done, newHeader, pieces}
-use Rattle.demands.proofs.Replacing.{catalogue-after, replaced-done}
-use Rattle.demands.proofs.NewFile.{descriptorWith, made-length, made-header, made-name, made-places, made-rules}
+use Rattle.demands.specs.Taking.{ForDescriptor, Takes}
+use Rattle.demands.specs.Touches.{Enters}
+use Rattle.demands.proofs.Replacing.{catalogue-after, replaced-done, numbers-after, lies-after}
+use Rattle.demands.proofs.NewFile.{descriptorWith, made-length, made-header, made-name, made-chain, made-places, made-rules}
 use Rattle.demands.proofs.Pieces.{piece-length}
 
 -- the data, to sectors of the image that are named once each
@@ -137,14 +140,20 @@ module _ (image name bytes : List ℕ) (k : ℕ) (ks descriptor : List ℕ) (abs
       data-read image after bytes ks (λ j. omega (arith, once j, count-more j k ks)) (λ j h. data-inside j h .1)
       (λ j h. laid-stands j (λ e. omega (arith, once k, count-here k ks, rw e at h)) (data-inside j h .0))
 
-  -- a sector that is taken was nobody's, so what a file held stands as it stood
+  -- a sector that is not taken stands as it stood
+  free-stays : (j : ℕ) → 2 ≤ j → count j (k ∷ ks) ≡ 0 → sectorOf after j ≡ sectorOf image j
+  free-stays j two other =
+      let apart = count-apart j k ks other in
+      laid-stands j (apart .0) two
+      ∙ written-apart image (dataWrites bytes ks) j (data-whole (length image) bytes ks (λ i h. data-inside i h .1)) (data-apart bytes ks j (apart .1))
+
+  -- and one that is taken was nobody's, so what a file held stands as it stood
   held-stays : (j : ℕ) → 1 ≤ count j (fileHolders image (files image)) → sectorOf after j ≡ sectorOf image j
   unfolding holders
   held-stays j held =
       let hs = fileHolders image (files image) in
       let other : count j (k ∷ ks) ≡ 0 = omega (arith, held, taken-once image (k ∷ ks) is once free j, count-more j 0 (1 ∷ hs), count-more j 1 hs) in
-      laid-stands j (λ e. omega (arith, count-here k ks, rw e at other)) (held-inside image is j held .0)
-      ∙ written-apart image (dataWrites bytes ks) j (data-whole (length image) bytes ks (λ i h. data-inside i h .1)) (data-apart bytes ks j (omega (arith, other, count-more j k ks)))
+      free-stays j (held-inside image is j held .0) other
 
   places-now : placesIn after k ≡ ks
   unfolding placesIn
@@ -170,14 +179,29 @@ module _ (image name bytes : List ℕ) (k : ℕ) (ks descriptor : List ℕ) (abs
   unfolding fileIn headerIn contentsIn
   new-file = rw (descriptor-now, places-now, data-now)
 
-  entering : Done image (written image (dataWrites bytes ks ++ entered image name k descriptor (markedAll 1 (sectorOf image 0) (k ∷ ks)))) name
-      (effect (putIn (record { header = part descriptor 0 28; contents = pieces (length ks) bytes }) (catalogue image)) (1 + length ks) 0)
-  unfolding entered
-  entering =
-      rw (← written-both image (dataWrites bytes ks) (first ∷ (second ∷ (third ∷ []))))
-      (replaced-done replaced name tt _ (1 + length ks) 0
+  entered-done : Done image after name (effect (putIn (record { header = part descriptor 0 28; contents = pieces (length ks) bytes }) (catalogue image)) (1 + length ks) 0)
+  entered-done =
+      replaced-done replaced name tt _ (1 + length ks) 0
       (catalogue-after replaced name tt ∙ ap (λ (file : File). putIn file (catalogue image)) new-file)
-      (rw places-now (omega arith)))
+      (rw places-now (omega arith))
+
+  -- it lies where the facts say, and nothing else is touched
+  enters : ForDescriptor image k → (blocks : List Block) → Takes image (k ∷ []) [] [] ks blocks → chainOf descriptor ≡ chainWith blocks → Enters image after name (length ks)
+  enters chosen blocks takes chain =
+      record {
+        k = k;
+        chosen = chosen;
+        gains = record {
+          taken = record { ks = ks; so-many = refl; chain = blocks; takes = takes };
+          lies = lies-after replaced ks (chainWith blocks) places-now (ap chainOf descriptor-now ∙ chain);
+          map = map-now;
+          others = λ j low apart.
+              let some = count-apart j 0 (1 ∷ (k ∷ ks)) apart in
+              let more = count-apart j 1 (k ∷ ks) (some .1) in
+              free-stays j (omega (arith, some .0, more .0)) (more .1);
+        };
+        numbers = numbers-after replaced index-now;
+      }
 
 -- with the descriptor of a new file, its blocks those of ks
 module _ (image name bytes : List ℕ) (k : ℕ) (ks : List ℕ) (status recordsPerSector endOffset recordLength : ℕ) (absent : IsAbsent image name) (few : length (files image) < 127)
@@ -203,17 +227,21 @@ module _ (image name bytes : List ℕ) (k : ℕ) (ks : List ℕ) (status records
   unfolding Linked placesFrom
   ks-places = extended-all-places (sectorCount image) ks data-range 0 [] refl
 
-  pub new-file-done : (descriptor : List ℕ) → descriptor ≡ header ++ chainWith (extendedAll [] ks)
-      → Done image (written image (dataWrites bytes ks ++ entered image name k descriptor (markedAll 1 (sectorOf image 0) (k ∷ ks)))) name
-      (effect (putIn (record { header = header; contents = pieces (length ks) bytes }) (catalogue image)) (1 + length ks) 0)
-  new-file-done descriptor e =
+  pub new-file-done : (descriptor : List ℕ) → descriptor ≡ header ++ chainWith (extendedAll [] ks) → ForDescriptor image k → Takes image (k ∷ []) [] [] ks (extendedAll [] ks)
+      →
+      let after = written image (dataWrites bytes ks ++ entered image name k descriptor (markedAll 1 (sectorOf image 0) (k ∷ ks))) in
+      Done image after name (effect (putIn (record { header = header; contents = pieces (length ks) bytes }) (catalogue image)) (1 + length ks) 0) × Enters image after name (length ks)
+  unfolding entered
+  new-file-done descriptor e chosen takes =
       let c = length ks in
       let bs = extendedAll [] ks in
       let small : sectorCount image ≤ 4096 = omega (arith, absent .whole .size) in
-      let done =
-      entering image name bytes k ks made absent few once free (made-length name status recordsPerSector endOffset recordLength ten c bs)
-      (made-rules name status recordsPerSector endOffset recordLength ten c bs (sectorCount image) small many short ks-linked (absent .rule) is-status kind)
-      (made-name name status recordsPerSector endOffset recordLength ten c bs)
-      (made-places name status recordsPerSector endOffset recordLength ten c bs (sectorCount image) small many short ks-linked ∙ ks-places)
-      in
-      rw e (rw (made-header name status recordsPerSector endOffset recordLength ten c bs) at done)
+      let long = made-length name status recordsPerSector endOffset recordLength ten c bs in
+      let rules = made-rules name status recordsPerSector endOffset recordLength ten c bs (sectorCount image) small many short ks-linked (absent .rule) is-status kind in
+      let named = made-name name status recordsPerSector endOffset recordLength ten c bs in
+      let places-are = made-places name status recordsPerSector endOffset recordLength ten c bs (sectorCount image) small many short ks-linked ∙ ks-places in
+      let done = entered-done image name bytes k ks made absent few once free long rules named places-are in
+      rw (e, ← written-both image (dataWrites bytes ks) _) (
+        rw (made-header name status recordsPerSector endOffset recordLength ten c bs) at done,
+        enters image name bytes k ks made absent few once free long rules named places-are chosen bs takes (made-chain name status recordsPerSector endOffset recordLength ten c bs),
+      )

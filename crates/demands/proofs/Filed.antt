@@ -3,29 +3,34 @@
 use mathlib.Core.Path.{_≡_, refl, ap, sym, _∙_}
 use mathlib.Core.Bool.{Bool, true, false, cond}
 use mathlib.Core.List.{List, [], _∷_, map}
-use Prim.Native.Nat.{ℕ, _≤_}
+use Prim.Native.Nat.{ℕ, _≤_, _<_}
+use lib.ListN.{length}
 use native.Mathlib.Omega.{arith}
 use native.Mathlib.Decide.{ℕ-discrete}
-use lib.Seq.{take-take}
-use Rattle.rules.specs.Sectors.{sectorOf}
 use Rattle.rules.specs.Name.{precedes}
 use Rattle.rules.specs.Map.{count}
 use Rattle.rules.specs.Descriptor.{nameOf}
-use Rattle.rules.specs.Volume.{File, nameIn, headerIn, fileIn, placed, files, catalogue}
+use Rattle.rules.specs.Volume.{File, nameIn, fileIn, placed, files, catalogue}
 use Rattle.rules.specs.Bytes.{same}
 use Rattle.rules.specs.Index.{without}
-use Rattle.rules.specs.Sound.{Sound}
+use Rattle.rules.specs.Sound.{Sound, fileAt}
 use Rattle.rules.proofs.Map.{count-here, count-more, count-none, count-other}
+use Rattle.rules.proofs.Volume.{get-mapped, header-name}
 use Rattle.rules.proofs.Bytes.{is-same, not-same}
 use Rattle.rules.proofs.Indexed.{without-none, without-here, without-later}
 use Rattle.rules.proofs.Staying.{files-kept}
 use Rattle.rules.proofs.Listed.{listed-name}
-use Rattle.demands.specs.Catalogue.{fileName, putIn, takenOut, changed, named}
+use Rattle.demands.specs.Catalogue.{fileName, noFile, fileOf, putIn, takenOut, changed, named}
+
+-- the file at a place of the catalogue
+pub file-of : (image : List ℕ) (p : ℕ) → p < length (files image) → fileOf image p ≡ fileIn image (fileAt image p)
+unfolding catalogue
+file-of image p h = get-mapped (fileIn image) (files image) p 0 noFile h
 
 -- the name in the catalogue is the descriptor's: both are its first ten bytes
 pub file-name : (image : List ℕ) (k : ℕ) → fileName (fileIn image k) ≡ nameIn image k
-unfolding fileName fileIn headerIn nameIn nameOf
-file-name image k = take-take 10 28 (sectorOf image k) (omega arith)
+unfolding fileIn nameOf
+file-name image k = header-name image k
 
 -- the catalogue is read of the image afterwards, where k has the new name and the others have theirs
 module _ (image after name : List ℕ) (k : ℕ) (named : fileName (fileIn after k) ≡ name) where

@@ -1,14 +1,14 @@
 -- A formatted volume is sound and its catalogue is empty: sector 0 is the new label and the map of sectors 0 and 1, sector 1 is zeros, so there are no files and no other holders.
-use mathlib.Core.Path.{_≡_, refl, ap, _∙_}
+use mathlib.Core.Path.{_≡_, refl, sym, ap, _∙_}
 use mathlib.Core.Bool.{true}
 use mathlib.Core.List.{List, [], _∷_, _++_, append-assoc}
-use Prim.Native.Nat.{ℕ, _+_, _≤_, _<_}
+use Prim.Native.Nat.{ℕ, _+_, _-_, _*_, _/_, _%_, _≤_, _<_}
 use native.Mathlib.Omega.{arith}
-use lib.ListN.{take}
-use lib.Seq.{take-at, drop-at, take-all, getD-append-add}
+use lib.ListN.{length, take, drop, replicate}
+use lib.Seq.{take-at, drop-at, take-all, drop-drop, getD-append-add}
 use borrow.Author.Tests.{not-false, eqb-true}
-use Rattle.rules.specs.Bytes.{byteAt, wordAt}
-use Rattle.rules.specs.Sectors.{sectorCount}
+use Rattle.rules.specs.Bytes.{byteAt, wordAt, part}
+use Rattle.rules.specs.Sectors.{sectorOf, sectorCount}
 use Rattle.rules.specs.Name.{nameRule, IsName}
 use Rattle.rules.specs.Label.{IsLabel}
 use Rattle.rules.specs.Map.{mapBit, taken, mapOf}
@@ -19,11 +19,12 @@ use Rattle.rules.specs.Sound.{Sound}
 use Rattle.rules.specs.Calls.Format.{Geometry, newLabel, formatted, formatTests, formatNumber, afterFormat}
 use Rattle.rules.specs.Tests.{Passed}
 use Rattle.rules.proofs.Tests.{all-passed, unless-passed}
+use Rattle.rules.proofs.Bytes.{part-behind, part-and-rest}
 use Rattle.rules.proofs.Name.{name-is}
 use Rattle.rules.proofs.Map.{taken-below, taken-past, map-of-bits}
 use Rattle.rules.proofs.Verdict.{size-is, passes}
-use Rattle.rules.proofs.Formatted.{zero-index, system-once, map-length, label-length, formatted-length, formatted-sector0, formatted-sector1}
-use Rattle.demands.specs.Formatting.{EmptyVolume, Formatting, FormatCall}
+use Rattle.rules.proofs.Formatted.{zero-index, system-once, map-length, label-length, sector0-length, formatted-parts, formatted-length, formatted-sector0, formatted-sector1}
+use Rattle.demands.specs.Formatting.{EmptyVolume, Formats, Formatting, FormatCall}
 
 -- a sector that begins with a name, and what stands behind it
 named-label : (n : ℕ) (name label map : List ℕ) → IsName name → wordAt (label ++ map) 0 ≡ n
@@ -41,6 +42,12 @@ named-label n name label map named counted dsk =
     behind i = rw (named .ten) at (getD-append-add name (label ++ map) i 0)
 
 module _ (n : ℕ) (name : List ℕ) (g : Geometry) (large : 3 ≤ n) (small : n ≤ 1600) (named : IsName name) where
+  abbrev fields : List ℕ
+  fields = (n / 256) ∷ ((n % 256) ∷ (g .sectorsPerTrack ∷ (0x44 ∷ (0x53 ∷ (0x4B ∷ (0x20 ∷ (g .tracks ∷ (g .sides ∷ (g .density ∷ [])))))))))
+
+  abbrev volume : List ℕ
+  volume = mapOf n (0 ∷ (1 ∷ [])) ++ (replicate 256 0 ++ replicate (256 * (n - 2)) 0xE5)
+
   new-label : IsLabel n (newLabel n name g ++ mapOf n (0 ∷ (1 ∷ [])))
   unfolding newLabel
   new-label = named-label n name _ (mapOf n (0 ∷ (1 ∷ []))) named (omega arith) (refl, refl, refl)
@@ -81,6 +88,37 @@ module _ (n : ℕ) (name : List ℕ) (g : Geometry) (large : 3 ≤ n) (small : n
   unfolding catalogue
   empty-volume = record { sound = formatted-sound; judged = passes (formatted n name g) formatted-sound; empty = rw no-files }
 
+  -- every byte
+  fields-at : (i many : ℕ) → part (formatted n name g) (10 + i) many ≡ part (fields ++ (replicate 36 0 ++ volume)) i many
+  unfolding formatted newLabel
+  fields-at i many =
+      rw (append-assoc name (fields ++ replicate 36 0) volume, append-assoc fields (replicate 36 0) volume) (part-behind name (fields ++ (replicate 36 0 ++ volume)) 10 i many (named .ten))
+
+  name-at : part (formatted n name g) 0 10 ≡ name
+  unfolding formatted newLabel
+  name-at = rw (append-assoc name (fields ++ replicate 36 0) volume) (take-at name ((fields ++ replicate 36 0) ++ volume) 10 (named .ten))
+
+  pub formatted-bytes : Formats n name g (formatted n name g)
+  unfolding sectorOf
+  formatted-bytes =
+      let zeros : List ℕ = replicate 256 0 in
+      let rest : List ℕ = replicate (256 * (n - 2)) 0xE5 in
+      let sector0 = newLabel n name g ++ mapOf n (0 ∷ (1 ∷ [])) in
+      let left : 256 * (n - 2) ≡ 256 * n - 512 = omega arith in
+      record {
+        name-is = name-at;
+        fields = fields-at 0 10;
+        reserved = fields-at 10 36;
+        map = fields-at 46 200 ∙ take-at (mapOf n (0 ∷ (1 ∷ []))) (zeros ++ rest) 200 (map-length n (0 ∷ (1 ∷ [])));
+        index = formatted-sector1 n name g (named .ten);
+        rest =
+            rw (formatted-length n name g (named .ten) (omega arith), formatted-parts n name g (named .ten))
+            (sym (drop-drop 256 256 (sector0 ++ (zeros ++ rest)))
+            ∙ ap (drop 256) (drop-at sector0 (zeros ++ rest) 256 (sector0-length n name g (named .ten)))
+            ∙ drop-at zeros rest 256 refl
+            ∙ ap (λ (m : ℕ). replicate m 0xE5) left);
+      }
+
 pub formatting : Formatting
 unfolding Formatting
 formatting n name g large small rule = empty-volume n name g large small (name-is name rule)
@@ -94,8 +132,30 @@ format-passed image n name e =
     let asked = eqb-true n (sectorCount image) (not-false _ (passed .1 .0)) in
     (omega arith, omega arith, not-false (nameRule name) (passed .1 .1 .0))
 
+pub format-size : (image : List ℕ) (n : ℕ) (name : List ℕ) → formatNumber image n name ≡ 0 → length image ≡ 256 * n
+unfolding formatTests Passed
+format-size image n name e =
+    let passed = all-passed (formatTests image n name) e in
+    rw (eqb-true n (sectorCount image) (not-false _ (passed .1 .0))) (size-is image (not-false (sizeRule image) (passed .0)) .0)
+
 pub format-call : FormatCall
 unfolding Formatting FormatCall afterFormat
 format-call image n name g e =
     let passed = format-passed image n name e in
     rw (unless-passed (formatTests image n name) (formatted n name g) image e) (formatting n name g (passed .0) (passed .1) (passed .2))
+
+-- and so of the image that the call leaves; two images that it leaves are one
+pub format-bytes : (image : List ℕ) (n : ℕ) (name : List ℕ) (g : Geometry) → formatNumber image n name ≡ 0 → Formats n name g (afterFormat image n name g)
+unfolding afterFormat
+format-bytes image n name g e =
+    let passed = format-passed image n name e in
+    rw (unless-passed (formatTests image n name) (formatted n name g) image e) (formatted-bytes n name g (passed .0) (passed .1) (name-is name (passed .2)))
+
+pub formats-one : (n : ℕ) (name : List ℕ) (g : Geometry) (a b : List ℕ) → length a ≡ length b → Formats n name g a → Formats n name g b → a ≡ b
+formats-one n name g a b long one two =
+    let rest = one .rest ∙ ap (λ (m : ℕ). replicate (m - 512) 0xE5) long ∙ sym (two .rest) in
+    let index = part-and-rest a b 256 256 (one .index ∙ sym (two .index)) rest in
+    let map = part-and-rest a b 56 200 (one .map ∙ sym (two .map)) index in
+    let reserved = part-and-rest a b 20 36 (one .reserved ∙ sym (two .reserved)) map in
+    let fields = part-and-rest a b 10 10 (one .fields ∙ sym (two .fields)) reserved in
+    part-and-rest a b 0 10 (one .name-is ∙ sym (two .name-is)) fields

@@ -2,9 +2,11 @@
 mod Computed
 pub mod Bench
 pub mod Formatting
-pub mod Faithful
 mod Filed
+pub mod Lines
 mod Replacing
+mod Taking
+mod Touched
 pub mod Protects
 pub mod Overwrites
 pub mod Appends
@@ -24,9 +26,12 @@ mod Shown
 mod Plain
 pub mod Ours
 pub mod Demand2
-pub mod Wrong
 pub mod Unique
 mod PackedSectors
 mod PackedSound
+mod PackedOne
 pub mod Demand3
+pub mod Complete
+pub mod StoredLoads
+pub mod Wrong
 pub mod WrongPacking

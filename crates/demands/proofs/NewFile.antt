@@ -9,12 +9,12 @@ use lib.ListN.{length, take, replicate, length-append}
 use lib.Seq.{take-at, drop-at, take-all, getD-append-add}
 use Rattle.rules.specs.Bytes.{byteAt, wordBytes, part, over, splice}
 use Rattle.rules.specs.Name.{nameRule}
-use Rattle.rules.specs.Chain.{blocks, placesFrom, places, blocksBytes, Linked}
+use Rattle.rules.specs.Chain.{blocks, placesFrom, places, blocksBytes, Linked, chainWith}
 use Rattle.rules.specs.Kind.{kindOf, IsStatus, IsKind}
 use Rattle.rules.specs.Descriptor.{nameOf, statusOf, sectorsOf, chainOf, fileKind, newDescriptor, withChain, IsDescriptor}
 use Rattle.rules.specs.declared.Block.{Block}
 use Rattle.rules.proofs.Name.{name-is}
-use Rattle.rules.proofs.Extended.{chainWith, chain-with-length, chain-with-past, blocks-over, linked-writable}
+use Rattle.rules.proofs.Extended.{chain-with-length, chain-with-past, blocks-over, linked-writable}
 use Rattle.demands.specs.Effects.{newHeader}
 
 -- bytes laid behind the front of a list leave the front
@@ -93,7 +93,7 @@ module _ (name : List ℕ) (status recordsPerSector endOffset recordLength : ℕ
     unfolding fileKind
     made-kind = rw (made-status, made-sectors, made-byte 6, made-byte 7)
 
-    made-chain : chainOf descriptorWith ≡ chainWith bs
+    pub made-chain : chainOf descriptorWith ≡ chainWith bs
     unfolding chainOf
     made-chain =
         ap (take 228) (drop-at (newHeader name status recordsPerSector c endOffset recordLength) (chainWith bs) 28 (header-length c))

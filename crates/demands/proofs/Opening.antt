@@ -70,7 +70,7 @@ module _ (tests : List Test) (image name : List ℕ) (gs : List {1} Ground) (dec
       go zero (Refused number) e is = let by = refused-by tests image name number e in absurd (by .1 (by .0 ∙ zero))
 
   -- 9: the name is found
-  pub present-first : ((p k : ℕ) → result (At p k) ≡ 9) → First (result Absent) more
+  pub present-first : ((p k : ℕ) → result (At p k) ≡ 9) → (firstOf tests ≡ 0 → First (result Absent) more)
       → First (result (opening tests image name)) (gs ++ (ground 9 (Present image name) ∷ more))
   unfolding First
   present-first nine absent = searched _ go
@@ -79,5 +79,5 @@ module _ (tests : List Test) (image name : List ℕ) (gs : List {1} Ground) (dec
       go zero (At p k) e is =
           let o = opened-by tests image name ruled p k e in
           inl (found-has image name p k o (λ j. Unit {0}) tt, nine p k)
-      go zero Absent e is = inr ((λ there. unfound image name 0 (files image) is (there .sector) (there .listed) (there .named)), absent)
+      go zero Absent e is = inr ((λ there. unfound image name 0 (files image) is (there .sector) (there .listed) (there .named)), absent zero)
       go zero (Refused number) e is = let by = refused-by tests image name number e in absurd (by .1 (by .0 ∙ zero))

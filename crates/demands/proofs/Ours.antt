@@ -3,41 +3,43 @@
 use mathlib.Core.Path.{_≡_, refl, sym, ap, _∙_}
 use mathlib.Core.List.{List, [], _∷_}
 use Prim.Native.Nat.{ℕ}
+use native.Mathlib.Omega.{arith}
 use native.Mathlib.Decide.{ℕ-discrete}
 use lib.ListN.{length}
-use lib.Seq.{take-at}
 use Rattle.rules.specs.Bytes.{part, splice}
 use Rattle.rules.specs.Sectors.{sectorOf, written}
-use Rattle.rules.specs.Map.{freeCount, mapOf}
+use Rattle.rules.specs.Map.{freeCount}
 use Rattle.rules.specs.Verdict.{volumeTests, verdict}
 use Rattle.rules.specs.Sound.{Sound}
 use Rattle.rules.specs.Outcome.{Outcome, Report, answerOf, amountOf}
 use Rattle.rules.specs.Opening.{openOf}
-use Rattle.rules.specs.Calls.Format.{Geometry, newLabel, formatted, formatTests, formatNumber, afterFormat}
+use Rattle.rules.specs.Calls.Format.{Geometry, formatted, formatTests, formatNumber, afterFormat}
 use Rattle.rules.specs.Calls.Summary.{freeCountOf, summaryOf, summaryAnswer}
 use Rattle.rules.specs.Calls.Entry.{entryOf}
 use Rattle.rules.specs.Calls.Read.{reading, readOf}
 use Rattle.rules.specs.Calls.Load.{loading, loadOf}
-use Rattle.rules.specs.Calls.Listing.{listingOf}
+use Rattle.rules.specs.Calls.Listing.{listingText, listingOf}
 use Rattle.rules.specs.Calls.Pack.{packNumber}
 use Rattle.rules.proofs.Tests.{unless-passed, unless-met}
-use Rattle.rules.proofs.Splice.{splice-none}
+use Rattle.rules.proofs.Splice.{splice-none, splice-length}
 use Rattle.rules.proofs.Name.{name-is}
 use Rattle.rules.proofs.Verdict.{passes}
 use Rattle.rules.proofs.Free.{free-holders}
-use Rattle.rules.proofs.Formatted.{label-length, formatted-sector0}
+use Rattle.rules.proofs.Formatted.{formatted-length}
+use Rattle.rules.proofs.Written.{written-length}
 use Rattle.rules.proofs.Outcome.{reported-given}
-use Rattle.demands.specs.Effects.{Kept, Does, LoadGives}
-use Rattle.demands.specs.Formatting.{EmptyVolume, FormatCall}
+use Rattle.demands.specs.Effects.{Kept}
+use Rattle.demands.specs.Does.{Does}
+use Rattle.demands.specs.Formatting.{FormatCall}
 use Rattle.demands.specs.Call as call
 use Rattle.demands.specs.Call.{Form, answerNumber, numberIn, Look, Change, Call, lent, numberOf, run}
 use Rattle.demands.specs.Ours.{seen, outcome, ours}
 use Rattle.demands.specs.Demand3.{packs}
 use Rattle.demands.specs.Grounds.{First, grounds}
 use Rattle.demands.specs.Demand2.{FreeIs, FreeGiven, Summarized, Shows, Means, Frame, Demand2}
-use Rattle.demands.proofs.Formatting.{format-passed, format-call}
+use Rattle.demands.proofs.Formatting.{format-passed, format-size, format-call, format-bytes}
 use Rattle.demands.proofs.Creates.{creates}
-use Rattle.demands.proofs.Stores.{stores, stored-loads}
+use Rattle.demands.proofs.Stores.{stores}
 use Rattle.demands.proofs.Appends.{appends}
 use Rattle.demands.proofs.Overwrites.{overwrites}
 use Rattle.demands.proofs.Protects.{protects, unprotects}
@@ -46,6 +48,7 @@ use Rattle.demands.proofs.Renames.{renames}
 use Rattle.demands.proofs.Refusals.{Writes, Puts, reported-puts, on-file-puts, change-writes}
 use Rattle.demands.proofs.Demand3.{packing-demand}
 use Rattle.demands.proofs.Plain.{answer-number, amount-number, summary-number, plain}
+use Rattle.demands.proofs.Lines.{listing-lists}
 use Rattle.demands.proofs.Shown.{catalogue-length, entry-bytes, entry-answers, read-is, load-is, listing-is}
 
 -- what a refusal leaves: of the image, and of the buffer lent
@@ -79,21 +82,46 @@ refuses (call.look look buffer) image some = (refl, look-refuses look buffer ima
 refuses (call.change name change) image some = (refused-image image (outcome change image name) (change-writes change image name) some, refl)
 refuses (call.format n name geometry) image some = (refused-format image n name geometry some, refl)
 
--- what a call that was done means: formatting, whatever the image was
-format-means : (image : List ℕ) (n : ℕ) (name : List ℕ) (g : Geometry) → formatNumber image n name ≡ 0
-    → EmptyVolume (afterFormat image n name g) × (part (sectorOf (afterFormat image n name g) 0) 0 56 ≡ newLabel n name g)
-unfolding FormatCall afterFormat
-format-means image n name g e =
-    let ten = name-is name (format-passed image n name e .2) .ten in (
-      format-call image n name g e,
-      rw (unless-passed (formatTests image n name) (formatted n name g) image e, formatted-sector0 n name g ten) (take-at (newLabel n name g) (mapOf n (0 ∷ (1 ∷ []))) 56 (label-length n name g ten)),
-    )
+-- the lengths of what is lent
+look-length : {form : Form} (look : Look form) (buffer image : List ℕ) → length (seen look buffer image .buffer) ≡ length buffer
+unfolding seen packs
+look-length call.judge buffer image = splice-length buffer 0 _
+look-length call.freeCount buffer image = splice-length buffer 0 _
+look-length call.summarize buffer image = splice-length buffer 0 _
+look-length (call.entry place) buffer image = splice-length buffer 0 _
+look-length (call.read name offset) buffer image = splice-length buffer 0 _
+look-length (call.load name) buffer image = splice-length buffer 0 _
+look-length call.list buffer image = splice-length buffer 0 _
+look-length call.pack buffer image =
+    elim (ℕ-discrete (packNumber image buffer) 0) [
+      | yes zero ↦ let can = packing-demand .done image buffer .0 zero in packing-demand .laid image buffer can .size ∙ sym (can .long)
+      | no some ↦ ap length (packing-demand .refuses image buffer some)
+    ]
 
+format-length : (image : List ℕ) (n : ℕ) (name : List ℕ) (g : Geometry) → length (afterFormat image n name g) ≡ length image
+unfolding afterFormat
+format-length image n name g =
+    elim (ℕ-discrete (formatNumber image n name) 0) [
+      | yes zero ↦
+          let passed = format-passed image n name zero in
+          rw (unless-passed (formatTests image n name) (formatted n name g) image zero, formatted-length n name g (name-is name (passed .2) .ten) (omega (arith, passed .0))) (sym (format-size image n name zero))
+      | no some ↦ rw (unless-met (formatTests image n name) (formatted n name g) image some)
+    ]
+
+pub lengths : (c : Call) (image : List ℕ) → (length (ours c image .image) ≡ length image) × (length (ours c image .buffer) ≡ length (lent c))
+unfolding ours
+lengths (call.look look buffer) image = (refl, look-length look buffer image)
+lengths (call.change name change) image = (written-length image (outcome change image name .writes), refl)
+lengths (call.format n name geometry) image = (format-length image n name geometry, refl)
+
+-- what a call that was done means: formatting, whatever the image was
 pub formats : (n : ℕ) (name : List ℕ) (geometry : Geometry) (image : List ℕ) →
     let c = call.format n name geometry in
     numberOf ours c image ≡ 0 → Means c image (ours c image)
-unfolding ours Means
-formats n name geometry image e = format-means image n name geometry (sym (answer-number (formatNumber image n name)) ∙ e)
+unfolding ours Means FormatCall
+formats n name geometry image e =
+    let zero = sym (answer-number (formatNumber image n name)) ∙ e in
+    (format-call image n name geometry zero, format-bytes image n name geometry zero)
 
 -- the reading calls
 free-is : (image : List ℕ) → Sound image → FreeIs image (freeCount (sectorOf image 0))
@@ -115,8 +143,8 @@ summary-means image buffer is = (
 shows : {form : Form} (look : Look form) (buffer image : List ℕ) → Sound image → numberIn form (seen look buffer image .answer) ≡ 0
     → Shows look buffer image (record { answer = seen look buffer image .answer; buffer = seen look buffer image .buffer; image = image })
 unfolding seen Shows packs amountOf
-shows call.judge buffer image is e = tt
-shows call.freeCount buffer image is e = free-means image is
+shows call.judge buffer image is e = splice-none buffer 0
+shows call.freeCount buffer image is e = (free-means image is, splice-none buffer 0)
 shows call.summarize buffer image is e = summary-means image buffer is
 shows (call.entry place) buffer image is e =
     let zero = sym (answer-number (entryOf image place (length buffer) .number)) ∙ e in
@@ -128,10 +156,10 @@ shows (call.load name) buffer image is e =
     (ap amountOf loaded, ap (λ (r : Report). splice buffer 0 (r .bytes)) loaded)
 shows call.list buffer image is e =
     let listed = listing-is image (length buffer) (sym (amount-number (listingOf image (length buffer))) ∙ e) in
-    (ap amountOf listed, ap (λ (r : Report). splice buffer 0 (r .bytes)) listed)
+    record { text = listingText image; lists = listing-lists image is; is = ap amountOf listed; put = ap (λ (r : Report). splice buffer 0 (r .bytes)) listed }
 shows call.pack buffer image is e =
     let can = packing-demand .done image buffer .0 (sym (answer-number (packNumber image buffer)) ∙ e) in
-    (packing-demand .sound image buffer can, packing-demand .label image buffer can, packing-demand .listed image buffer can)
+    (packing-demand .sound image buffer can, packing-demand .laid image buffer can)
 
 -- the changes
 pub does : (change : Change) → Does change
@@ -150,12 +178,6 @@ means (call.look look buffer) image is e = shows look buffer image is e
 means (call.change name change) image is e = does change image name (sym (answer-number (outcome change image name .number)) ∙ e)
 means (call.format n name geometry) image is e = formats n name geometry image e
 
-loads : (name bytes image : List ℕ) → Sound image →
-    let c = call.change name (call.store bytes) in
-    numberOf ours c image ≡ 0 → LoadGives (ours c image .image) name bytes
-unfolding ours outcome
-loads name bytes image is e = stored-loads image name bytes (sym (answer-number (outcome (call.store bytes) image name .number)) ∙ e)
-
 -- the frame: of a call that was done, and of a refusal
 kept-same : (image after name : List ℕ) → after ≡ image → Kept image after name
 kept-same image after name e =
@@ -164,7 +186,7 @@ kept-same image after name e =
 frame-done : (c : Call) (image : List ℕ) → Means c image (ours c image) → Frame c image (ours c image .image)
 unfolding ours Means Frame
 frame-done (call.look look buffer) image m = refl
-frame-done (call.change name change) image m = m .kept
+frame-done (call.change name change) image m = m .0 .kept
 frame-done (call.format n name geometry) image m = tt
 
 frame-same : (c : Call) (image after : List ℕ) → after ≡ image → Frame c image after
@@ -184,7 +206,7 @@ frame c image is =
 sound-done : (c : Call) (image : List ℕ) → Sound image → Means c image (ours c image) → Sound (ours c image .image)
 unfolding ours Means
 sound-done (call.look look buffer) image is m = is
-sound-done (call.change name change) image is m = m .sound
+sound-done (call.change name change) image is m = m .0 .sound
 sound-done (call.format n name geometry) image is m = m .0 .sound
 
 sound-call : (c : Call) (image : List ℕ) → Sound image → Sound (ours c image .image)
@@ -201,4 +223,4 @@ sound-run (c ∷ calls) image is = sound-run calls (ours c image .image) (sound-
 
 pub demand2-but-progress : ((c : Call) (image : List ℕ) → First (numberOf ours c image) (grounds c image)) → Demand2 ours
 demand2-but-progress progress =
-    record { plain = plain; refuses = refuses; sound = sound-run; formats = formats; frame = frame; means = means; stores = loads; progress = progress }
+    record { plain = plain; lengths = lengths; refuses = refuses; sound = sound-run; formats = formats; frame = frame; means = means; progress = progress }

@@ -1,6 +1,6 @@
 -- Overwrite: the sector written is a place of the file and stands there once, so the descriptor and the other contents stay.
 use mathlib.Core.Path.{_≡_, sym, ap, _∙_}
-use mathlib.Core.List.{List, [], _∷_, map}
+use mathlib.Core.List.{List, [], _∷_, map, append-nil}
 use Prim.Native.Nat.{ℕ, _*_, _≤_, _<_}
 use native.Mathlib.Omega.{arith}
 use lib.ListN.{length, getD, set}
@@ -8,25 +8,27 @@ use borrow.Author.Tests.{not-false, eqb-true, leb-false}
 use Rattle.rules.specs.Bytes.{splice}
 use Rattle.rules.specs.Sectors.{sectorOf, sectorCount, written}
 use Rattle.rules.specs.Map.{count}
-use Rattle.rules.specs.Descriptor.{nameOf, sectorsOf}
-use Rattle.rules.specs.Volume.{files, nameIn, placesIn, headerIn, contentsIn, fileIn, catalogue}
+use Rattle.rules.specs.Descriptor.{nameOf, sectorsOf, chainOf}
+use Rattle.rules.specs.Volume.{files, nameIn, placesIn, headerIn, contentsIn, fileIn}
 use Rattle.rules.specs.Outcome.{write}
 use Rattle.rules.specs.Tests.{Passed}
 use Rattle.rules.specs.Opening.{openOf}
 use Rattle.rules.specs.Calls.Overwrite.{overwriteTests, overwriting, overwriteOf}
-use Rattle.rules.proofs.Map.{count-more, count-at}
+use Rattle.rules.proofs.Map.{count-more, count-apart, count-at}
 use Rattle.rules.proofs.Volume.{places-count}
 use Rattle.rules.proofs.Tests.{all-passed, unless-passed}
 use Rattle.rules.proofs.Opening.{IsOpened, opened-is, open-refused, changed-done}
 use Rattle.rules.proofs.Staying.{places-kept, map-changed}
 use Rattle.rules.proofs.Written.{sector-other}
 use Rattle.rules.proofs.Listed.{opened-listed}
-use Rattle.rules.proofs.Altered.{own-once, place-other, own-here, own-altered}
-use Rattle.demands.specs.Catalogue.{changed}
+use Rattle.rules.proofs.Altered.{Altered, own-once, place-other, own-here, own-altered}
 use Rattle.demands.specs.Call.{overwrite}
 use Rattle.demands.specs.Ours.{outcome}
-use Rattle.demands.specs.Effects.{effect, Done, overwritten, Does}
-use Rattle.demands.proofs.Replacing.{altered-done}
+use Rattle.demands.specs.Effects.{overwritten}
+use Rattle.demands.specs.Grounds.{Has}
+use Rattle.demands.specs.Touches.{Stays, Touches}
+use Rattle.demands.specs.Does.{Does}
+use Rattle.demands.proofs.Replacing.{altered-done, altered-lies, found-has}
 
 -- the call on the file at sector k
 module _ (image name : List ℕ) (p k : ℕ) (o : IsOpened image name p k) (offset : ℕ) (bytes : List ℕ) (inside : offset < sectorsOf (sectorOf image k)) (long : length bytes ≡ 256) where
@@ -63,20 +65,32 @@ module _ (image name : List ℕ) (p k : ℕ) (o : IsOpened image name p k) (offs
   unfolding overwritten fileIn headerIn
   file-now = rw (contents-now, descriptor-kept)
 
-  overwritten-done : Done image after name (effect (changed name (overwritten offset bytes) (catalogue image)) 0 0)
+  changed-there : Altered image after k []
   unfolding nameIn
-  overwritten-done =
-      altered-done
-      (own-altered image k (o .whole) there at bytes long own (rw descriptor-kept (o .descriptor)) (ap nameOf descriptor-kept) (places-kept image after k descriptor-kept))
-      name (o .named) (overwritten offset bytes) file-now
+  changed-there =
+      own-altered image k (o .whole) there at bytes long own (rw descriptor-kept (o .descriptor)) (ap nameOf descriptor-kept) (places-kept image after k descriptor-kept)
+
+  overwritten-stays : Has image name (λ j. (offset < length (placesIn image j)) × Stays image after name j (getD (placesIn image j) offset 0 ∷ []))
+  overwritten-stays =
+      found-has image name p k o (
+        offset-low,
+        record {
+          lies = rw (append-nil (placesIn image k)) at (altered-lies changed-there name (o .named) (chainOf (sectorOf image k)) (ap chainOf descriptor-kept));
+          others = λ j inside apart. sector-other image at bytes long j (count-apart j at [] apart .0);
+        },
+      )
 
 pub overwrites : (offset : ℕ) (bytes : List ℕ) → Does (overwrite offset bytes)
-unfolding outcome overwriteOf overwriting overwriteTests Passed written
+unfolding outcome overwriteOf overwriting overwriteTests Passed written Touches
 overwrites offset bytes image name e =
     let c = changed-done (openOf image name) (overwriting image offset bytes) (open-refused image name) e in
     let k = c .sector in
     let tests = overwriteTests image offset bytes k in
     let passed = all-passed tests (c .number) in
-    rw (c .is, unless-passed tests (write (getD (placesIn image k) offset 0) bytes ∷ []) [] (c .number))
-    (overwritten-done image name (c .place) k (opened-is image name (c .place) k (c .found-at)) offset bytes (leb-false (sectorsOf (sectorOf image k)) offset (passed .1 .1 .0))
-    (eqb-true (length bytes) 256 (not-false _ (passed .1 .1 .1 .0))))
+    let o = opened-is image name (c .place) k (c .found-at) in
+    let inside = leb-false (sectorsOf (sectorOf image k)) offset (passed .1 .1 .0) in
+    let long = eqb-true (length bytes) 256 (not-false _ (passed .1 .1 .1 .0)) in
+    rw (c .is, unless-passed tests (write (getD (placesIn image k) offset 0) bytes ∷ []) [] (c .number)) (
+      altered-done (changed-there image name (c .place) k o offset bytes inside long) name (o .named) (overwritten offset bytes) (file-now image name (c .place) k o offset bytes inside long),
+      overwritten-stays image name (c .place) k o offset bytes inside long,
+    )

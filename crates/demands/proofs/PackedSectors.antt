@@ -1,16 +1,16 @@
 -- A packed image, sector by sector: a packed descriptor keeps the rules and has its data at consecutive places; the descriptors and the data laid end to end are
--- read back as sectors, so the catalogue of such an image is the list of files that was laid down, and its holders are two runs of sectors.
+-- read back as sectors, so the catalogue of such an image is the list of files that was laid down, each of one block, and its holders are two runs of sectors.
 use mathlib.Core.Path.{_≡_, refl, sym, ap, _∙_}
 use mathlib.Core.List.{List, [], _∷_, _++_, map, append-assoc, append-nil}
 use Prim.Native.Nat.{ℕ, zero, suc, _+_, _-_, _*_, _≤_, _<_}
 use native.Mathlib.Omega.{arith}
-use lib.ListN.{length, take, length-append, List·getD-append}
+use lib.ListN.{length, take, replicate, length-append, length-replicate, replicate-append-replicate, List·getD-append}
 use lib.Seq.{take-at, drop-at, take-all, take-append-le}
 use Rattle.rules.specs.Bytes.{byteAt, wordAt, part}
 use Rattle.rules.specs.Sectors.{sectorOf}
 use Rattle.rules.specs.Name.{IsName}
 use Rattle.rules.specs.Map.{count}
-use Rattle.rules.specs.Chain.{blocks, run, placesFrom, places, Linked}
+use Rattle.rules.specs.Chain.{blocks, run, placesFrom, places, Linked, chainWith}
 use Rattle.rules.specs.Kind.{kindOf, IsStatus, IsKind}
 use Rattle.rules.specs.Descriptor.{nameOf, sectorsOf, chainOf, fileKind, IsDescriptor}
 use Rattle.rules.specs.Volume.{File, placesIn, fileHolders, headerIn, contentsIn, fileIn}
@@ -18,25 +18,34 @@ use Rattle.rules.specs.Calls.Load.{joined}
 use Rattle.rules.specs.Calls.Pack.{oneBlock, packedDescriptor, packedDescriptors, packedData, dataSectors}
 use Rattle.rules.specs.declared.Block.{Block}
 use Rattle.rules.proofs.Map.{count-append}
-use Rattle.rules.proofs.Extended.{chainWith, chain-with-length, chain-with-past, blocks-over, linked-writable}
+use Rattle.rules.proofs.Chain.{run-parts}
+use Rattle.rules.proofs.Extended.{chain-with-length, chain-with-past, blocks-over, linked-writable}
 use Rattle.rules.proofs.Pack.{Full, joined-length, Whole, AllWhole, descriptor-length}
+use Rattle.demands.specs.Packing.{placesOf, OneBlock}
 
 -- a run in two parts
 pub count-runs : (k s first second : ℕ) → count k (run s (first + second)) ≡ count k (run s first) + count k (run (s + first) second)
-unfolding run count
-count-runs k s zero second =
-    let e : s + 0 ≡ s = omega arith in
-    let f : 0 + second ≡ second = omega arith in
-    rw (e, f) (omega arith)
-count-runs k s (suc first) second =
-    let e : s + 1 + first ≡ s + suc first = omega arith in
-    let f : suc first + second ≡ suc (first + second) = omega arith in
-    rw (f, ← e) (omega (arith, count-runs k (s + 1) first second))
+count-runs k s first second = ap (count k) (run-parts s first second) ∙ count-append k (run s first) (run (s + first) second)
 
 -- a sector behind a front of whole sectors
 pub sector-behind : (image front sector rest : List ℕ) (k : ℕ) → image ≡ front ++ (sector ++ rest) → length front ≡ 256 * k → length sector ≡ 256 → sectorOf image k ≡ sector
 unfolding sectorOf
 sector-behind image front sector rest k e long size = rw (e, drop-at front (sector ++ rest) (256 * k) long) (take-at sector rest 256 size)
+
+-- a sector of equal bytes that fill `many` sectors behind a front
+pub filled-behind : (image front : List ℕ) (value s many k : ℕ) → image ≡ front ++ replicate (256 * many) value → length front ≡ 256 * s → s ≤ k → k < s + many
+    → sectorOf image k ≡ replicate 256 value
+filled-behind image front value s many k e long low high =
+    let before = replicate (256 * (k - s)) value in
+    let behind = replicate (256 * (s + many - k - 1)) value in
+    let all : 256 * (k - s) + (256 + 256 * (s + many - k - 1)) ≡ 256 * many = omega arith in
+    let split : before ++ (replicate 256 value ++ behind) ≡ replicate (256 * many) value =
+    ap (λ (l : List ℕ). before ++ l) (replicate-append-replicate 256 (256 * (s + many - k - 1)) value)
+    ∙ replicate-append-replicate (256 * (k - s)) (256 + 256 * (s + many - k - 1)) value
+    ∙ ap (λ (c : ℕ). replicate c value) all
+    in
+    sector-behind image (front ++ before) (replicate 256 value) behind k (e ∙ ap (λ (l : List ℕ). front ++ l) (sym split) ∙ sym (append-assoc front before (replicate 256 value ++ behind)))
+    (length-append front before ∙ omega (arith, long, length-replicate (256 * (k - s)) value)) (length-replicate 256 value)
 
 -- the first part of what is laid behind a front goes to the front
 move-front : (image front first second rest : List ℕ) → image ≡ front ++ ((first ++ second) ++ rest) → image ≡ front ++ (first ++ (second ++ rest))
@@ -125,12 +134,18 @@ module _ (n s : ℕ) (file : File) (listed : IsListed file) (small : n ≤ 1600)
       blocks-over 228 bs (linked-writable n (length (file .contents)) 0 bs (omega arith) (omega arith) (one-linked n s (length (file .contents)) low high))
       (omega (arith, one-short s (length (file .contents))))
 
-  packed-places : places (chainOf (packedDescriptor s file)) ≡ run s (length (file .contents))
-  unfolding packedDescriptor places
-  packed-places =
-      ap (placesFrom 0) (ap blocks (behind-chain (file .header) (chainWith bs) (listed .whole .long) (chain-with-length bs)) ∙ chain-blocks) ∙ one-places s (length (file .contents))
+  packed-chain : chainOf (packedDescriptor s file) ≡ chainWith bs
+  unfolding packedDescriptor
+  packed-chain = behind-chain (file .header) (chainWith bs) (listed .whole .long) (chain-with-length bs)
 
-  packed-descriptor : IsDescriptor n (packedDescriptor s file)
+  packed-places : places (chainOf (packedDescriptor s file)) ≡ run s (length (file .contents))
+  unfolding places
+  packed-places = ap (placesFrom 0) (ap blocks packed-chain ∙ chain-blocks) ∙ one-places s (length (file .contents))
+
+  pub packed-block : OneBlock (chainOf (packedDescriptor s file))
+  packed-block = rw packed-chain (record { few = rw chain-blocks (one-short s (length (file .contents))); rest = rw chain-blocks })
+
+  pub packed-descriptor : IsDescriptor n (packedDescriptor s file)
   unfolding packedDescriptor
   packed-descriptor =
       let long = listed .whole .long in
@@ -204,16 +219,27 @@ module _ (n : ℕ) (image : List ℕ) (small : n ≤ 1600) where
         laid-files (d + 1) (s + length (file .contents)) more (each .1) (omega arith) (omega arith) (is .2),
       )
 
-  pub laid-descriptor : (d s : ℕ) (files : List File) → Each files → 2 ≤ s → s + dataSectors files ≤ n → Laid image d s files → (p : ℕ) → p < length files
-      → IsDescriptor n (sectorOf image (d + p))
+  -- and what holds of a packed descriptor holds of each of these
+  pub laid-each : (P : List ℕ → Type 0) → ((s : ℕ) (file : File) → IsListed file → 2 ≤ s → s + length (file .contents) ≤ n → P (packedDescriptor s file))
+      → (d s : ℕ) (files : List File) → Each files → 2 ≤ s → s + dataSectors files ≤ n → Laid image d s files → (p : ℕ) → p < length files → P (sectorOf image (d + p))
   unfolding Laid Each dataSectors
-  laid-descriptor d s [] each low high is p h = absurd (omega arith)
-  laid-descriptor d s (file ∷ more) each low high is zero h =
+  laid-each P holds d s [] each low high is p h = absurd (omega arith)
+  laid-each P holds d s (file ∷ more) each low high is zero h =
       let e : d + 0 ≡ d = omega arith in
-      rw (e, is .0) (packed-descriptor n s file (each .0) small low (omega arith))
-  laid-descriptor d s (file ∷ more) each low high is (suc p) h =
+      rw (e, is .0) (holds s file (each .0) low (omega arith))
+  laid-each P holds d s (file ∷ more) each low high is (suc p) h =
       let e : d + 1 + p ≡ d + suc p = omega arith in
-      rw (← e) (laid-descriptor (d + 1) (s + length (file .contents)) more (each .1) (omega arith) (omega arith) (is .2) p (omega arith))
+      rw (← e) (laid-each P holds (d + 1) (s + length (file .contents)) more (each .1) (omega arith) (omega arith) (is .2) p (omega arith))
+
+  -- their data is one run of sectors
+  pub laid-data : (d s : ℕ) (files : List File) → Each files → 2 ≤ s → s + dataSectors files ≤ n → Laid image d s files
+      → placesOf image (run d (length files)) ≡ run s (dataSectors files)
+  unfolding Laid Each dataSectors run placesOf
+  laid-data d s [] each low high is = refl
+  laid-data d s (file ∷ more) each low high is =
+      let c = length (file .contents) in
+      rw (laid-places d s file (each .0) low (omega arith) (is .0), laid-data (d + 1) (s + c) more (each .1) (omega arith) (omega arith) (is .2))
+      (sym (run-parts s c (dataSectors more)))
 
   -- the descriptors hold a run of sectors, and the data another
   pub laid-holders : (k d s : ℕ) (files : List File) → Each files → 2 ≤ s → s + dataSectors files ≤ n → Laid image d s files

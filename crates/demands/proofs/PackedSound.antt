@@ -1,4 +1,4 @@
--- The packed image of a sound volume is sound, and has the label area and the catalogue of its original.
+-- The packed image of a sound volume is sound, is laid down as the paper says, and has the label area and the catalogue of its original.
 use mathlib.Core.Path.{_≡_, refl, sym, ap, _∙_}
 use mathlib.Core.List.{List, [], _∷_, _++_, map, append-assoc}
 use Prim.Native.Nat.{ℕ, zero, suc, _+_, _-_, _*_, _≤_, _<_}
@@ -10,30 +10,30 @@ use Rattle.rules.specs.Bytes.{byteAt, part}
 use Rattle.rules.specs.Sectors.{sectorOf, sectorCount}
 use Rattle.rules.specs.Map.{mapBit, count, taken, mapOf}
 use Rattle.rules.specs.Chain.{run}
-use Rattle.rules.specs.Descriptor.{fileKind, IsDescriptor}
+use Rattle.rules.specs.Descriptor.{chainOf, fileKind, IsDescriptor}
 use Rattle.rules.specs.Index.{indexOf, IsIndex}
-use Rattle.rules.specs.Volume.{File, files, nameIn, placesIn, fileHolders, headerIn, contentsIn, fileIn, catalogue}
+use Rattle.rules.specs.Volume.{File, files, nameIn, placesIn, fileHolders, holders, headerIn, contentsIn, fileIn, catalogue}
 use Rattle.rules.specs.Sound.{Sound}
-use Rattle.rules.specs.Calls.Pack.{labelArea, packedDescriptors, packedData, dataSectors, packedSectors, packed}
+use Rattle.rules.specs.Calls.Pack.{labelArea, packedDescriptor, packedDescriptors, packedData, dataSectors, packedSectors, packed}
 use Rattle.rules.proofs.Bytes.{part-at}
 use Rattle.rules.proofs.Sectors.{sector-length}
-use Rattle.rules.proofs.Map.{taken-same, count-none, count-here, count-other, count-append, map-of-bits}
-use Rattle.rules.proofs.Chain.{run-length, run-at, run-holds}
+use Rattle.rules.proofs.Map.{count-none, count-here, count-other, counted-all, count-append, map-of-bits, map-same}
+use Rattle.rules.proofs.Chain.{run-length, run-at, run-holds, run-counts}
 use Rattle.rules.proofs.Volume.{places-count}
 use Rattle.rules.proofs.Formatted.{map-length}
 use Rattle.rules.proofs.Indexed.{Ascending, index-length, numbers-index, index-is-index}
 use Rattle.rules.proofs.Written.{sound-again}
 use Rattle.rules.proofs.Pack.{descriptors-length, data-length, file-whole, label-length, used-inside}
-use Rattle.demands.specs.Catalogue.{fileName}
-use Rattle.demands.specs.Faithful.{noFile}
-use Rattle.demands.proofs.Faithful.{get-mapped}
+use Rattle.demands.specs.Catalogue.{fileName, noFile}
+use Rattle.demands.specs.Packing.{placesOf, OneBlock, Packs}
+use Rattle.rules.proofs.Volume.{get-mapped}
 use Rattle.demands.proofs.Filed.{file-name}
-use Rattle.demands.proofs.PackedSectors.{count-runs, sector-behind, IsListed, Each, each-whole, Laid, laid, laid-files, laid-descriptor, laid-holders}
+use Rattle.demands.proofs.PackedSectors.{count-runs, sector-behind, IsListed, Each, each-whole, Laid, laid, laid-files, laid-each, laid-data, laid-holders, filled-behind, packed-block, packed-descriptor}
 
 -- A file of a sound volume, as its catalogue lists it.
 module _ (n : ℕ) (image : List ℕ) (whole : length image ≡ 256 * n) where
   is-listed : (k : ℕ) → k < n → IsDescriptor n (sectorOf image k) → IsListed (fileIn image k)
-  unfolding fileIn headerIn contentsIn nameIn fileName fileKind
+  unfolding fileIn headerIn contentsIn nameIn fileKind
   is-listed k inside is =
       let d = sectorOf image k in
       let long = sector-length image k (omega arith) in
@@ -87,6 +87,9 @@ module _ (image a b c d e f : List ℕ) (is : image ≡ a ++ (b ++ (c ++ (d ++ (
   behind-four : image ≡ (((a ++ b) ++ c) ++ d) ++ (e ++ f)
   behind-four = behind-three ∙ sym (append-assoc ((a ++ b) ++ c) d (e ++ f))
 
+  behind-five : image ≡ ((((a ++ b) ++ c) ++ d) ++ e) ++ f
+  behind-five = behind-four ∙ sym (append-assoc (((a ++ b) ++ c) ++ d) e f)
+
   whole-length : length image ≡ length a + length b + length c + length d + length e + length f
   whole-length =
       ap length behind-four ∙ length-append (((a ++ b) ++ c) ++ d) (e ++ f)
@@ -130,6 +133,10 @@ module _ (n : ℕ) (label : List ℕ) (listed : List File) (size : length label 
 
   described-length : length (((label ++ mapping) ++ indexing) ++ described) ≡ 256 * first
   described-length = length-append ((label ++ mapping) ++ indexing) described ∙ omega (arith, system-length, descriptors-length first listed (each-whole listed each))
+
+  held-length : length ((((label ++ mapping) ++ indexing) ++ described) ++ stored) ≡ 256 * used
+  unfolding packedSectors
+  held-length = length-append (((label ++ mapping) ++ indexing) ++ described) stored ∙ omega (arith, described-length, data-length listed (each-whole listed each))
 
   packed-size : length image ≡ 256 * n
   unfolding packedSectors
@@ -194,11 +201,26 @@ module _ (n : ℕ) (label : List ℕ) (listed : List File) (size : length label 
     unfolding catalogue
     packed-catalogue = rw packed-files laid-again
 
-  -- each descriptor keeps its rules
-  packed-descriptors : (p : ℕ) → p < length (run 2 (length listed)) → IsDescriptor n (sectorOf image (getD (run 2 (length listed)) p 0))
-  packed-descriptors p h =
+  -- each descriptor keeps its rules, and has one block
+  packed-each : (P : List ℕ → Type 0) → ((s : ℕ) (file : File) → IsListed file → 2 ≤ s → s + length (file .contents) ≤ n → P (packedDescriptor s file))
+      → (p : ℕ) → p < length (run 2 (length listed)) → P (sectorOf image (getD (run 2 (length listed)) p 0))
+  packed-each P holds p h =
       let inside : p < length listed = omega (arith, h, run-length 2 (length listed)) in
-      rw (run-at 2 (length listed) p inside) (laid-descriptor n image small 2 first listed each (omega arith) data-fits files-laid p inside)
+      rw (run-at 2 (length listed) p inside) (laid-each n image small P holds 2 first listed each (omega arith) data-fits files-laid p inside)
+
+  packed-descriptors : (p : ℕ) → p < length (run 2 (length listed)) → IsDescriptor n (sectorOf image (getD (run 2 (length listed)) p 0))
+  packed-descriptors = packed-each (IsDescriptor n) (λ s file is low high. packed-descriptor n s file is small low high)
+
+  packed-blocks : (k : ℕ) → 1 ≤ count k (run 2 (length listed)) → OneBlock (chainOf (sectorOf image k))
+  packed-blocks =
+      counted-all (λ (k : ℕ). OneBlock (chainOf (sectorOf image k))) (run 2 (length listed))
+      (packed-each (λ (d : List ℕ). OneBlock (chainOf d)) (λ s file is low high. packed-block n s file is small low high))
+
+  -- the data follows the descriptors
+  packed-data : placesOf image (run 2 (length listed)) ≡ run first (length (placesOf image (run 2 (length listed))))
+  packed-data =
+      let e = laid-data n image small 2 first listed each (omega arith) data-fits files-laid in
+      rw e (ap (run first) (sym (run-length first (dataSectors listed))))
 
   -- the holders are the sectors from 0 on, each once
   packed-holders : (k : ℕ) → count k (0 ∷ (1 ∷ fileHolders image (run 2 (length listed)))) ≡ count k (run 0 used)
@@ -211,12 +233,23 @@ module _ (n : ℕ) (label : List ℕ) (listed : List File) (size : length label 
   packed-single : (k : ℕ) → count k (0 ∷ (1 ∷ fileHolders image (run 2 (length listed)))) ≤ 1
   packed-single k = rw (packed-holders k) (run-once k 0 used)
 
-  packed-map : (k : ℕ) → k < 1600 → mapBit (sectorOf image 0) k ≡ taken n (0 ∷ (1 ∷ fileHolders image (run 2 (length listed)))) k
-  packed-map k low =
-      rw sector0
-      (map-of-bits n (run 0 used) (label ++ mapping) (λ j. run-once j 0 used)
-      (ap (take 200) (drop-at label mapping 56 size) ∙ take-all 200 mapping (omega (arith, map-length n (run 0 used)))) k low
-      ∙ sym (taken-same n (run 0 used) (0 ∷ (1 ∷ fileHolders image (run 2 (length listed)))) packed-holders k))
+  packed-map : part (sectorOf image 0) 56 200 ≡ mapOf n (0 ∷ (1 ∷ fileHolders image (run 2 (length listed))))
+  packed-map =
+      rw sector0 (ap (take 200) (drop-at label mapping 56 size) ∙ take-all 200 mapping (omega (arith, map-length n (run 0 used))))
+      ∙ sym (map-same n (run 0 used) (0 ∷ (1 ∷ fileHolders image (run 2 (length listed)))) packed-holders)
+
+  packed-bits : (k : ℕ) → k < 1600 → mapBit (sectorOf image 0) k ≡ taken n (0 ∷ (1 ∷ fileHolders image (run 2 (length listed)))) k
+  packed-bits = map-of-bits n (0 ∷ (1 ∷ fileHolders image (run 2 (length listed)))) (sectorOf image 0) packed-single packed-map
+
+  -- and what they do not hold is filled
+  packed-free : (k : ℕ) → k < n → count k (0 ∷ (1 ∷ fileHolders image (run 2 (length listed)))) ≡ 0 → sectorOf image k ≡ replicate 256 0xE5
+  packed-free k inside none =
+      elim (decLt k used) [
+        | yes held ↦ absurd (omega (arith, none, packed-holders k, run-counts k 0 used (omega arith) (omega arith)))
+        | no past ↦
+            filled-behind image ((((label ++ mapping) ++ indexing) ++ described) ++ stored) 0xE5 used (n - used) k
+            (behind-five image label mapping indexing described stored unused parts) held-length (omega arith) (omega (arith, inside, fits))
+      ]
 
   -- the bytes of the label
   packed-bytes : (i : ℕ) → i < 56 → byteAt (sectorOf image 0) i ≡ byteAt label i
@@ -266,13 +299,13 @@ module _ (source : List ℕ) (is : Sound source) where
   unfolding files
   source-few = omega (arith, source-many, is .index .few)
 
-  pub same-size : length (packedImage source) ≡ length source
+  same-size : length (packedImage source) ≡ length source
   same-size = packed-size n (labelArea source) (catalogue source) label-long source-listed source-fits (is .size .1) ∙ sym (is .whole)
 
-  pub same-label : labelArea (packedImage source) ≡ labelArea source
+  same-label : labelArea (packedImage source) ≡ labelArea source
   same-label = packed-label n (labelArea source) (catalogue source) label-long source-listed source-fits (is .size .1)
 
-  pub same-catalogue : catalogue (packedImage source) ≡ catalogue source
+  same-catalogue : catalogue (packedImage source) ≡ catalogue source
   same-catalogue = packed-catalogue n (labelArea source) (catalogue source) label-long source-listed source-fits (is .size .1) source-few
 
   same-files : map (fileIn (packedImage source)) (run 2 (length (catalogue source))) ≡ map (fileIn source) (files source)
@@ -299,5 +332,22 @@ module _ (source : List ℕ) (is : Sound source) where
         descriptors = packed-descriptors n (labelArea source) (catalogue source) label-long source-listed source-fits small;
         ascending = names-ascend;
         single = packed-single n (labelArea source) (catalogue source) label-long source-listed source-fits small;
-        map = packed-map n (labelArea source) (catalogue source) label-long source-listed source-fits small;
+        map = packed-bits n (labelArea source) (catalogue source) label-long source-listed source-fits small;
       })
+
+  -- and it is laid down as the paper says
+  pub laid-packs : Packs source (packedImage source)
+  unfolding labelArea holders
+  laid-packs =
+      let small = is .size .1 in
+      let listed = packed-files n (labelArea source) (catalogue source) label-long source-listed source-fits small source-few in
+      record {
+        size = same-size;
+        label = same-label;
+        map = rw (same-size, listed) (packed-map n (labelArea source) (catalogue source) label-long source-listed source-fits small);
+        index = rw (← source-many) (sector1 n (labelArea source) (catalogue source) label-long source-listed source-fits small);
+        listed = same-catalogue;
+        gapless = rw (listed, ← source-many) (packed-data n (labelArea source) (catalogue source) label-long source-listed source-fits small);
+        chains = rw listed (packed-blocks n (labelArea source) (catalogue source) label-long source-listed source-fits small);
+        free = rw (same-size, listed) (packed-free n (labelArea source) (catalogue source) label-long source-listed source-fits small);
+      }

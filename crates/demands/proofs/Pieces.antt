@@ -1,4 +1,4 @@
--- Bytes cut into sectors and laid end to end again are those bytes, with zeros behind them; and a program put into the catalogue is loaded as its contents.
+-- Bytes cut into sectors and laid end to end again are those bytes, with zeros behind them; and a file that was put into the catalogue stands there.
 use mathlib.Core.Path.{_≡_, refl, ap, _∙_}
 use mathlib.Core.Bool.{Bool, true, false, cond}
 use mathlib.Core.List.{List, [], _∷_, _++_}
@@ -7,18 +7,13 @@ use native.Mathlib.Omega.{arith}
 use native.Mathlib.Decide.{decLt}
 use lib.ListN.{length, take, drop, getD, replicate, length-drop, length-replicate, take-append-drop}
 use lib.Seq.{take-append-le, take-append-add}
-use Rattle.rules.specs.Bytes.{byteAt, over, splice}
+use Rattle.rules.specs.Bytes.{over, splice}
 use Rattle.rules.specs.Name.{precedes}
-use Rattle.rules.specs.Kind.{isProgram}
-use Rattle.rules.specs.Volume.{File, catalogue}
-use Rattle.rules.specs.Sound.{Sound}
-use Rattle.rules.specs.Outcome.{gives}
-use Rattle.rules.specs.Calls.Load.{joined, loadOf}
+use Rattle.rules.specs.Volume.{File}
+use Rattle.rules.specs.Calls.Load.{joined}
 use Rattle.rules.proofs.Splice.{splice-length, splice-front}
-use Rattle.demands.specs.Catalogue.{fileName, putIn}
-use Rattle.demands.specs.Faithful.{noFile, fileOf, nameIs, lengthIs, Loads, Faithful}
+use Rattle.demands.specs.Catalogue.{fileName, noFile, putIn}
 use Rattle.demands.specs.Effects.{pieces}
-use Rattle.demands.proofs.Faithful.{faithful}
 
 -- a sector of the data
 pub piece-length : (bytes : List ℕ) → length (over (replicate 256 0) bytes) ≡ 256
@@ -64,12 +59,12 @@ joined-pieces (suc many) bytes h =
     ]
 
 -- a file that was put in stands in the catalogue
-record Stands (file : File) (listed : List File) : Type 0 where
-  place : ℕ
-  inside : place < length listed
-  is : getD listed place noFile ≡ file
+pub record Stands (file : File) (listed : List File) : Type 0 where
+  pub place : ℕ
+  pub inside : place < length listed
+  pub is : getD listed place noFile ≡ file
 
-put-stands : (file : File) (listed : List File) → Stands file (putIn file listed)
+pub put-stands : (file : File) (listed : List File) → Stands file (putIn file listed)
 unfolding putIn
 put-stands file [] = record { place = 0; inside = omega arith; is = refl }
 put-stands file (first ∷ more) = go (precedes (fileName file) (fileName first)) (put-stands file more)
@@ -77,13 +72,3 @@ put-stands file (first ∷ more) = go (precedes (fileName file) (fileName first)
     go : (t : Bool) → Stands file (putIn file more) → Stands file (cond t (file ∷ (first ∷ more)) (first ∷ putIn file more))
     go true rest = record { place = 0; inside = omega arith; is = refl }
     go false rest = record { place = suc (rest .place); inside = omega (arith, rest .inside); is = rest .is }
-
--- so it is found under its name
-pub put-loads : (image : List ℕ) (file : File) (listed : List File) → Sound image → catalogue image ≡ putIn file listed → isProgram (byteAt (file .header) 12) ≡ true
-    → loadOf image (nameIs file) (lengthIs file) ≡ gives (lengthIs file) (take (lengthIs file) (joined (file .contents)))
-unfolding Faithful Loads
-put-loads image file listed is put program =
-    let there = put-stands file listed in
-    let found : fileOf image (there .place) ≡ file = ap (λ (l : List File). getD l (there .place) noFile) put ∙ there .is in
-    let load = faithful image is .loads (there .place) (lengthIs file) (rw put (there .inside)) in
-    rw found at load program (omega arith)

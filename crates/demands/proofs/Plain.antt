@@ -1,4 +1,4 @@
--- No answer of ours is a refusal with number 0; and the number of an answer is that of what it was made of.
+-- No answer of ours is a refusal with number 0, and none carries a row beside a refusal; and the number of an answer is that of what it was made of.
 use mathlib.Core.Path.{_≡_, refl, sym}
 use mathlib.Core.Bool.{Bool, true, false, cond}
 use mathlib.Core.List.{List}
@@ -14,9 +14,11 @@ use Rattle.rules.specs.Tests.{unlessMet}
 use Rattle.rules.specs.Verdict.{verdict}
 use Rattle.rules.specs.Outcome.{Report, answerOf, amountOf}
 use Rattle.rules.specs.Calls.Summary.{summaryAnswer}
+use Rattle.rules.specs.Calls.Entry.{noRow, entryTests, entryOf, entryRow}
 use Rattle.rules.specs.declared.Answer.the-variants as answer
 use Rattle.rules.specs.declared.Amount.the-variants as amount
 use Rattle.rules.specs.declared.Summary.the-variants as summary
+use Rattle.rules.proofs.Tests.{unless-met}
 use Rattle.demands.specs.Call as call
 use Rattle.demands.specs.Call.{Form, Plain, Look, Call, formOf, answerNumber, amountNumber, summaryNumber}
 use Rattle.demands.specs.Ours.{seen, ours}
@@ -70,12 +72,17 @@ plain-summary image = go (sectorCount image) (length (files image)) (freeCount (
     go n listed free true e is = let z : _≡_ {A = ℕ} 0 1 = cc in omega arith
     go n listed free false e is = let z : verdict image ≡ 0 = cc in eqb-false (verdict image) 0 e z
 
+-- beside a refused entry stands no row
+plain-row : (image : List ℕ) (place room : ℕ) → (answerOf (entryOf image place room .number) ≡ answer.Done → ⊥) → entryRow image place room ≡ noRow
+unfolding entryOf entryRow answerOf
+plain-row image place room other = unless-met (entryTests image place room) _ noRow (λ none. other (rw none))
+
 plain-look : {form : Form} (look : Look form) (buffer image : List ℕ) → Plain form (seen look buffer image .answer)
 unfolding seen
 plain-look call.judge buffer image = tt
 plain-look call.freeCount buffer image = plain-amount _
 plain-look call.summarize buffer image = plain-summary image
-plain-look (call.entry place) buffer image = plain-answer _
+plain-look (call.entry place) buffer image = (plain-answer _, plain-row image place (length buffer))
 plain-look (call.read name offset) buffer image = plain-answer _
 plain-look (call.load name) buffer image = plain-amount _
 plain-look call.list buffer image = plain-amount _

@@ -1,10 +1,21 @@
 -- Every call gives the number of the first ground that is there, and 0 where none is: `progress`. The tests of the calls stand in the table's order; here each decides its ground.
-use mathlib.Core.Path.{_≡_, refl}
-use mathlib.Core.Bool.{not}
+use mathlib.Core.Path.{_≡_, refl, ap}
+use mathlib.Core.Bool.{false, not}
 use mathlib.Core.List.{List, [], _∷_, _++_}
-use Prim.Native.Nat.{ℕ}
+use Prim.Native.Nat.{ℕ, _+_}
+use native.Mathlib.Omega.{arith}
+use lib.Dec.{ltb}
 use lib.ListN.{length}
+use borrow.Author.Tests.{ltb-true, ltb-false}
+use Rattle.rules.specs.Sectors.{sectorOf}
 use Rattle.rules.specs.Name.{nameRule}
+use Rattle.rules.specs.Map.{freeCount, marked}
+use Rattle.rules.specs.Chain.{blocks}
+use Rattle.rules.specs.Descriptor.{chainOf}
+use Rattle.rules.specs.Volume.{placesIn}
+use Rattle.rules.specs.Sound.{Sound}
+use Rattle.rules.specs.Choice.{descriptorChoice, dataChoice}
+use Rattle.rules.specs.declared.Block.{Block}
 use Rattle.rules.specs.Tests.{Test, refuse, firstOf, unlessMet}
 use Rattle.rules.specs.Verdict.{volumeTests, verdict}
 use Rattle.rules.specs.Outcome.{Report, Outcome, tested}
@@ -12,35 +23,43 @@ use Rattle.rules.specs.Opening.{opening, nameTests, openOf, onFile, changing, a
 use Rattle.rules.specs.Calls.Summary.{freeCountOf}
 use Rattle.rules.specs.Calls.Entry.{entryTests, entryOf}
 use Rattle.rules.specs.Calls.Read.{readTests, reading, readOf}
-use Rattle.rules.specs.Calls.Load.{loadTests, loading, loadOf}
-use Rattle.rules.specs.Calls.Listing.{listingTests, listingOf}
+use Rattle.rules.specs.Calls.Load.{lengthIn, loadTests, loading, loadOf}
+use Rattle.rules.specs.Calls.Listing.{listingText, listingTests, listingOf}
 use Rattle.rules.specs.Calls.Pack.{packTests}
 use Rattle.rules.specs.Calls.Format.{formatTests}
 use Rattle.rules.specs.Calls.Create.{createTests, creating, createOf}
-use Rattle.rules.specs.Calls.Append.{appendTests, appending, appendOf}
+use Rattle.rules.specs.Calls.Append.{longerBlocks, appendTests, appending, appendOf}
 use Rattle.rules.specs.Calls.Overwrite.{overwriteTests, overwriting, overwriteOf}
 use Rattle.rules.specs.Calls.Protect.{settingBit, setBitOf}
-use Rattle.rules.specs.Calls.Store.{storeTests, storing, storeOf}
+use Rattle.rules.specs.Calls.Store.{newSectors, newBlocks, storeTests, storing, storeOf}
 use Rattle.rules.specs.Calls.Delete.{deleteTests, deleting, deleteOf}
 use Rattle.rules.specs.Calls.Rename.{renameTests, renaming, namesTests, renameOf}
 use Rattle.rules.specs.declared.Opened.{Opened}
 use Rattle.rules.specs.declared.Opened.the-variants.{At, Absent, Refused}
 use Rattle.rules.proofs.Name.{name-is, is-name}
+use Rattle.rules.proofs.Verdict.{sound}
+use Rattle.rules.proofs.Choice.{choices-length}
 use Rattle.rules.proofs.Opening.{IsOpened, name-passed}
+use Rattle.rules.proofs.Listed.{opened-listed}
 use Rattle.demands.specs.Call as call
 use Rattle.demands.specs.Call.{Form, numberIn, Look, Change, Call, numberOf}
 use Rattle.demands.specs.Ours.{seen, outcome, ours}
-use Rattle.demands.specs.Grounds.{Ground, ground, First, faults, lookGrounds, changeGrounds, grounds, isProtected, Has, Present}
+use Rattle.demands.specs.Grounds.{Ground, ground, First, faults, lookGrounds, changeGrounds, grounds, isProtected, Has, Present, Overfull, NewOverfull, TextOver}
+use Rattle.demands.specs.Taking.{Takes}
 use Rattle.demands.proofs.Plain.{answer-number, amount-number, summary-number}
-use Rattle.demands.proofs.Deciding.{Decide, first-after, first-ground, decide-both, broken, equal, unequal, below, at-most}
+use Rattle.demands.proofs.Taking.{lowest-one, takes-one, descriptor-lowest, append-takes, new-takes}
+use Rattle.demands.proofs.Lines.{listing-lists, lists-one}
+use Rattle.demands.proofs.Deciding.{Decides, Decide, first-after, first-ground, decide-both, broken, equal, unequal, below, at-most}
 use Rattle.demands.proofs.Faults.{sized-is, is-sized, faults-decided}
 use Rattle.demands.proofs.Creates.{status-among, among-status}
 use Rattle.demands.proofs.Renames.{renamings, names-passed}
 use Rattle.demands.proofs.Opening.{of-file, unnamed, name-decided, absent-first, present-first}
 
 -- calls that name no file: the tests of the volume, and more behind them
-volume-first : (image : List ℕ) (tests : List Test) (gs : List {1} Ground) → Decide tests gs → First (firstOf (volumeTests image ++ tests)) (faults image ++ gs)
-volume-first image tests gs decided = first-ground (volumeTests image ++ tests) (faults image ++ gs) (decide-both (volumeTests image) tests (faults image) gs (faults-decided image) (λ _. decided))
+volume-first : (image : List ℕ) (tests : List Test) (gs : List {1} Ground) → (Sound image → Decide tests gs) → First (firstOf (volumeTests image ++ tests)) (faults image ++ gs)
+unfolding verdict
+volume-first image tests gs decided =
+    first-ground (volumeTests image ++ tests) (faults image ++ gs) (decide-both (volumeTests image) tests (faults image) gs (faults-decided image) (λ zero. decided (sound image zero)))
 
 -- calls on a file, by what they make of the opening; and calls that take a new name
 module _ (image name : List ℕ) (more : List {1} Ground) where
@@ -61,11 +80,51 @@ module _ (image name : List ℕ) (more : List {1} Ground) where
   unfolding onFile
   reading-first act = file-first (λ (o : Opened). onFile o act .number) (λ number. refl) refl
 
-  adding-first : (addition : Outcome) → First (addition .number) more
+  adding-first : (addition : Outcome) → (Sound image → First (addition .number) more)
       → First (adding (openOf image name) addition .number) (faults image ++ (unnamed name ∷ (ground 9 (Present image name) ∷ more)))
   unfolding openOf faults adding
-  adding-first addition =
+  adding-first addition first =
       present-first (nameTests image name) image name _ (name-decided image name) (name-passed image name) (λ (o : Opened). adding o addition .number) (λ number. refl) more (λ p k. refl)
+      (λ zero. first (name-passed image name zero .0))
+
+-- 13: the blocks that the call makes are the only ones of the facts
+overfull-decided : (image first places : List ℕ) (before : List Block) (ks : List ℕ) (chain : List Block) → Takes image first places before ks chain
+    → Decides (ltb 76 (length chain)) (Overfull image first places before (length ks))
+overfull-decided image first places before ks chain takes =
+    record {
+      yes-there = λ e. record { taken = record { ks = ks; so-many = refl; chain = chain; takes = takes }; over = ltb-true 76 (length chain) e };
+      not-there = λ e o.
+          let same = takes-one image first places before (o .taken .ks) ks (o .taken .chain) chain (o .taken .so-many) (o .taken .takes) takes .1 in
+          omega (arith, ltb-false 76 (length chain) e, o .over, ap length same);
+    }
+
+longer-decided : (image name : List ℕ) (p k : ℕ) → IsOpened image name p k → ltb (freeCount (sectorOf image 0)) 1 ≡ false
+    → Decides (ltb 76 (length (longerBlocks image k))) (Overfull image [] (placesIn image k) (blocks (chainOf (sectorOf image k))) 1)
+longer-decided image name p k o room =
+    overfull-decided image [] (placesIn image k) (blocks (chainOf (sectorOf image k))) (dataChoice (sectorOf image 0) ∷ []) (longerBlocks image k)
+    (append-takes image k (o .whole) (opened-listed image name p k o) (ltb-false (freeCount (sectorOf image 0)) 1 room))
+
+new-decided : (image : List ℕ) → Sound image → (many : ℕ) → ltb (freeCount (sectorOf image 0)) (1 + many) ≡ false → Decides (ltb 76 (length (newBlocks image many))) (NewOverfull image many)
+unfolding newSectors
+new-decided image is many room =
+    let k = descriptorChoice (sectorOf image 0) in
+    let free = ltb-false (freeCount (sectorOf image 0)) (1 + many) room in
+    let lowest = descriptor-lowest image is (omega (arith, free)) in
+    let decided : Decides (ltb 76 (length (newBlocks image many))) (Overfull image (k ∷ []) [] [] many) =
+    rw (choices-length many (marked 1 (sectorOf image 0) k)) at (overfull-decided image (k ∷ []) [] [] (newSectors image many) (newBlocks image many) (new-takes image many is free))
+    in
+    record {
+      yes-there = λ e. record { k = k; chosen = lowest; overfull = decided .yes-there e };
+      not-there = λ e o. decided .not-there e (rw (lowest-one image [] 2 (o .k) k (o .chosen) lowest) at (o .overfull));
+    }
+
+-- 15: and so is the text of the listing
+text-decided : (image : List ℕ) → Sound image → {room : ℕ} → Decides (ltb room (length (listingText image))) (TextOver image room)
+text-decided image is {room} =
+    record {
+      yes-there = λ e. record { text = listingText image; lists = listing-lists image is; over = ltb-true room (length (listingText image)) e };
+      not-there = λ e o. omega (arith, ltb-false room (length (listingText image)) e, o .over, ap length (lists-one image (o .text) (listingText image) (o .lists) (listing-lists image is)));
+    }
 
 -- each look
 judged-first : (image : List ℕ) → First (firstOf (volumeTests image)) (faults image ++ [])
@@ -73,12 +132,12 @@ unfolding First
 judged-first image = first-after (volumeTests image) (faults image) [] (firstOf (volumeTests image)) (faults-decided image) (λ some. refl) (λ zero. zero)
 
 look-first : {form : Form} (look : Look form) (buffer image : List ℕ) → First (numberIn form (seen look buffer image .answer)) (faults image ++ lookGrounds look buffer image)
-unfolding seen lookGrounds Decide verdict freeCountOf entryTests entryOf readTests reading readOf loadTests loading loadOf listingTests listingOf packTests
+unfolding seen lookGrounds Decide verdict freeCountOf entryTests entryOf readTests reading readOf loadTests lengthIn loading loadOf listingTests listingOf packTests
 look-first call.judge buffer image = judged-first image
 look-first call.freeCount buffer image = rw (amount-number (freeCountOf image)) (judged-first image)
 look-first call.summarize buffer image = rw (summary-number image) (judged-first image)
 look-first (call.entry place) buffer image =
-    rw (answer-number (entryOf image place (length buffer) .number)) (volume-first image _ _ (refl, at-most, λ _. (refl, below, λ _. tt)))
+    rw (answer-number (entryOf image place (length buffer) .number)) (volume-first image _ _ (λ is. (refl, at-most, λ _. (refl, below, λ _. tt))))
 look-first (call.read name offset) buffer image =
     rw (answer-number (readOf image name offset (length buffer) .number))
     (reading-first image name _ (reading image offset (length buffer))
@@ -87,8 +146,8 @@ look-first (call.load name) buffer image =
     rw (amount-number (loadOf image name (length buffer)))
     (reading-first image name _ (loading image (length buffer))
     (λ p k o. first-ground (loadTests image (length buffer) k) _ (refl, of-file image name p k o _ unequal, λ _. (refl, of-file image name p k o _ below, λ _. tt))))
-look-first call.list buffer image = rw (amount-number (listingOf image (length buffer))) (volume-first image _ _ (refl, below, λ _. tt))
-look-first call.pack buffer image = rw (answer-number (firstOf (packTests image buffer))) (volume-first image _ _ (refl, unequal, λ _. tt))
+look-first call.list buffer image = rw (amount-number (listingOf image (length buffer))) (volume-first image _ _ (λ is. (refl, text-decided image is, λ _. tt)))
+look-first call.pack buffer image = rw (answer-number (firstOf (packTests image buffer))) (volume-first image _ _ (λ is. (refl, unequal, λ _. tt)))
 
 -- each change
 no-ground : First 0 []
@@ -108,20 +167,20 @@ rename-first image old new =
     (λ zero. names-passed image old new zero .0) (λ (o : Opened). changing o (renaming image new) .number) (λ number. refl) _ refl
     (λ zero p k o.
     present-first [] image new [] tt (λ _. (o .whole, names-passed image old new zero .1)) (λ (o : Opened). adding o (tested (renameTests image k) (renamings image new k)) .number) (λ number. refl) _
-    (λ p k. refl) (protected-first image old p k o))
+    (λ p k. refl) (λ none. protected-first image old p k o))
 
 change-first : (change : Change) (image name : List ℕ) → First (outcome change image name .number) (grounds (call.change name change) image)
 unfolding outcome grounds changeGrounds Decide createOf creating createTests appendOf appending appendTests overwriteOf overwriting overwriteTests setBitOf settingBit storeOf storing storeTests deleteOf deleting deleteTests
 change-first (call.create status recordLength recordsPerSector) image name =
     adding-first image name _ (creating image name status recordLength recordsPerSector)
-    (first-ground (createTests image status) _ (refl, broken (status-among status) (among-status status), λ _. (refl, at-most, λ _. (refl, below, λ _. tt))))
+    (λ is. first-ground (createTests image status) _ (refl, broken (status-among status) (among-status status), λ _. (refl, at-most, λ _. (refl, below, λ _. tt))))
 change-first (call.append bytes) image name =
     changing-first image name _ (appending image bytes)
     (λ p k o.
     first-ground (appendTests image bytes k) _ (
       refl,
       of-file image name p k o _ equal,
-      λ _. (refl, of-file image name p k o _ equal, λ _. (refl, unequal, λ _. (refl, below, λ _. (refl, of-file image name p k o _ below, λ _. tt)))),
+      λ _. (refl, of-file image name p k o _ equal, λ _. (refl, unequal, λ _. (refl, below, λ room. (refl, of-file image name p k o _ (longer-decided image name p k o room), λ _. tt)))),
     ))
 change-first (call.overwrite offset bytes) image name =
     changing-first image name _ (overwriting image offset bytes)
@@ -132,7 +191,7 @@ change-first call.protect image name = changing-first image name [] (settingBit 
 change-first call.unprotect image name = changing-first image name [] (settingBit 3 0 image) (λ p k o. no-ground)
 change-first (call.store bytes) image name =
     adding-first image name _ (storing image name bytes)
-    (first-ground (storeTests image bytes) _ (refl, below, λ _. (refl, at-most, λ _. (refl, below, λ _. (refl, below, λ _. tt)))))
+    (λ is. first-ground (storeTests image bytes) _ (refl, below, λ _. (refl, at-most, λ _. (refl, below, λ room. (refl, new-decided image is _ room, λ _. tt)))))
 change-first call.delete image name =
     changing-first image name _ (deleting image) (λ p k o. first-ground (deleteTests image k) _ (refl, of-file image name p k o _ equal, λ _. tt))
 change-first (call.rename new) image name = rename-first image name new

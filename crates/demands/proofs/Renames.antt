@@ -26,7 +26,7 @@ use Rattle.rules.proofs.Splice.{splice-length, splice-front, splice-take, splic
 use Rattle.rules.proofs.Sectors.{sector-length}
 use Rattle.rules.proofs.Name.{name-is}
 use Rattle.rules.proofs.Descriptor.{chain-same, front-changed}
-use Rattle.rules.proofs.Map.{count-here, count-more}
+use Rattle.rules.proofs.Map.{count-none, count-here, count-more, count-apart}
 use Rattle.rules.proofs.Indexed.{without-length, placed-length, index-length}
 use Rattle.rules.proofs.Staying.{map-agree}
 use Rattle.rules.proofs.Opening.{name-passed, opening-met, find-looks, opened-by, refused-by, unfound, changed-done, added-done, place-many}
@@ -37,9 +37,12 @@ use Rattle.rules.proofs.Altered.{own-inside, place-other}
 use Rattle.demands.specs.Catalogue.{putIn, takenOut, named}
 use Rattle.demands.specs.Call.{rename}
 use Rattle.demands.specs.Ours.{outcome}
-use Rattle.demands.specs.Effects.{effect, Done, renamed, Does}
+use Rattle.demands.specs.Effects.{effect, Done, renamed}
+use Rattle.demands.specs.Grounds.{Has}
+use Rattle.demands.specs.Touches.{Numbers, Stays, Touches}
+use Rattle.demands.specs.Does.{Does}
 use Rattle.demands.proofs.Filed.{named-file}
-use Rattle.demands.proofs.Replacing.{catalogue-after, replaced-done}
+use Rattle.demands.proofs.Replacing.{catalogue-after, replaced-done, numbers-after, lies-after, found-has}
 
 -- a descriptor with another name: all bytes from 10 on stand as they stood
 module _ (d new : List ℕ) (long : length d ≡ 256) (ten : length new ≡ 10) where
@@ -57,6 +60,10 @@ module _ (d new : List ℕ) (long : length d ≡ 256) (ten : length new ≡ 10) 
   new-descriptor n is rules =
       let status = same-byte 12 (omega arith) in
       front-changed d (splice d 0 new) (splice-length d 0 new) n (λ i low. same-byte i (omega arith)) (λ j other. rw status) (rw new-name is) (rw status (rules .status)) rules
+
+-- the number that goes is the one that comes
+still-listed : (image after : List ℕ) (k : ℕ) → Numbers image after (k ∷ []) (k ∷ []) → Numbers image after [] []
+still-listed image after k numbers = record { lists = λ j. omega (arith, numbers .lists j, count-none j); laid = numbers .laid }
 
 -- the writes, and their sectors
 abbrev pub renamings : List ℕ → List ℕ → ℕ → List Write
@@ -136,6 +143,15 @@ module _ (image old new : List ℕ) (k : ℕ) (is : Sound image) (there : 1 ≤ 
       (catalogue-after replaced old is-named ∙ rw (file-now, named-file image old k is there is-named))
       (rw places-now refl)
 
+  renamed-stays : Stays image after new k (1 ∷ (k ∷ []))
+  renamed-stays =
+      record {
+        lies =
+            lies-after replaced (placesIn image k) (chainOf (sectorOf image k)) places-now
+            (ap chainOf sector-k ∙ same-chain (sectorOf image k) new long (is-name .ten));
+        others = λ j inside apart. let some = count-apart j 1 (k ∷ []) apart in others j (count-apart j k [] (some .1) .0) (some .0);
+      }
+
 -- numbers 1 to 7 passed: a sound volume, and both names keep the rule
 pub names-passed : (image old new : List ℕ) → firstOf (namesTests image old new) ≡ 0 → (Sound image × (nameRule old ≡ true)) × (nameRule new ≡ true)
 unfolding namesTests Passed
@@ -145,7 +161,10 @@ names-passed image old new e =
 
 -- number 0: the old name is found and the new one is not, and the file is not protected
 ruled-done : (image old new : List ℕ) → firstOf (namesTests image old new) ≡ 0 → renameOf image old new .number ≡ 0
-    → Done image (written image (renameOf image old new .writes)) old (effect (putIn (renamed new (named old (catalogue image))) (takenOut old (catalogue image))) 0 0)
+    →
+    let after = written image (renameOf image old new .writes) in
+    Done image after old (effect (putIn (renamed new (named old (catalogue image))) (takenOut old (catalogue image))) 0 0)
+    × Has image old (λ k. Stays image after new k (1 ∷ (k ∷ [])) × Numbers image after [] [])
 unfolding renameOf renaming
 ruled-done image old new ruled-by e =
     let tests = namesTests image old new in
@@ -155,11 +174,18 @@ ruled-done image old new ruled-by e =
     let opened = opened-by tests image old (λ z. ruled .0) (was .place) k (was .found-at) in
     let there = opened-listed image old (was .place) k opened in
     let added = added-done (findIn image new 0 (files image)) (tested (renameTests image k) (renamings image new k)) (λ number found. absurd (find-looks image new 0 (files image) number found)) (was .number) in
-    rw (was .is, added .is, unless-passed (renameTests image k) (renamings image new k) [] (added .number))
-    (renamed-done image old new k (opened .whole) there (opened .named) (name-is new (ruled .1)) (unfound image new 0 (files image) (added .absent)))
+    let is-name = name-is new (ruled .1) in
+    let absent = unfound image new 0 (files image) (added .absent) in
+    rw (was .is, added .is, unless-passed (renameTests image k) (renamings image new k) [] (added .number)) (
+      renamed-done image old new k (opened .whole) there (opened .named) is-name absent,
+      found-has image old (was .place) k opened (
+        renamed-stays image old new k (opened .whole) there (opened .named) is-name absent,
+        still-listed image _ k (numbers-after (replaced image old new k (opened .whole) there (opened .named) is-name absent) (sector1 image old new k (opened .whole) there (opened .named) is-name absent)),
+      ),
+    )
 
 pub renames : (new : List ℕ) → Does (rename new)
-unfolding outcome renameOf changing
+unfolding outcome renameOf changing Touches
 renames new image old e =
     elim (ℕ-discrete (firstOf (namesTests image old new)) 0) [
       | yes none ↦ ruled-done image old new none e

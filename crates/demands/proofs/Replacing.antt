@@ -1,6 +1,6 @@
 -- What a file that goes and one that comes leave, in the words of the demands: the frame, the catalogue and the free count. Last, a file changed where it stands, and one whose descriptor is changed in a byte.
 use mathlib.Core.Path.{_≡_, refl, sym, ap, _∙_}
-use mathlib.Core.List.{List, map}
+use mathlib.Core.List.{List, [], _∷_, _++_, map, append-nil}
 use Prim.Native.Nat.{ℕ, _+_, _*_, _≤_, _<_}
 use native.Mathlib.Omega.{arith}
 use lib.ListN.{length, set, length-append, length-set}
@@ -8,19 +8,22 @@ use lib.Seq.{getD-set-other, take-set-lt}
 use Rattle.rules.specs.Bytes.{splice}
 use Rattle.rules.specs.Sectors.{sectorOf, sectorCount}
 use Rattle.rules.specs.Map.{count}
-use Rattle.rules.specs.Index.{without}
-use Rattle.rules.specs.Descriptor.{IsDescriptor}
+use Rattle.rules.specs.Index.{indexOf, without}
+use Rattle.rules.specs.Descriptor.{nameOf, chainOf, IsDescriptor}
 use Rattle.rules.specs.Volume.{File, files, nameIn, placesIn, headerIn, contentsIn, fileIn, catalogue}
-use Rattle.rules.proofs.Map.{count-other, count-more}
+use Rattle.rules.proofs.Map.{count-none, count-here, count-other, count-more, count-apart, count-append}
 use Rattle.rules.proofs.Indexed.{without-count, placed-count}
 use Rattle.rules.proofs.Staying.{files-kept}
 use Rattle.rules.proofs.Descriptor.{name-same, chain-same}
 use Rattle.rules.proofs.Opening.{IsOpened}
 use Rattle.rules.proofs.Listed.{listed-name, opened-listed}
 use Rattle.rules.proofs.Replaced.{Slot, none, at, staying, coming, held, IsListed, IsNew, Replaced, descriptor-stands, sector-stands, name-stands, file-stands, sound-after, free-after}
-use Rattle.rules.proofs.Altered.{Altered, files-same, altered, redescribed, redescribed-file}
+use Rattle.rules.proofs.Written.{sector-other}
+use Rattle.rules.proofs.Altered.{Altered, files-same, altered, own-here, redescribed, redescribed-file}
 use Rattle.demands.specs.Catalogue.{putIn, takenOut, changed}
 use Rattle.demands.specs.Effects.{Kept, effect, Done}
+use Rattle.demands.specs.Grounds.{Has}
+use Rattle.demands.specs.Touches.{Numbers, Lies, Stays}
 use Rattle.demands.proofs.Filed.{file-name, placed-files, taken-out, changed-files}
 
 -- the file that goes has that name
@@ -93,6 +96,39 @@ module _ {image after name : List ℕ} {goes comes : Slot} (r : Replaced image a
         free = omega (arith, sizes, free-after r);
       }
 
+-- sector 1 where it was laid anew, and the file that comes
+abbrev pub those : Slot → List ℕ
+those none = []
+those (at k) = k ∷ []
+
+pub numbers-after : {image after name : List ℕ} {goes comes : Slot} (r : Replaced image after name goes comes)
+    → sectorOf after 1 ≡ indexOf (coming image name comes (staying goes (files image))) → Numbers image after (those goes) (those comes)
+numbers-after {image} {after} {name} {goes} {comes} r laid =
+    let others = staying goes (files image) in
+    record {
+      lists = λ j. omega (arith, ap (count j) (r .numbered .files-are), went image goes (r .listed) j, came image name comes j others);
+      laid = laid ∙ ap indexOf (sym (r .numbered .files-are));
+    }
+  where
+    went : (image : List ℕ) (goes : Slot) → IsListed image goes → (j : ℕ) → count j (files image) ≡ count j (those goes) + count j (staying goes (files image))
+    went image none listed j = omega (arith, count-none j)
+    went image (at k) listed j = omega (arith, without-count k j (files image) listed, count-append j (k ∷ []) (without k (files image)))
+
+    came : (image name : List ℕ) (comes : Slot) (j : ℕ) (ks : List ℕ) → count j (coming image name comes ks) ≡ count j (those comes) + count j ks
+    came image name none j ks = omega (arith, count-none j)
+    came image name (at k) j ks = omega (arith, placed-count k j image name ks, count-append j (k ∷ []) ks)
+
+pub lies-after : {image after name : List ℕ} {goes : Slot} {k : ℕ} (r : Replaced image after name goes (at k)) (places chain : List ℕ)
+    → placesIn after k ≡ places → chainOf (sectorOf after k) ≡ chain → Lies after name k places chain
+lies-after {image} {after} {name} {goes} {k} r places chain placed chained =
+    let others = staying goes (files image) in
+    record {
+      listed = omega (arith, ap (count k) (r .numbered .files-are), placed-count k k image name others, count-here k others);
+      named = r .new .named;
+      places-are = placed;
+      chain-is = chained;
+    }
+
 -- a file changed where it stands
 pub altered-done : {image after : List ℕ} {k : ℕ} {fresh : List ℕ} → Altered image after k fresh → (name : List ℕ) → name ≡ nameIn image k
     → (change : File → File) → change (fileIn image k) ≡ fileIn after k → Done image after name (effect (changed name change (catalogue image)) (length fresh) 0)
@@ -104,17 +140,48 @@ altered-done {image} {after} {k} {fresh} a name is change e =
     ∙ changed-files image name k is after change e (files image) (a .listed) (λ j there. listed-name image (a .sound) j k there (a .listed)) (file-stands r))
     (omega (arith, ap length (a .places), length-append (placesIn image k) fresh))
 
+pub altered-lies : {image after : List ℕ} {k : ℕ} {fresh : List ℕ} → Altered image after k fresh → (name : List ℕ) → name ≡ nameIn image k → (chain : List ℕ) → chainOf (sectorOf after k) ≡ chain
+    → Lies after name k (placesIn image k ++ fresh) chain
+altered-lies {image} {after} {k} {fresh} a name is chain chained = rw is (lies-after (altered a) (placesIn image k ++ fresh) chain (a .places) chained)
+
+-- the file that was found, of which something holds
+pub found-has : (image name : List ℕ) (p k : ℕ) → IsOpened image name p k → {holds : ℕ → Type 0} → holds k → Has image name holds
+found-has image name p k o so = record { sector = k; listed = opened-listed image name p k o; named = sym (o .named); so = so }
+
 -- a byte of its descriptor, behind the name and before the chain
-pub byte-done : (image name : List ℕ) (p k : ℕ) → IsOpened image name p k → (i value : ℕ) → 10 ≤ i → i < 28 → IsDescriptor (sectorCount image) (set (sectorOf image k) i value)
-    → (change : File → File) → change (fileIn image k) ≡ record { header = set (headerIn image k) i value; contents = contentsIn image k }
-    → Done image (splice image (256 * k) (set (sectorOf image k) i value)) name (effect (changed name change (catalogue image)) 0 0)
-unfolding nameIn headerIn
-byte-done image name p k o i value low high rules change e =
-    let d = sectorOf image k in
-    let there = opened-listed image name p k o in
-    let same = length-set d i value in
-    let long = same ∙ o .long in
-    let named = name-same d (set d i value) same (λ j h. getD-set-other d i j value 0 (λ is. omega arith)) in
-    let chain = chain-same d (set d i value) same (λ j h. getD-set-other d i j value 0 (λ is. omega arith)) in
-    altered-done (redescribed image k (o .whole) there (set d i value) long rules named chain) name (o .named) change
-    (e ∙ sym (redescribed-file image k (o .whole) there (set d i value) long rules named chain ∙ rw (take-set-lt 28 d i value high)))
+module _ (image name : List ℕ) (p k : ℕ) (o : IsOpened image name p k) (i value : ℕ) (low : 10 ≤ i) (high : i < 28) (rules : IsDescriptor (sectorCount image) (set (sectorOf image k) i value)) where
+  abbrev d : List ℕ
+  d = sectorOf image k
+
+  abbrev byte-after : List ℕ
+  byte-after = splice image (256 * k) (set d i value)
+
+  long : length (set d i value) ≡ 256
+  long = length-set d i value ∙ o .long
+
+  named : nameOf (set d i value) ≡ nameIn image k
+  unfolding nameIn
+  named = name-same d (set d i value) (length-set d i value) (λ j h. getD-set-other d i j value 0 (λ is. omega arith))
+
+  chain : chainOf (set d i value) ≡ chainOf d
+  chain = chain-same d (set d i value) (length-set d i value) (λ j h. getD-set-other d i j value 0 (λ is. omega arith))
+
+  byte-altered : Altered image byte-after k []
+  byte-altered = redescribed image k (o .whole) (opened-listed image name p k o) (set d i value) long rules named chain
+
+  pub byte-done : (change : File → File) → change (fileIn image k) ≡ record { header = set (headerIn image k) i value; contents = contentsIn image k }
+      → Done image byte-after name (effect (changed name change (catalogue image)) 0 0)
+  unfolding headerIn
+  byte-done change e =
+      altered-done byte-altered name (o .named) change
+      (e ∙ sym (redescribed-file image k (o .whole) (opened-listed image name p k o) (set d i value) long rules named chain ∙ rw (take-set-lt 28 d i value high)))
+
+  pub byte-stays : Has image name (λ j. Stays image byte-after name j (j ∷ []))
+  byte-stays =
+      found-has image name p k o
+      (record {
+        lies =
+            rw (append-nil (placesIn image k)) at
+            (altered-lies byte-altered name (o .named) (chainOf d) (ap chainOf (own-here image k (o .whole) (opened-listed image name p k o) k (set d i value) long (omega (arith, count-here k (placesIn image k)))) ∙ chain));
+        others = λ j inside apart. sector-other image k (set d i value) long j (count-apart j k [] apart .0);
+      })

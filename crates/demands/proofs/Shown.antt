@@ -6,9 +6,9 @@ use Prim.Native.Nat.{ℕ, _<_}
 use native.Mathlib.Omega.{arith}
 use lib.ListN.{length, getD, take, length-map}
 use borrow.Author.Tests.{leb-false}
-use Rattle.rules.specs.Sectors.{sectorOf}
-use Rattle.rules.specs.Descriptor.{sectorsOf, fileKind}
-use Rattle.rules.specs.Volume.{files, nameIn, placesIn, headerIn, fileIn, catalogue}
+use Rattle.rules.specs.Sectors.{sectorOf, sectorCount}
+use Rattle.rules.specs.Descriptor.{nameOf, sectorsOf, IsDescriptor}
+use Rattle.rules.specs.Volume.{files, nameIn, placesIn, fileIn, catalogue}
 use Rattle.rules.specs.Sound.{Sound, fileAt}
 use Rattle.rules.specs.Tests.{Passed}
 use Rattle.rules.specs.Verdict.{volumeTests}
@@ -23,26 +23,18 @@ use Rattle.rules.specs.declared.Answer.the-variants.{Done}
 use Rattle.rules.specs.declared.Opened.{Opened}
 use Rattle.rules.specs.declared.Opened.the-variants.{At, Absent, Refused}
 use Rattle.rules.proofs.Tests.{all-passed, passed-both, unless-passed}
+use Rattle.rules.proofs.Volume.{contents-count, content-at, header-at, header-name}
 use Rattle.rules.proofs.Outcome.{reported-given}
 use Rattle.rules.proofs.Opening.{IsOpened, opened-is, open-refused}
 use Rattle.rules.proofs.Listed.{opened-listed}
-use Rattle.demands.specs.Catalogue.{named}
-use Rattle.demands.specs.Faithful.{fileOf, lengthIs}
-use Rattle.demands.proofs.Faithful.{header-at, header-name, length-in, content-at, file-of}
-use Rattle.demands.proofs.Filed.{named-file}
+use Rattle.demands.specs.Catalogue.{fileOf, lengthIs, rowIs, named}
+use Rattle.demands.proofs.Lines.{kind-in}
+use Rattle.demands.proofs.Filed.{file-of, named-file}
 
--- the header holds what a row shows
-header-row : (image : List ℕ) (k : ℕ) → rowOf (headerIn image k) ≡ rowOf (sectorOf image k)
-unfolding rowOf fileKind nameIn
-header-row image k =
-    rw (
-      header-name image k,
-      header-at image k 12 (omega arith),
-      header-at image k 14 (omega arith),
-      header-at image k 15 (omega arith),
-      header-at image k 16 (omega arith),
-      header-at image k 17 (omega arith),
-    )
+-- what a row shows of a descriptor is that of its file
+row-in : (image : List ℕ) → Sound image → (k : ℕ) → IsDescriptor (sectorCount image) (sectorOf image k) → rowOf (sectorOf image k) ≡ rowIs (fileIn image k)
+unfolding rowOf fileIn nameIn nameOf
+row-in image is k d = rw (kind-in image is k d, contents-count (sectorCount image) image k d, header-name image k, header-at image k 12 (omega arith))
 
 pub catalogue-length : (image : List ℕ) → length (catalogue image) ≡ length (files image)
 unfolding catalogue
@@ -56,12 +48,13 @@ module _ (image : List ℕ) (is : Sound image) (place room : ℕ) (e : entryOf i
 
   pub entry-bytes : entryOf image place room .bytes ≡ fileOf image place .header
   unfolding entryOf fileIn
-  entry-bytes = unless-passed (entryTests image place room) _ [] e ∙ rw (file-of image is place entry-inside)
+  entry-bytes = unless-passed (entryTests image place room) _ [] e ∙ rw (file-of image place entry-inside)
 
-  pub entry-answers : _≡_ {A = Entry} (record { answer = answerOf (entryOf image place room .number); row = entryRow image place room }) (record { answer = Done; row = rowOf (fileOf image place .header) })
-  unfolding entryOf entryRow answerOf fileIn
+  pub entry-answers : _≡_ {A = Entry} (record { answer = answerOf (entryOf image place room .number); row = entryRow image place room }) (record { answer = Done; row = rowIs (fileOf image place) })
+  unfolding entryOf entryRow answerOf
   entry-answers =
-      rw (e, unless-passed (entryTests image place room) (rowOf (sectorOf image (fileAt image place))) noRow e, file-of image is place entry-inside, header-row image (fileAt image place))
+      let k = fileAt image place in
+      rw (e, unless-passed (entryTests image place room) (rowOf (sectorOf image k)) noRow e, file-of image place entry-inside, row-in image is k (is .descriptors place entry-inside))
 
 -- a reading of a named file that gave number 0: the file was found
 record Read (image name : List ℕ) (reading : ℕ → Report) : Type 0 where
@@ -93,7 +86,11 @@ read-is image name offset room e =
     let tests = readTests image offset room k in
     let inside = leb-false (sectorsOf (sectorOf image k)) offset (all-passed tests (r .number) .0) in
     rw (r .is, unless-passed tests (sectorOf image (getD (placesIn image k) offset 0)) [] (r .number), opened-named image name (r .place) k (r .opened))
-    (sym (content-at image k (r .opened .descriptor) offset inside))
+    (sym (content-at (sectorCount image) image k (r .opened .descriptor) offset inside))
+
+length-in : (image : List ℕ) (k : ℕ) → IsDescriptor (sectorCount image) (sectorOf image k) → lengthIs (fileIn image k) ≡ lengthIn image k
+unfolding lengthIn fileIn
+length-in image k is = rw (contents-count (sectorCount image) image k is, header-at image k 16 (omega arith))
 
 pub load-is : (image name : List ℕ) (room : ℕ) → loadOf image name room .number ≡ 0 →
     let file = named name (catalogue image) in

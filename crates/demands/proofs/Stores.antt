@@ -1,4 +1,4 @@
--- Store, where its number is 0: a new program was entered, with a free sector for each 256 of its bytes and for the rest; and a load of it gives those bytes.
+-- Store, where its number is 0: a new program was entered, with a free sector for each 256 of its bytes and for the rest.
 use mathlib.Core.Path.{_≡_, refl}
 use mathlib.Core.List.{List, [], _∷_, _++_}
 use Prim.Native.Nat.{ℕ, _+_, _%_, _≤_, _<_}
@@ -6,19 +6,16 @@ use native.Mathlib.Omega.{arith}
 use lib.ListN.{length}
 use borrow.Author.Tests.{ltb-false, leb-false}
 use Rattle.rules.specs.Sectors.{Write, sectorOf, sectorCount, written}
-use Rattle.rules.specs.Kind.{kindOf, programLength, IsStatus, IsKind}
+use Rattle.rules.specs.Kind.{kindOf, sectorsFor, IsStatus, IsKind}
 use Rattle.rules.specs.Map.{count, freeCount, marked, markedAll}
 use Rattle.rules.specs.Chain.{extendedAll}
 use Rattle.rules.specs.Descriptor.{newDescriptor, withChain}
-use Rattle.rules.specs.Volume.{File, files, catalogue}
-use Rattle.rules.specs.Sound.{Sound}
+use Rattle.rules.specs.Volume.{files, catalogue}
 use Rattle.rules.specs.Choice.{descriptorChoice, dataChoices}
-use Rattle.rules.specs.Outcome.{gives}
 use Rattle.rules.specs.Tests.{Passed}
 use Rattle.rules.specs.Opening.{openOf}
 use Rattle.rules.specs.Calls.Create.{entered}
-use Rattle.rules.specs.Calls.Load.{loadOf}
-use Rattle.rules.specs.Calls.Store.{sectorsFor, dataWrites, newSectors, newBlocks, storeTests, storing, storeOf}
+use Rattle.rules.specs.Calls.Store.{dataWrites, newSectors, newBlocks, storeTests, storing, storeOf}
 use Rattle.rules.proofs.Name.{name-is}
 use Rattle.rules.proofs.Choice.{Chosen, sound-fenced, choices-length, new-free, new-once}
 use Rattle.rules.proofs.Listed.{label-long}
@@ -27,11 +24,13 @@ use Rattle.rules.proofs.Opening.{IsAbsent, absent-is, open-refused, added-done}
 use Rattle.demands.specs.Catalogue.{putIn}
 use Rattle.demands.specs.Call.{store}
 use Rattle.demands.specs.Ours.{outcome}
-use Rattle.demands.specs.Faithful.{lengthIs}
-use Rattle.demands.specs.Effects.{effect, Done, newHeader, pieces, newProgram, Does, StoredLoads}
-use Rattle.demands.proofs.NewFile.{header-name, header-status, header-end, with-chain-made}
+use Rattle.demands.specs.Effects.{effect, Done, newHeader, pieces, newProgram}
+use Rattle.demands.specs.Taking.{ForDescriptor, Takes}
+use Rattle.demands.specs.Touches.{Enters, Touches}
+use Rattle.demands.specs.Does.{Does}
+use Rattle.demands.proofs.NewFile.{with-chain-made}
+use Rattle.demands.proofs.Taking.{descriptor-lowest, new-takes}
 use Rattle.demands.proofs.Entering.{new-file-done}
-use Rattle.demands.proofs.Pieces.{pieces-length, joined-pieces, put-loads}
 
 program-status : IsStatus 0x01
 program-status = record { others = refl; excludes = λ e. (refl, refl) }
@@ -43,29 +42,17 @@ program-kind c endOffset some = some
 -- the new program, with c sectors ks
 program-done : (image name bytes : List ℕ) (k : ℕ) (ks : List ℕ) (c : ℕ) → length ks ≡ c → 1 ≤ c → c ≤ 4096 → IsAbsent image name → length (files image) < 127
     → ((j : ℕ) → count j (k ∷ ks) ≤ 1) → ((j : ℕ) → 1 ≤ count j (k ∷ ks) → Chosen (sectorCount image) (sectorOf image 0) j) → length (extendedAll [] ks) ≤ 76
+    → ForDescriptor image k → Takes image (k ∷ []) [] [] ks (extendedAll [] ks)
     → let endOffset = length bytes % 256 in
     let descriptor = withChain (newDescriptor name 0x01 0 endOffset 0) c (extendedAll [] ks) in
-    Done image (written image (dataWrites bytes ks ++ entered image name k descriptor (markedAll 1 (sectorOf image 0) (k ∷ ks)))) name
-    (effect (putIn (record { header = newHeader name 0x01 0 c endOffset 0; contents = pieces c bytes }) (catalogue image)) (1 + c) 0)
-program-done image name bytes k ks c many some small absent few once free short =
+    let after = written image (dataWrites bytes ks ++ entered image name k descriptor (markedAll 1 (sectorOf image 0) (k ∷ ks))) in
+    Done image after name (effect (putIn (record { header = newHeader name 0x01 0 c endOffset 0; contents = pieces c bytes }) (catalogue image)) (1 + c) 0) × Enters image after name c
+program-done image name bytes k ks c many some small absent few once free short chosen takes =
     let endOffset = length bytes % 256 in
     let made = with-chain-made name 0x01 0 endOffset 0 (name-is name (absent .rule) .ten) c (extendedAll [] ks) in
     rw many at
     (new-file-done image name bytes k ks 0x01 0 endOffset 0 absent few once free short (omega (arith, many, small)) program-status (program-kind (length ks) endOffset (omega (arith, many, some)))
-    (withChain (newDescriptor name 0x01 0 endOffset 0) c (extendedAll [] ks)) (rw many made))
-
--- a load of it
-program-loads : (image name bytes : List ℕ) (c : ℕ) (others : List File) → Sound image → length name ≡ 10 → c ≡ sectorsFor (length bytes)
-    → catalogue image ≡ putIn (record { header = newHeader name 0x01 0 c (length bytes % 256) 0; contents = pieces c bytes }) others → loadOf image name (length bytes) ≡ gives (length bytes) bytes
-unfolding programLength
-program-loads image name bytes c others is ten many put =
-    let endOffset = length bytes % 256 in
-    let header = newHeader name 0x01 0 c endOffset 0 in
-    let file : File = record { header = header; contents = pieces c bytes } in
-    let status = header-status name 0x01 0 endOffset 0 ten c in
-    let long : lengthIs file ≡ length bytes = rw (pieces-length c bytes, header-end name 0x01 0 endOffset 0 ten c, many) (omega arith) in
-    let load = put-loads image file others is put (rw status) in
-    rw (header-name name 0x01 0 endOffset 0 ten c, long, joined-pieces c bytes (omega (arith, many))) at load
+    (withChain (newDescriptor name 0x01 0 endOffset 0) c (extendedAll [] ks)) (rw many made) chosen takes)
 
 -- what is stored, with the sectors chosen for it
 module _ (image name bytes : List ℕ) where
@@ -85,26 +72,18 @@ module _ (image name bytes : List ℕ) where
   writes = dataWrites bytes ks ++ entered image name k (withChain (newDescriptor name 0x01 0 (length bytes % 256) 0) c (extendedAll [] ks)) (markedAll 1 sector0 (k ∷ ks))
 
   stored-done : IsAbsent image name → Passed (storeTests image bytes)
-      → Done image (written image writes) name (effect (putIn (newProgram name bytes) (catalogue image)) (1 + c) 0)
+      → Done image (written image writes) name (effect (putIn (newProgram name bytes) (catalogue image)) (1 + c) 0) × Enters image (written image writes) name c
   unfolding storeTests newBlocks newSectors Passed
   stored-done absent passed =
       let fence = sound-fenced image (absent .whole) in
       let free = ltb-false (freeCount sector0) (1 + c) (passed .1 .1 .0) in
       program-done image name bytes k ks c (choices-length c (marked 1 sector0 k)) (omega arith) (omega (arith, ltb-false 32768 (length bytes) (passed .0))) absent
       (leb-false 127 (length (files image)) (passed .1 .0)) (new-once (sectorCount image) sector0 c (label-long image (absent .whole)) fence free) (new-free (sectorCount image) sector0 c (label-long image (absent .whole)) fence free)
-      (ltb-false 76 (length (extendedAll [] ks)) (passed .1 .1 .1 .0))
+      (ltb-false 76 (length (extendedAll [] ks)) (passed .1 .1 .1 .0)) (descriptor-lowest image (absent .whole) (omega (arith, free))) (new-takes image c (absent .whole) free)
 
 pub stores : (bytes : List ℕ) → Does (store bytes)
-unfolding outcome storeOf storing newBlocks newSectors
+unfolding outcome storeOf storing newBlocks newSectors Touches
 stores bytes image name e =
     let added = added-done (openOf image name) (storing image name bytes) (open-refused image name) e in
     let tests = storeTests image bytes in
     rw (added .is, unless-passed tests (writes image name bytes) [] (added .number)) (stored-done image name bytes (absent-is image name (added .absent)) (all-passed tests (added .number)))
-
-pub stored-loads : StoredLoads
-unfolding outcome storeOf
-stored-loads image name bytes e =
-    let added = added-done (openOf image name) (storing image name bytes) (open-refused image name) e in
-    let done = stores bytes image name e in
-    let rule = absent-is image name (added .absent) .rule in
-    program-loads _ name bytes (sectorsFor (length bytes)) (catalogue image) (done .sound) (name-is name rule .ten) refl (done .catalogue-is)

@@ -30,7 +30,7 @@ same-entry entry row report said = go (entry .answer) (entry .row) (says-answer 
     go : (answer : Answer) (is : Row) → answer ≡ answerOf (report .number) → is ≡ row → _≡_ {A = Entry} (record { answer = answer; row = is }) (record { answer = answerOf (report .number); row = row })
     go answer is e f = rw (e, f)
 
-same-result : (form : Form) (answer answer′ : Answered form) (buffer buffer′ image image′ : List ℕ) → answer ≡ answer′ → buffer ≡ buffer′ → image ≡ image′
+pub same-result : (form : Form) (answer answer′ : Answered form) (buffer buffer′ image image′ : List ℕ) → answer ≡ answer′ → buffer ≡ buffer′ → image ≡ image′
     → _≡_ {A = Result form} (record { answer = answer; buffer = buffer; image = image }) (record { answer = answer′; buffer = buffer′; image = image′ })
 same-result form answer answer′ buffer buffer′ image image′ a b i = rw (a, b, i)
 

@@ -1,68 +1,49 @@
--- Demand 2 shuts out the wrong versions that the paper names. First what it asks of any version on three calls: create and the free count on a volume just formatted,
--- and an append on case M's volume; then each wrong version departs from one of these.
+-- Demand 2 shuts out the wrong versions. One that meets it is ours, so its numbers are those computed of case M's volume, to whose file NOTES a sector can be appended; the others depart from
+-- what demand 2 says of the sectors.
 use mathlib.Core.Path.{_≡_, refl, sym, ap, _∙_}
 use mathlib.Core.Bool.{true}
-use mathlib.Core.List.{List, [], _∷_, _++_, map}
-use mathlib.Core.Logic.{_⊎_, inl, inr}
-use Prim.Native.Nat.{ℕ, _+_, _-_, _≤_}
+use mathlib.Core.List.{List, [], _∷_, map}
+use mathlib.Core.Logic.{inl, inr}
+use Prim.Native.Nat.{ℕ, _+_, _-_, _≤_, _<_}
 use native.Mathlib.Omega.{arith}
 use lib.ListN.{length}
 use Rattle.rules.specs.Bytes.{allAre}
 use Rattle.rules.specs.Sectors.{sectorOf, sectorCount}
 use Rattle.rules.specs.Name.{nameByte, padded, nameRule}
-use Rattle.rules.specs.Map.{count, freeCount, marked}
+use Rattle.rules.specs.Map.{mapBit, count}
+use Rattle.rules.specs.declared.Block.{Block}
 use Rattle.rules.specs.Volume.{files, fileHolders, holders, fileIn, catalogue}
-use Rattle.rules.specs.Sound.{Sound}
-use Rattle.rules.specs.Verdict.{volumeTests, verdict}
-use Rattle.rules.specs.Outcome.{amountOf}
+use Rattle.rules.specs.Tests.{firstOf}
+use Rattle.rules.specs.Verdict.{sizeRule, volumeTests, verdict}
+use Rattle.rules.specs.Calls.Summary.{freeCountOf}
 use Rattle.rules.specs.Calls.Format.{formatted}
 use Rattle.rules.specs.Calls.Append.{appendOf}
 use Rattle.rules.specs.declared.Amount.the-variants as amount
-use Rattle.rules.proofs.Name.{name-is}
-use Rattle.rules.proofs.Verdict.{sound, passes}
-use Rattle.rules.proofs.Free.{free-holders}
+use Rattle.rules.proofs.Map.{count-none, count-other}
+use Rattle.rules.proofs.Marking.{all-other}
+use Rattle.rules.proofs.Verdict.{sound}
 use Rattle.rules.proofs.Formatted.{formatted-length}
-use Rattle.rules.proofs.Outcome.{reported-given}
+use Rattle.rules.proofs.Altered.{own-inside}
 use Rattle.demands.specs.Catalogue.{named}
 use Rattle.demands.specs.Call as call
-use Rattle.demands.specs.Call.{Call, Version, answerNumber, numberOf}
-use Rattle.demands.specs.Ours.{outcome, ours}
-use Rattle.demands.specs.Grounds.{Ground, First, faults, lookGrounds, changeGrounds, grounds}
+use Rattle.demands.specs.Call.{Change, Call, Result, Version, formOf, numberIn, numberOf}
+use Rattle.demands.specs.Ours.{seen, outcome, ours}
 use Rattle.demands.specs.CaseM.{notes, caseM}
 use Rattle.demands.specs.Bench.{diskX, geometry}
 use Rattle.demands.specs.Formatting.{EmptyVolume, Formatting}
+use Rattle.demands.specs.Taking.{Free, ForData, Takes}
+use Rattle.demands.specs.Grounds.{Has}
+use Rattle.demands.specs.Touches.{Touches}
 use Rattle.demands.specs.Demand2.{FreeIs, Shows, Means, Demand2}
-use Rattle.demands.specs.Wrong.{fixed, refusesAlways, answersSame, doesNothing, invented, inventsFree, marksFirst}
+use Rattle.demands.specs.Unique.{OnlyOurs}
+use Rattle.demands.specs.Wrong.{NeverDone, OneNumber, DoesNothing, InventsFree, OnlyReports, Instance, after, Wipes, MovesData, TakesHigher, WrongVersions}
 use Rattle.demands.proofs.Formatting.{formatting}
-use Rattle.demands.proofs.Plain.{answer-number}
+use Rattle.demands.proofs.Plain.{answer-number, amount-number}
 use Rattle.demands.proofs.Computed.{secondSector, computed}
+use Rattle.demands.proofs.Touched.{behind-system, of-first}
+use Rattle.demands.proofs.Complete.{only-ours}
 
--- a ground that is not there is passed, and one that is there gives its number
-passed : {There Is More : Type 0} → (There × Is) ⊎ ((There → ⊥) × More) → (There → ⊥) → More
-passed (inl met) none = absurd (none (met .0))
-passed (inr past) none = past .1
-
-met : {There Is More : Type 0} → (There × Is) ⊎ ((There → ⊥) × More) → There → Is
-met (inl here) there = here .1
-met (inr past) there = absurd (past .0 there)
-
--- a sound image has none of the faults 1 to 6
-faultless : (image : List ℕ) → Sound image → (given : ℕ) (more : List {1} Ground) → First given (faults image ++ more) → First given more
-unfolding First faults
-faultless image is given more first =
-    passed
-    (passed
-    (passed
-    (passed
-    (passed
-    (passed first (λ none. none (record { whole = is .whole; range = is .size })))
-    (λ none. none (is .label)))
-    (λ none. none (is .index)))
-    (λ none. none (record { descriptors = is .descriptors; ascending = is .ascending })))
-    (λ held. let single = is .single (held .sector) in omega (arith, single, held .twice)))
-    (λ none. none (record { marked = is .marked; filled = is .filled }))
-
--- a volume of n sectors, just formatted
+-- a volume of n sectors, just formatted: its holders are sectors 0 and 1
 abbrev volume : ℕ → List ℕ
 volume n = formatted n diskX geometry
 
@@ -74,7 +55,6 @@ new-volume : (n : ℕ) → 3 ≤ n → n ≤ 1600 → EmptyVolume (volume n)
 unfolding Formatting
 new-volume n large small = formatting n diskX geometry large small rule-x
 
--- an empty catalogue has no files, and the holders are sectors 0 and 1
 no-files : (image : List ℕ) → EmptyVolume image → files image ≡ []
 unfolding catalogue
 no-files image new = go (files image) (new .empty)
@@ -87,104 +67,126 @@ free-is : (image : List ℕ) → EmptyVolume image → (free : ℕ) → FreeIs i
 unfolding holders fileHolders
 free-is image new free counted = rw (no-files image new) at (counted .is)
 
-has-room : (image : List ℕ) → EmptyVolume image → 1 ≤ freeCount (sectorOf image 0)
-has-room image new =
-    let counted = free-is image new (freeCount (sectorOf image 0)) (record { is = free-holders image (new .sound) }) in
-    let large = new .sound .size .0 in
-    omega (arith, counted, large)
-
--- the three calls, create also under a name that breaks the rule
-abbrev createX : Call
-createX = call.change diskX (call.create 0 0 0)
-
-abbrev createNone : Call
-createNone = call.change [] (call.create 0 0 0)
-
-abbrev counting : Call
-counting = call.look call.freeCount []
-
-abbrev appending : (name bytes : List ℕ) → Call
-appending name bytes = call.change name (call.append bytes)
-
 module _ (version : Version) (all : Demand2 version) where
-  -- create on an empty volume is done
-  does-create : (image : List ℕ) → EmptyVolume image → numberOf version createX image ≡ 0
-  unfolding First grounds changeGrounds count
-  does-create image new =
-      let first = faultless image (new .sound) _ _ (all .progress createX image) in
-      let named = passed first (λ none. none (name-is diskX rule-x)) in
-      let absent = passed named (λ has. let listed = rw (no-files image new) at (has .listed) in omega (arith, listed)) in
-      let allowed = passed absent (λ none. none (record { among = inl refl })) in
-      let few = passed allowed (λ full. let many = rw (no-files image new) at full in omega (arith, many)) in
-      passed few (λ full. let room = has-room image new in omega (arith, room, full))
+  -- its numbers are ours
+  number-ours : (c : Call) (image : List ℕ) → numberOf version c image ≡ numberOf ours c image
+  unfolding OnlyOurs
+  number-ours c image = ap (λ (r : Result (formOf c)). numberIn (formOf c) (r .answer)) (only-ours version all c image)
 
-  -- and changes the map
-  create-marks : (image : List ℕ) → EmptyVolume image → sectorOf (version createX image .image) 0 ≡ sectorOf image 0 → ⊥
+  judges : (image : List ℕ) → numberOf version (call.look call.judge []) image ≡ verdict image
+  unfolding ours seen
+  judges image = number-ours (call.look call.judge []) image
+
+  -- the append to NOTES changes the image
+  abbrev appending : Call
+  appending = call.change notes (call.append secondSector)
+
+  appends : numberOf version appending caseM ≡ 0
+  unfolding ours outcome
+  appends = number-ours appending caseM ∙ answer-number (appendOf caseM notes secondSector .number) ∙ computed .appended
+
+  append-marks : version appending caseM .image ≡ caseM → ⊥
   unfolding Means
-  create-marks image new kept =
-      let free = rw kept at (all .means createX image (new .sound) (does-create image new) .free) in
+  append-marks same =
+      let free = rw same at (all .means appending caseM (sound caseM (computed .judged)) appends .0 .free) in
       omega (arith, free)
 
-  -- under a name that breaks the rule it is refused with 7
-  refuses-create : (image : List ℕ) → Sound image → numberOf version createNone image ≡ 7
-  unfolding First grounds
-  refuses-create image is =
-      met (faultless image is _ _ (all .progress createNone image)) (λ name. let ten = name .ten in omega (arith, ten))
+  -- the free count of an empty volume
+  counts : (n : ℕ) → 3 ≤ n → n ≤ 1600 → version (call.look call.freeCount []) (volume n) .answer ≡ amount.Given (n - 2)
+  unfolding ours seen freeCountOf verdict Means Shows
+  counts n large small =
+      let new = new-volume n large small in
+      let counting = call.look call.freeCount [] in
+      let zero = number-ours counting (volume n) ∙ amount-number (freeCountOf (volume n)) ∙ new .judged in
+      let given = all .means counting (volume n) (new .sound) zero .0 in
+      let size : sectorCount (volume n) ≡ n = rw (formatted-length n diskX geometry refl (omega arith)) (omega arith) in
+      let free : given .free ≡ n - 2 = omega (arith, free-is (volume n) new (given .free) (given .count), size) in
+      given .is ∙ ap amount.Given free
 
-  -- the free count of an empty volume is n less 2
-  counts-free : (image : List ℕ) → EmptyVolume image → version counting image .answer ≡ amount.Given (sectorCount image - 2)
-  unfolding First grounds lookGrounds faults Means Shows
-  counts-free image new =
-      let zero = faultless image (new .sound) _ [] (all .progress counting image) in
-      let given = all .means counting image (new .sound) zero in
-      let counted = free-is image new (given .free) (given .count) in
-      let less : given .free ≡ sectorCount image - 2 = omega (arith, counted) in
-      given .is ∙ ap amount.Given less
+refuses-always : (version : Version) → NeverDone version → Demand2 version → ⊥
+unfolding NeverDone
+refuses-always version kind all = kind (call.look call.judge []) caseM (judges version all caseM ∙ computed .judged)
 
-  -- an append that is done changes the map
-  append-marks : (image name bytes : List ℕ) → Sound image → numberOf version (appending name bytes) image ≡ 0
-      → sectorOf (version (appending name bytes) image .image) 0 ≡ sectorOf image 0 → ⊥
-  unfolding Means
-  append-marks image name bytes is zero kept =
-      let free = rw kept at (all .means (appending name bytes) image is zero .free) in
-      omega (arith, free)
+-- the judge gives 0 to case M's volume and 1 to no bytes at all
+answers-same : (version : Version) → OneNumber version → Demand2 version → ⊥
+unfolding verdict volumeTests firstOf sizeRule
+answers-same version kind all =
+    let zero = sym (kind .is (call.look call.judge []) caseM) ∙ judges version all caseM ∙ computed .judged in
+    let one : kind .number ≡ 1 = sym (kind .is (call.look call.judge []) []) ∙ judges version all [] in
+    omega (arith, zero, one)
 
-new-64 : EmptyVolume (volume 64)
-new-64 = new-volume 64 (omega arith) (omega arith)
+does-nothing : (version : Version) → DoesNothing version → Demand2 version → ⊥
+unfolding DoesNothing
+does-nothing version kind all = append-marks version all (kind (appending version all) caseM .0)
 
-pub refuses-always : Demand2 refusesAlways → ⊥
-unfolding refusesAlways fixed answerNumber
-refuses-always all = let zero = does-create refusesAlways all (volume 64) new-64 in omega (arith, zero)
+-- a volume of 64 sectors and one of 65
+invents-free : (version : Version) → InventsFree version → Demand2 version → ⊥
+unfolding InventsFree
+invents-free version kind all =
+    let first = counts version all 64 (omega arith) (omega arith) in
+    let second = counts version all 65 (omega arith) (omega arith) in
+    let same : amount.Given 62 ≡ amount.Given 63 =
+    sym first ∙ kind (volume 64) (volume 65) (new-volume 64 (omega arith) (omega arith) .sound) (new-volume 65 (omega arith) (omega arith) .sound) ∙ second
+    in
+    let free : _≡_ {A = ℕ} 62 63 = cc in
+    omega (arith, free)
 
-pub answers-same : Demand2 answersSame → ⊥
-unfolding answersSame fixed answerNumber
-answers-same all = let seven = refuses-create answersSame all (volume 64) (new-64 .sound) in omega (arith, seven)
+only-reports : (version : Version) → OnlyReports version → Demand2 version → ⊥
+unfolding OnlyReports
+only-reports version kind all = append-marks version all (kind caseM notes secondSector (sound caseM (computed .judged)) (computed .held))
 
-pub does-nothing : Demand2 doesNothing → ⊥
-unfolding doesNothing
-does-nothing all = create-marks doesNothing all (volume 64) new-64 refl
+-- what demand 2 says of the sectors where a change was done
+touched : (version : Version) → Demand2 version → {change : Change} → (some : Instance version change) → Touches change (some .image) (after some) (some .name)
+unfolding Means
+touched version all {change} some = all .means (call.change (some .name) change) (some .image) (some .sound) (some .done) .1
 
--- the same number for two volumes of unequal size
-invents : (free : ℕ) → Demand2 (inventsFree free) → (n : ℕ) → 3 ≤ n → n ≤ 1600 → free + 2 ≡ n
-unfolding inventsFree invented amountOf verdict
-invents free all n large small =
-    let new = new-volume n large small in
-    let done = ap amountOf (reported-given (volumeTests (volume n)) free [] (passes (volume n) (new .sound))) in
-    let given : amount.Given free ≡ amount.Given (sectorCount (volume n) - 2) = sym done ∙ counts-free (inventsFree free) all (volume n) new in
-    let count : sectorCount (volume n) ≡ n = rw (formatted-length n diskX geometry refl (omega arith)) (omega arith) in
-    let value : free ≡ sectorCount (volume n) - 2 = cc in
-    omega (arith, value, count)
+abbrev this-file : {version : Version} {change : Change} → (some : Instance version change) → Has (some .image) (some .name) (λ k. Unit {0})
+this-file some = record { sector = some .k; listed = some .listed; named = some .is-named; so = tt }
 
-pub invents-free : (free : ℕ) → Demand2 (inventsFree free) → ⊥
-invents-free free all =
-    let first = invents free all 64 (omega arith) (omega arith) in
-    let second = invents free all 65 (omega arith) (omega arith) in
-    omega (arith, first, second)
+wipes : (version : Version) → Wipes version → Demand2 version → ⊥
+unfolding Touches
+wipes version kind all =
+    let some = kind .some in
+    let inside = own-inside (some .image) (some .k) (some .sound) (some .listed) (kind .sector) (kind .own) in
+    kind .wiped (touched version all some .so .others (kind .sector) (inside .1) (behind-system (kind .sector) [] (inside .0) ∙ count-none (kind .sector)))
 
--- case M's volume, and a second sector for NOTES
-pub marks-first : Demand2 marksFirst → ⊥
-unfolding marksFirst ours outcome
-marks-first all =
-    append-marks marksFirst all caseM notes secondSector (sound caseM (computed .judged))
-    (answer-number (appendOf caseM notes secondSector .number) ∙ computed .appended)
-    (rw (computed .held))
+moves-data : (version : Version) → MovesData version → Demand2 version → ⊥
+unfolding Touches
+moves-data version kind all =
+    let some = kind .some in
+    kind .moved (of-first (some .image) (some .name) (some .sound) (this-file some) (touched version all some) .0 .lies .places-are)
+
+-- the sector taken is the lowest free one from 34 up, where there is one
+taken-low : (image : List ℕ) (before after : List Block) (places ks : List ℕ) (lower higher : ℕ) → 34 ≤ lower → lower < higher → Free image [] lower
+    → Takes image [] places before ks after → length ks ≡ 1 → count higher ks ≡ 0
+unfolding Takes
+taken-low image before after places [] lower higher low order free takes one = absurd (omega (arith, one))
+taken-low image before after places (k ∷ []) lower higher low order free takes one =
+    count-other higher k [] (λ e. go (takes .0) e) ∙ count-none higher
+  where
+    go : ForData image [] k → k ≡ higher → ⊥
+    go (inl lowest) e = lowest .first lower low (omega (arith, order, e)) free
+    go (inr none) e = none .0 lower low free
+taken-low image before after places (k ∷ (j ∷ ks)) lower higher low order free takes one = absurd (omega (arith, one))
+
+takes-higher : (version : Version) → TakesHigher version → Demand2 version → ⊥
+unfolding Touches
+takes-higher version kind all =
+    let some = kind .some in
+    let gains = touched version all some .so in
+    let apart = taken-low (some .image) _ (gains .taken .chain) _ (gains .taken .ks) (kind .lower) (kind .higher) (kind .order .0) (kind .order .1) (kind .lower-free) (gains .taken .takes) (gains .taken .so-many) in
+    let stays = all-other 1 (omega arith) (sectorOf (some .image) 0) (gains .taken .ks) (kind .higher) apart in
+    omega (arith, sym (kind .taken) ∙ ap (λ (s : List ℕ). mapBit s (kind .higher)) (gains .map) ∙ stays ∙ kind .higher-free .free)
+
+pub wrong-versions : WrongVersions
+wrong-versions =
+    record {
+      refuses-always = refuses-always;
+      answers-same = answers-same;
+      does-nothing = does-nothing;
+      invents-free = invents-free;
+      only-reports = only-reports;
+      wipes = wipes;
+      moves-data = moves-data;
+      takes-higher = takes-higher;
+    }

@@ -4,6 +4,7 @@ use mathlib.Core.Path.{_≡_}
 use mathlib.Core.List.{List, [], _∷_}
 use Prim.Native.Nat.{ℕ}
 use Rattle.rules.specs.Calls.Format.{Geometry}
+use Rattle.rules.specs.Calls.Entry.{noRow}
 use Rattle.rules.specs.declared.Answer.{Answer}
 use Rattle.rules.specs.declared.Amount.{Amount}
 use Rattle.rules.specs.declared.Summary.{Summary}
@@ -47,13 +48,13 @@ numberIn amount given = amountNumber given
 numberIn summary given = summaryNumber given
 numberIn row given = answerNumber (given .answer)
 
--- no refusal has the number 0, so that 0 always stands for done
+-- no refusal has the number 0, so that 0 always stands for done; and a refusal carries its number alone: beside it stands no row
 abbrev pub Plain : (form : Form) → Answered form → Type 0
 Plain number given = Unit {0}
 Plain answer given = given ≡ answers.Refused 0 → ⊥
 Plain amount given = given ≡ amounts.Refused 0 → ⊥
 Plain summary given = given ≡ summaries.Refused 0 → ⊥
-Plain row given = given .answer ≡ answers.Refused 0 → ⊥
+Plain row given = (given .answer ≡ answers.Refused 0 → ⊥) × ((given .answer ≡ answers.Done → ⊥) → given .row ≡ noRow)
 
 -- a call that leaves the image as it is; a name and numbers are any
 pub data Look : Form → Type 0 where

@@ -1,26 +1,25 @@
 -- Demand 2, a statement about any version of the software: answers and bytes are those of the layout, and through any run of calls a sound volume stays sound.
 use mathlib.Core.Path.{_≡_}
 use mathlib.Core.List.{List, []}
-use Prim.Native.Nat.{ℕ, _+_}
+use Prim.Native.Nat.{ℕ, _+_, _≤_}
 use lib.ListN.{length, getD, take}
 use Rattle.rules.specs.Bytes.{part, splice}
 use Rattle.rules.specs.Sectors.{sectorOf, sectorCount}
 use Rattle.rules.specs.Volume.{holders, catalogue}
 use Rattle.rules.specs.Sound.{Sound}
-use Rattle.rules.specs.Calls.Entry.{rowOf}
-use Rattle.rules.specs.Calls.Format.{Geometry, newLabel}
+use Rattle.rules.specs.Calls.Format.{Geometry}
 use Rattle.rules.specs.Calls.Load.{joined}
-use Rattle.rules.specs.Calls.Listing.{listingText}
-use Rattle.rules.specs.Calls.Pack.{labelArea}
 use Rattle.rules.specs.declared.Amount.{Amount}
 use Rattle.rules.specs.declared.Amount.the-variants as amount
 use Rattle.rules.specs.declared.Answer.the-variants as answer
 use Rattle.rules.specs.declared.Summary.{Summary}
 use Rattle.rules.specs.declared.Summary.the-variants as summary
-use Rattle.demands.specs.Catalogue.{named}
-use Rattle.demands.specs.Effects.{Kept, Changed, LoadGives}
-use Rattle.demands.specs.Formatting.{EmptyVolume}
-use Rattle.demands.specs.Faithful.{fileOf, lengthIs}
+use Rattle.demands.specs.Effects.{Kept, Changed}
+use Rattle.demands.specs.Lines.{Lists}
+use Rattle.demands.specs.Touches.{Touches}
+use Rattle.demands.specs.Packing.{Packs}
+use Rattle.demands.specs.Formatting.{EmptyVolume, Formats}
+use Rattle.demands.specs.Catalogue.{named, fileOf, lengthIs, rowIs}
 use Rattle.demands.specs.Call as call
 use Rattle.demands.specs.Call.{Form, Look, Call, Result, Version, Plain, formOf, lent, numberOf, run}
 use Rattle.demands.specs.Grounds.{First, grounds}
@@ -39,25 +38,33 @@ pub record Summarized (image : List ℕ) (given : Summary) : Type 0 where
   pub is : given ≡ summary.Given (sectorCount image) (length (catalogue image)) free
   pub count : FreeIs image free
 
--- what a look that was done shows of the volume
+-- the text of the listing, put at the front of the buffer
+pub record Listed (image buffer : List ℕ) (given : Amount) (after : List ℕ) : Type 0 where
+  pub text : List ℕ
+  pub lists : Lists image text
+  pub is : given ≡ amount.Given (length text)
+  pub put : after ≡ splice buffer 0 text
+
+-- what a look that was done shows of the volume; it leaves the rest of the buffer
 unfoldable pub Shows : {form : Form} → Look form → (buffer image : List ℕ) → Result form → Type 0
-Shows call.judge buffer image r = Unit {0}
-Shows call.freeCount buffer image r = FreeGiven image (r .answer)
+Shows call.judge buffer image r = r .buffer ≡ buffer
+Shows call.freeCount buffer image r = FreeGiven image (r .answer) × (r .buffer ≡ buffer)
 Shows call.summarize buffer image r = Summarized image (r .answer) × (r .buffer ≡ splice buffer 0 (part (sectorOf image 0) 0 10))
 Shows (call.entry place) buffer image r =
-    (r .answer ≡ record { answer = answer.Done; row = rowOf (fileOf image place .header) }) × (r .buffer ≡ splice buffer 0 (fileOf image place .header))
+    let file = fileOf image place in
+    (r .answer ≡ record { answer = answer.Done; row = rowIs file }) × (r .buffer ≡ splice buffer 0 (file .header))
 Shows (call.read name offset) buffer image r = r .buffer ≡ splice buffer 0 (getD (named name (catalogue image) .contents) offset [])
 Shows (call.load name) buffer image r =
     let file = named name (catalogue image) in
     (r .answer ≡ amount.Given (lengthIs file)) × (r .buffer ≡ splice buffer 0 (take (lengthIs file) (joined (file .contents))))
-Shows call.list buffer image r = (r .answer ≡ amount.Given (length (listingText image))) × (r .buffer ≡ splice buffer 0 (listingText image))
-Shows call.pack buffer image r = Sound (r .buffer) × (labelArea (r .buffer) ≡ labelArea image) × (catalogue (r .buffer) ≡ catalogue image)
+Shows call.list buffer image r = Listed image buffer (r .answer) (r .buffer)
+Shows call.pack buffer image r = Sound (r .buffer) × Packs image (r .buffer)
 
--- what a call that was done means: of what it gives back, or on the catalogue
+-- what a call that was done means: of what it gives back, or on the catalogue and the sectors
 unfoldable pub Means : (c : Call) → List ℕ → Result (formOf c) → Type 0
 Means (call.look look buffer) image r = Shows look buffer image r
-Means (call.change name change) image r = Changed change image (r .image) name
-Means (call.format n name geometry) image r = EmptyVolume (r .image) × (part (sectorOf (r .image) 0) 0 56 ≡ newLabel n name geometry)
+Means (call.change name change) image r = Changed change image (r .image) name × Touches change image (r .image) name
+Means (call.format n name geometry) image r = EmptyVolume (r .image) × Formats n name geometry (r .image)
 
 -- what a call leaves as it stood, done or refused: a look the image; a change the label, and every file but the one it names; formatting leaves nothing
 unfoldable pub Frame : Call → List ℕ → List ℕ → Type 0
@@ -66,8 +73,10 @@ Frame (call.change name change) image after = Kept image after name
 Frame (call.format n name geometry) image after = Unit {0}
 
 pub record Demand2 (version : Version) : Type 0 where
-  -- an answer is done or a refusal with its number
+  -- an answer is done or a refusal with its number alone
   pub plain : (c : Call) (image : List ℕ) → Plain (formOf c) (version c image .answer)
+  -- the image and the buffer lent keep their lengths
+  pub lengths : (c : Call) (image : List ℕ) → (length (version c image .image) ≡ length image) × (length (version c image .buffer) ≡ length (lent c))
   -- a number other than 0 leaves every buffer as it was, whatever the image
   pub refuses : (c : Call) (image : List ℕ) → (numberOf version c image ≡ 0 → ⊥) → (version c image .image ≡ image) × (version c image .buffer ≡ lent c)
   -- a sound volume stays sound through any list of calls; what formatting makes of any image is sound
@@ -79,9 +88,12 @@ pub record Demand2 (version : Version) : Type 0 where
   pub frame : (c : Call) (image : List ℕ) → Sound image → Frame c image (version c image .image)
   -- the meaning
   pub means : (c : Call) (image : List ℕ) → Sound image → numberOf version c image ≡ 0 → Means c image (version c image)
-  -- what was stored is what a load gives
-  pub stores : (name bytes image : List ℕ) → Sound image →
-      let c = call.change name (call.store bytes) in
-      numberOf version c image ≡ 0 → LoadGives (version c image .image) name bytes
   -- progress: the number is that of the first ground that is there, and 0 exactly where none is
   pub progress : (c : Call) (image : List ℕ) → First (numberOf version c image) (grounds c image)
+
+-- So what was stored is what a load gives, in every version that meets it.
+unfoldable pub StoredLoads : Type 0
+StoredLoads = (version : Version) → Demand2 version → (name bytes buffer image : List ℕ) → Sound image → length bytes ≤ length buffer →
+    let c = call.change name (call.store bytes) in
+    let loaded = version (call.look (call.load name) buffer) (version c image .image) in
+    numberOf version c image ≡ 0 → (loaded .answer ≡ amount.Given (length bytes)) × (loaded .buffer ≡ splice buffer 0 bytes)

@@ -8,6 +8,7 @@ use Rattle.rules.specs.Volume.{catalogue}
 use Rattle.rules.specs.Verdict.{verdict}
 use Rattle.rules.specs.Sound.{Sound}
 use Rattle.rules.specs.Calls.Pack.{labelArea, packNumber, afterPack}
+use Rattle.demands.specs.Packing.{Packs}
 
 -- what packing answers, and the whole target afterwards
 pub record Packed : Type 0 where
@@ -29,11 +30,10 @@ pub record Demand3 (pack : Packer) : Type 0 where
   pub measured : (source target : List ℕ) → Sound source → (length target ≡ length source → ⊥) → pack source target .number ≡ 15
   -- a refusal leaves the target as it was
   pub refuses : (source target : List ℕ) → (pack source target .number ≡ 0 → ⊥) → pack source target .target ≡ target
-  -- the packed image is sound, and has the length, the label area and the catalogue of its original
+  -- the target is the source in the one laid down form
+  pub laid : (source target : List ℕ) → Packable source target → Packs source (pack source target .target)
+  -- it is sound; label area and catalogue are those of its original by its form
   pub sound : (source target : List ℕ) → Packable source target → Sound (pack source target .target)
-  pub size : (source target : List ℕ) → Packable source target → length (pack source target .target) ≡ length source
-  pub label : (source target : List ℕ) → Packable source target → labelArea (pack source target .target) ≡ labelArea source
-  pub listed : (source target : List ℕ) → Packable source target → catalogue (pack source target .target) ≡ catalogue source
   -- packing it again changes nothing
   pub again : (source target other : List ℕ) → Packable source target → length other ≡ length source
       → (pack (pack source target .target) other .number ≡ 0) × (pack (pack source target .target) other .target ≡ pack source target .target)
@@ -42,6 +42,10 @@ pub record Demand3 (pack : Packer) : Type 0 where
       → (pack first target .target ≡ pack second other .target) ↔ ((labelArea first ≡ labelArea second) × (catalogue first ≡ catalogue second))
   -- nothing of the target's old bytes shows
   pub fresh : (source target other : List ℕ) → Packable source target → Packable source other → pack source target .target ≡ pack source other .target
+
+-- the demand is complete: two versions that meet it do the same, on every source and target
+unfoldable pub OnePacking : Type 0
+OnePacking = (first second : Packer) → Demand3 first → Demand3 second → (source target : List ℕ) → first source target ≡ second source target
 
 -- the software's version: the rules
 unfoldable pub packs : Packer

@@ -5,17 +5,14 @@ use mathlib.Core.List.{List, [], _∷_, _++_}
 use Prim.Native.Nat.{ℕ, zero, suc, _+_, _/_, _%_, _≤_, _<_}
 use lib.ListN.{length, drop, set, replicate}
 use Rattle.rules.specs.Bytes.{byteAt, wordBytes, withBit, over, splice}
-use Rattle.rules.specs.Sectors.{sectorOf, written}
+use Rattle.rules.specs.Sectors.{sectorOf}
 use Rattle.rules.specs.Map.{count, freeCount}
 use Rattle.rules.specs.Volume.{File, files, nameIn, placesIn, catalogue}
 use Rattle.rules.specs.Sound.{Sound}
-use Rattle.rules.specs.Outcome.{gives}
-use Rattle.rules.specs.Calls.Store.{sectorsFor, storeOf}
-use Rattle.rules.specs.Calls.Load.{loadOf}
+use Rattle.rules.specs.Kind.{sectorsFor}
 use Rattle.demands.specs.Catalogue.{putIn, takenOut, changed, named, held}
 use Rattle.demands.specs.Call as call
 use Rattle.demands.specs.Call.{Change}
-use Rattle.demands.specs.Ours.{outcome}
 
 -- bytes 0 to 55 of sector 0, and every file of another name: it is there, its descriptor and the sectors of its data as they stood
 pub record Kept (image after name : List ℕ) : Type 0 where
@@ -86,14 +83,3 @@ effectOf (call.rename new) name files = effect (putIn (renamed new (named name f
 
 abbrev pub Changed : Change → (image after name : List ℕ) → Type 0
 Changed change image after name = Done image after name (effectOf change name (catalogue image))
-
--- the statement of a change, by our definition of it
-abbrev pub Does : Change → Type 0
-Does change = (image name : List ℕ) → outcome change image name .number ≡ 0 → Changed change image (written image (outcome change image name .writes)) name
-
--- and a load of what was stored gives the bytes that were lent
-abbrev pub LoadGives : (after name bytes : List ℕ) → Type 0
-LoadGives after name bytes = loadOf after name (length bytes) ≡ gives (length bytes) bytes
-
-abbrev pub StoredLoads : Type 0
-StoredLoads = (image name bytes : List ℕ) → storeOf image name bytes .number ≡ 0 → LoadGives (written image (storeOf image name bytes .writes)) name bytes

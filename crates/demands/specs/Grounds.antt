@@ -4,19 +4,20 @@ use mathlib.Core.List.{List, [], _∷_, _++_}
 use mathlib.Core.Logic.{_⊎_}
 use Prim.Native.Nat.{ℕ, _+_, _*_, _≤_, _<_}
 use lib.ListN.{length}
-use Rattle.rules.specs.Bytes.{bitOf}
+use Rattle.rules.specs.Bytes.{byteAt, bitOf}
 use Rattle.rules.specs.Sectors.{sectorOf, sectorCount}
 use Rattle.rules.specs.Name.{IsName, Before}
 use Rattle.rules.specs.Label.{IsLabel}
 use Rattle.rules.specs.Map.{mapBit, count, freeCount}
-use Rattle.rules.specs.Descriptor.{statusOf, sectorsOf, IsDescriptor}
+use Rattle.rules.specs.Chain.{blocks}
+use Rattle.rules.specs.Kind.{programLength, sectorsFor}
+use Rattle.rules.specs.Descriptor.{statusOf, sectorsOf, chainOf, IsDescriptor}
 use Rattle.rules.specs.Index.{IsIndex}
-use Rattle.rules.specs.Volume.{files, nameIn, holders}
+use Rattle.rules.specs.Volume.{files, nameIn, placesIn, holders}
 use Rattle.rules.specs.Sound.{fileAt}
-use Rattle.rules.specs.Calls.Store.{sectorsFor, newBlocks}
-use Rattle.rules.specs.Calls.Append.{longerBlocks}
-use Rattle.rules.specs.Calls.Load.{lengthIn}
-use Rattle.rules.specs.Calls.Listing.{listingText}
+use Rattle.rules.specs.declared.Block.{Block}
+use Rattle.demands.specs.Taking.{ForDescriptor, Taken}
+use Rattle.demands.specs.Lines.{Lists}
 use Rattle.demands.specs.Call as call
 use Rattle.demands.specs.Call.{Form, Look, Change, Call}
 
@@ -78,6 +79,22 @@ isProgram image k = bitOf (statusOf (sectorOf image k)) 0 ≡ 1
 pub record CreateStatus (status : ℕ) : Type 0 where
   pub among : (status ≡ 0) ⊎ ((status ≡ 0x02) ⊎ ((status ≡ 0x80) ⊎ (status ≡ 0x82)))
 
+-- 13: what the call takes for the data of a file, behind the places and blocks that it has, makes a 77th block; of a new file, whose descriptor is chosen before
+pub record Overfull (image first places : List ℕ) (before : List Block) (many : ℕ) : Type 0 where
+  pub taken : Taken image first places before many
+  pub over : 76 < length (taken .chain)
+
+pub record NewOverfull (image : List ℕ) (many : ℕ) : Type 0 where
+  pub k : ℕ
+  pub chosen : ForDescriptor image k
+  pub overfull : Overfull image (k ∷ []) [] [] many
+
+-- 15: the text of the listing is longer than the buffer
+pub record TextOver (image : List ℕ) (room : ℕ) : Type 0 where
+  pub text : List ℕ
+  pub lists : Lists image text
+  pub over : room < length text
+
 -- of a look, on a sound volume
 unfoldable pub lookGrounds : {form : Form} → Look form → (buffer image : List ℕ) → List {1} Ground
 lookGrounds call.judge buffer image = []
@@ -91,8 +108,8 @@ lookGrounds (call.read name offset) buffer image =
 lookGrounds (call.load name) buffer image =
     ground 7 (IsName name → ⊥)
     ∷ (ground 8 (Present image name → ⊥)
-    ∷ (ground 14 (Has image name (λ k. isProgram image k → ⊥)) ∷ (ground 15 (Has image name (λ k. length buffer < lengthIn image k)) ∷ [])))
-lookGrounds call.list buffer image = ground 15 (length buffer < length (listingText image)) ∷ []
+    ∷ (ground 14 (Has image name (λ k. isProgram image k → ⊥)) ∷ (ground 15 (Has image name (λ k. length buffer < programLength (sectorsOf (sectorOf image k)) (byteAt (sectorOf image k) 16))) ∷ [])))
+lookGrounds call.list buffer image = ground 15 (TextOver image (length buffer)) ∷ []
 lookGrounds call.pack buffer image = ground 15 (length buffer ≡ length image → ⊥) ∷ []
 
 -- of a change, on a sound volume and under a name that keeps its rule
@@ -104,7 +121,7 @@ changeGrounds (call.append bytes) image name =
     ground 8 (Present image name → ⊥)
     ∷ (ground 10 (Has image name (isProtected image))
     ∷ (ground 14 (Has image name (isProgram image))
-    ∷ (ground 15 (length bytes ≡ 256 → ⊥) ∷ (ground 12 (freeCount (sectorOf image 0) < 1) ∷ (ground 13 (Has image name (λ k. 76 < length (longerBlocks image k))) ∷ [])))))
+    ∷ (ground 15 (length bytes ≡ 256 → ⊥) ∷ (ground 12 (freeCount (sectorOf image 0) < 1) ∷ (ground 13 (Has image name (λ k. Overfull image [] (placesIn image k) (blocks (chainOf (sectorOf image k))) 1)) ∷ [])))))
 changeGrounds (call.overwrite offset bytes) image name =
     ground 8 (Present image name → ⊥)
     ∷ (ground 10 (Has image name (isProtected image))
@@ -116,7 +133,7 @@ changeGrounds (call.store bytes) image name =
     ground 9 (Present image name)
     ∷ (ground 15 (32768 < length bytes)
     ∷ (ground 11 (127 ≤ length (files image))
-    ∷ (ground 12 (freeCount (sectorOf image 0) < 1 + sectorsFor (length bytes)) ∷ (ground 13 (76 < length (newBlocks image (sectorsFor (length bytes)))) ∷ []))))
+    ∷ (ground 12 (freeCount (sectorOf image 0) < 1 + sectorsFor (length bytes)) ∷ (ground 13 (NewOverfull image (sectorsFor (length bytes))) ∷ []))))
 changeGrounds call.delete image name = ground 8 (Present image name → ⊥) ∷ (ground 10 (Has image name (isProtected image)) ∷ [])
 changeGrounds (call.rename new) image name =
     ground 7 (IsName new → ⊥)

@@ -3,11 +3,15 @@ pub mod Call
 pub mod Ours
 pub mod Catalogue
 pub mod Effects
+pub mod Taking
+pub mod Lines
 pub mod Grounds
+pub mod Touches
+pub mod Does
 pub mod CaseM
 pub mod Bench
 pub mod Formatting
-pub mod Faithful
+pub mod Packing
 pub mod Demand2
 pub mod Wrong
 pub mod Unique

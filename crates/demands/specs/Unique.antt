@@ -1,5 +1,5 @@
 -- What the code promises of a call fixes all that can be seen of it: its answer, the buffer lent and the image. So what keeps the promise is what our version does, and two
--- results that keep it are equal.
+-- results that keep it are equal. And demand 2 alone fixes it too: it shuts out every version but one.
 use mathlib.Core.Path.{_≡_}
 use mathlib.Core.List.{List, []}
 use Prim.Native.Nat.{ℕ}
@@ -14,8 +14,9 @@ use Rattle.rules.specs.Calls.Load.{loadOf}
 use Rattle.rules.specs.Calls.Listing.{listingOf}
 use Rattle.rules.specs.Calls.Pack.{packNumber, afterPack}
 use Rattle.demands.specs.Call as call
-use Rattle.demands.specs.Call.{Form, Answered, Look, Call, Result, formOf}
+use Rattle.demands.specs.Call.{Form, Answered, Look, Call, Result, Version, formOf}
 use Rattle.demands.specs.Ours.{outcome, ours}
+use Rattle.demands.specs.Demand2.{Demand2}
 
 -- the contract of a look in the code: what its answer says, and the buffer afterwards; where none is lent, it stays
 unfoldable pub LookPromised : {form : Form} → Look form → (buffer image : List ℕ) → Answered form → (after : List ℕ) → Type 0
@@ -41,3 +42,10 @@ IsOurs = (c : Call) (image : List ℕ) (r : Result (formOf c)) → Promised c im
 
 unfoldable pub Unique : Type 0
 Unique = (c : Call) (image : List ℕ) (r r′ : Result (formOf c)) → Promised c image r → Promised c image r′ → r ≡ r′
+
+-- two versions that meet demand 2 give the same answer, the same buffer and the same image, at every call with any arguments and on every image; so one that meets it is ours
+unfoldable pub OneVersion : Type 0
+OneVersion = (v w : Version) → Demand2 v → Demand2 w → (c : Call) (image : List ℕ) → v c image ≡ w c image
+
+unfoldable pub OnlyOurs : Type 0
+OnlyOurs = (v : Version) → Demand2 v → (c : Call) (image : List ℕ) → v c image ≡ ours c image

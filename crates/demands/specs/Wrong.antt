@@ -1,69 +1,88 @@
--- The wrong versions that the paper names for demand 2: one that refuses always, one that answers the same always, one that does nothing, a free count that is
--- invented, and one that marks the first appended sector and only reports the later ones. proofs/Wrong.antt shows that demand 2 shuts each of them out.
-use mathlib.Core.Bool.{cond, _||_}
-use mathlib.Core.List.{List, []}
-use Prim.Native.Nat.{ℕ}
-use lib.Dec.{eqb}
+-- The wrong versions that the paper names for demand 2, each for any version of its kind: one that refuses always, one that answers the same always, one that does nothing, a free count that is
+-- invented, and one that marks the first appended sector and only reports the later ones. Besides three that keep the catalogue right: a delete that wipes, a rename that moves data, an
+-- append that takes another sector than the lowest.
+use mathlib.Core.Path.{_≡_}
+use mathlib.Core.List.{List, [], _∷_}
+use Prim.Native.Nat.{ℕ, _≤_, _<_}
 use lib.ListN.{length}
-use Rattle.rules.specs.Volume.{catalogue}
-use Rattle.rules.specs.Outcome.{reported, amountOf}
-use Rattle.rules.specs.Verdict.{volumeTests}
-use Rattle.rules.specs.Calls.Entry.{noRow}
-use Rattle.rules.specs.declared.Answer.{Answer}
-use Rattle.rules.specs.declared.Amount.{Amount}
-use Rattle.rules.specs.declared.Summary.{Summary}
-use Rattle.rules.specs.declared.Answer.the-variants as answer
-use Rattle.rules.specs.declared.Amount.the-variants as amount
-use Rattle.rules.specs.declared.Summary.the-variants as summary
+use Rattle.rules.specs.Sectors.{sectorOf}
+use Rattle.rules.specs.Map.{mapBit, count}
+use Rattle.rules.specs.Volume.{files, nameIn, placesIn, catalogue}
+use Rattle.rules.specs.Sound.{Sound}
 use Rattle.demands.specs.Catalogue.{named}
 use Rattle.demands.specs.Call as call
-use Rattle.demands.specs.Call.{Form, Answered, Look, Version, formOf, lent}
-use Rattle.demands.specs.Ours.{Seen, seen, ours}
-use Rattle.demands.specs.Effects.{effectOf}
+use Rattle.demands.specs.Call.{Change, Call, Version, lent, numberOf}
+use Rattle.demands.specs.Taking.{Free}
+use Rattle.demands.specs.Demand2.{Demand2}
 
--- one answer for every call of a form
-unfoldable pub fixed : ℕ → Answer → Amount → Summary → (form : Form) → Answered form
-fixed number answered counted summed call.number = number
-fixed number answered counted summed call.answer = answered
-fixed number answered counted summed call.amount = counted
-fixed number answered counted summed call.summary = summed
-fixed number answered counted summed call.row = record { answer = answered; row = noRow }
+-- no call is answered with 0
+unfoldable pub NeverDone : Version → Type 0
+NeverDone version = (c : Call) (image : List ℕ) → numberOf version c image ≡ 0 → ⊥
 
--- every call is refused with 1, and image and buffer stay as they were
-unfoldable pub refusesAlways : Version
-refusesAlways c image =
-    record { answer = fixed 1 (answer.Refused 1) (amount.Refused 1) (summary.Refused 1) (formOf c); buffer = lent c; image = image }
+-- every call is answered with one number, whatever is written
+pub record OneNumber (version : Version) : Type 0 where
+  pub number : ℕ
+  pub is : (c : Call) (image : List ℕ) → numberOf version c image ≡ number
 
--- every call is answered as done, with the same values always, and image and buffer stay as they were
-unfoldable pub answersSame : Version
-answersSame c image = record { answer = fixed 0 answer.Done (amount.Given 0) (summary.Given 3 0 0) (formOf c); buffer = lent c; image = image }
+-- image and buffer stay as they were, whatever is answered
+unfoldable pub DoesNothing : Version → Type 0
+DoesNothing version = (c : Call) (image : List ℕ) → (version c image .image ≡ image) × (version c image .buffer ≡ lent c)
 
--- the answers are ours, but image and buffer stay as they were
-unfoldable pub doesNothing : Version
-doesNothing c image = record { answer = ours c image .answer; buffer = lent c; image = image }
+-- the free count does not depend on the volume
+unfoldable pub InventsFree : Version → Type 0
+InventsFree version =
+    let counting = call.look call.freeCount [] in
+    (first second : List ℕ) → Sound first → Sound second → version counting first .answer ≡ version counting second .answer
 
--- an unsound image is refused as we refuse it, but the free count of a sound volume is the number `free`, whatever the volume
-unfoldable pub invented : ℕ → {form : Form} → Look form → (buffer image : List ℕ) → Seen form
-invented free call.judge buffer image = seen call.judge buffer image
-invented free call.freeCount buffer image = record { answer = amountOf (reported (volumeTests image) free []); buffer = buffer }
-invented free call.summarize buffer image = seen call.summarize buffer image
-invented free (call.entry place) buffer image = seen (call.entry place) buffer image
-invented free (call.read name offset) buffer image = seen (call.read name offset) buffer image
-invented free (call.load name) buffer image = seen (call.load name) buffer image
-invented free call.list buffer image = seen call.list buffer image
-invented free call.pack buffer image = seen call.pack buffer image
+-- an append to a file that has a sector is only reported
+unfoldable pub OnlyReports : Version → Type 0
+OnlyReports version =
+    (image name bytes : List ℕ) → Sound image → 1 ≤ length (named name (catalogue image) .contents) → version (call.change name (call.append bytes)) image .image ≡ image
 
-unfoldable pub inventsFree : ℕ → Version
-inventsFree free (call.look look buffer) image = record { answer = invented free look buffer image .answer; buffer = invented free look buffer image .buffer; image = image }
-inventsFree free (call.change name change) image = ours (call.change name change) image
-inventsFree free (call.format n name geometry) image = ours (call.format n name geometry) image
+-- a change that was done, of the file whose descriptor is in sector k of a sound volume
+pub record Instance (version : Version) (change : Change) : Type 0 where
+  pub image : List ℕ
+  pub name : List ℕ
+  pub k : ℕ
+  pub sound : Sound image
+  pub listed : 1 ≤ count k (files image)
+  pub is-named : nameIn image k ≡ name
+  pub done : numberOf version (call.change name change) image ≡ 0
 
--- a change that takes a sector for a file that has one already, which an append does, is only reported: the answer is ours, and the image stays as it was
-unfoldable pub marksFirst : Version
-marksFirst (call.look look buffer) image = ours (call.look look buffer) image
-marksFirst (call.change name change) image =
-    let our = ours (call.change name change) image in
-    let takesNone = eqb (effectOf change name (catalogue image) .took) 0 in
-    let hasNone = eqb (length (named name (catalogue image) .contents)) 0 in
-    record { answer = our .answer; buffer = []; image = cond (takesNone || hasNone) (our .image) image }
-marksFirst (call.format n name geometry) image = ours (call.format n name geometry) image
+abbrev pub after : {version : Version} {change : Change} → Instance version change → List ℕ
+after {version} {change} i = version (call.change (i .name) change) (i .image) .image
+
+-- a sector of a file that is deleted does not keep its bytes
+pub record Wipes (version : Version) : Type 0 where
+  pub some : Instance version call.delete
+  pub sector : ℕ
+  pub own : 1 ≤ count sector (some .k ∷ placesIn (some .image) (some .k))
+  pub wiped : sectorOf (after some) sector ≡ sectorOf (some .image) sector → ⊥
+
+-- a file that is renamed has other places than before
+pub record MovesData (version : Version) : Type 0 where
+  pub new : List ℕ
+  pub some : Instance version (call.rename new)
+  pub moved : placesIn (after some) (some .k) ≡ placesIn (some .image) (some .k) → ⊥
+
+-- an append takes a sector though a lower one is free, both from 34 up
+pub record TakesHigher (version : Version) : Type 0 where
+  pub bytes : List ℕ
+  pub some : Instance version (call.append bytes)
+  pub lower : ℕ
+  pub higher : ℕ
+  pub order : (34 ≤ lower) × (lower < higher)
+  pub lower-free : Free (some .image) [] lower
+  pub higher-free : Free (some .image) [] higher
+  pub taken : mapBit (sectorOf (after some) 0) higher ≡ 1
+
+-- demand 2 shuts each of them out
+pub record WrongVersions : Type 0 where
+  pub refuses-always : (version : Version) → NeverDone version → Demand2 version → ⊥
+  pub answers-same : (version : Version) → OneNumber version → Demand2 version → ⊥
+  pub does-nothing : (version : Version) → DoesNothing version → Demand2 version → ⊥
+  pub invents-free : (version : Version) → InventsFree version → Demand2 version → ⊥
+  pub only-reports : (version : Version) → OnlyReports version → Demand2 version → ⊥
+  pub wipes : (version : Version) → Wipes version → Demand2 version → ⊥
+  pub moves-data : (version : Version) → MovesData version → Demand2 version → ⊥
+  pub takes-higher : (version : Version) → TakesHigher version → Demand2 version → ⊥

@@ -1,34 +1,40 @@
--- What demand 3 shuts out: packing that is the identity, packing to a constant image, and packing that copies free sectors' remains, so that equal disks differ. Each gives the right numbers and leaves the target where it refuses.
-use mathlib.Core.Bool.{cond}
-use mathlib.Core.List.{List, _++_}
-use Prim.Native.Nat.{ℕ, _*_}
-use lib.Dec.{eqb}
-use lib.ListN.{take, drop}
-use Rattle.rules.specs.Sectors.{sectorCount}
-use Rattle.rules.specs.Volume.{catalogue}
-use Rattle.rules.specs.Calls.Pack.{labelArea, packedSectors, packed, packNumber}
-use Rattle.demands.specs.Demand3.{Packer, Demand3}
+-- What demand 3 shuts out, each for any version of its kind: packing that is the identity, packing to a constant image, packing that copies free sectors' remains, and
+-- packing that lets anything of them show, so that equal disks differ.
+use mathlib.Core.Path.{_≡_}
+use mathlib.Core.List.{List}
+use Prim.Native.Nat.{ℕ, _≤_, _<_}
+use Rattle.rules.specs.Sectors.{sectorOf, sectorCount}
+use Rattle.rules.specs.Map.{count}
+use Rattle.rules.specs.Volume.{holders}
+use Rattle.demands.specs.Demand3.{Packer, Packable, Demand3}
 
--- packing that makes `form source` of a source that it does not refuse
-unfoldable pub making : (List ℕ → List ℕ) → Packer
-making form source target = record { number = packNumber source target; target = cond (eqb (packNumber source target) 0) (form source) target }
+-- where it packs, the target is the source
+unfoldable pub Identity : Packer → Type 0
+Identity pack = (source target : List ℕ) → pack source target .number ≡ 0 → pack source target .target ≡ source
 
-unfoldable pub identity : Packer
-identity = making (λ source. source)
+-- it is the same image whatever the source
+unfoldable pub Constant : Packer → Type 0
+Constant pack = (first second target other : List ℕ) → pack first target .number ≡ 0 → pack second other .number ≡ 0 → pack first target .target ≡ pack second other .target
 
-unfoldable pub constant : List ℕ → Packer
-constant image = making (λ source. image)
+-- a free sector of it has the bytes that the sector has in the source
+unfoldable pub Copying : Packer → Type 0
+Copying pack =
+    (source target : List ℕ) (k : ℕ) → pack source target .number ≡ 0 → k < sectorCount source → count k (holders (pack source target .target)) ≡ 0
+    → sectorOf (pack source target .target) k ≡ sectorOf source k
 
--- the held sectors are laid down as they should be, and behind them stands what stood there in the source
-unfoldable pub withRemains : List ℕ → List ℕ
-withRemains source =
-    let held = 256 * packedSectors (catalogue source) in
-    take held (packed (sectorCount source) (labelArea source) (catalogue source)) ++ drop held source
-
-unfoldable pub remaining : Packer
-remaining = making withRemains
+-- two volumes that differ in free sectors alone come out different
+pub record Showing (pack : Packer) : Type 0 where
+  pub first : List ℕ
+  pub second : List ℕ
+  pub target : List ℕ
+  pub other : List ℕ
+  pub can : Packable first target
+  pub can′ : Packable second other
+  pub held : (k : ℕ) → 1 ≤ count k (holders first) → sectorOf second k ≡ sectorOf first k
+  pub differ : pack first target .target ≡ pack second other .target → ⊥
 
 pub record WrongPacking : Type 0 where
-  pub not-identity : Demand3 identity → ⊥
-  pub not-constant : (image : List ℕ) → Demand3 (constant image) → ⊥
-  pub not-remaining : Demand3 remaining → ⊥
+  pub not-identity : (pack : Packer) → Identity pack → Demand3 pack → ⊥
+  pub not-constant : (pack : Packer) → Constant pack → Demand3 pack → ⊥
+  pub not-copying : (pack : Packer) → Copying pack → Demand3 pack → ⊥
+  pub not-showing : (pack : Packer) → Showing pack → Demand3 pack → ⊥

@@ -2,3 +2,4 @@
 mod LaidLaws
 mod TextSteps
 mod LineSteps
+pub mod Showing

@@ -1,9 +1,9 @@
-// The catalogue program's text: the listing of a sound volume, and the line that stands for any other image.
+// The catalogue program's text: the listing of a sound volume, the line that stands for any other image, and the one or the other.
 ghost use mathlib.Core.Path.{_≡_};
 ghost use lib.ListN.{length};
 ghost use Rattle.rules.specs.Bytes.{splice};
 ghost use Rattle.rules.specs.Outcome.{AmountSays, Gives};
-ghost use Rattle.rules.specs.Calls.Listing.{listingOf, refusedLine};
+ghost use Rattle.rules.specs.Calls.Listing.{listingOf, refusedLine, shown};
 
 mod lines;
 mod text;
@@ -37,4 +37,15 @@ pub fn refused_line(number: u32, out: &mut [u8]) -> usize
 {
     let next = put(out, 0, b"REFUSED ");
     put_number(out, next, number as usize, b'\n')
+}
+
+// What a program shows of an image: its listing, or the line of the refusal.
+pub fn show(image: &[u8], out: &mut [u8]) -> usize
+    ensures { λ r. ⌜ (r ≡ length (shown (now (image .entry)) (length (now (out .entry))))) × (now (out .exit) ≡ splice (now (out .entry)) 0 (shown (now (image .entry)) (length (now (out .entry))))) ⌝ }
+{
+    let amount = listing(image, out);
+    match amount {
+        Amount::Given(size) => size,
+        Amount::Refused(number) => refused_line(number, out),
+    }
 }

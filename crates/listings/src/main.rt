@@ -1,39 +1,47 @@
 // Writes the listing of each image that the command line names, one after the other.
 //
-// The text is `listing::listing`'s, or the line of its refusal, for an image of any size: the bound of
-// the catalogue program is not one of the library. What stands here reads the images and writes the
+// `put_listing` makes the text, and is proved to give what document 01 says of an image, of any size: the
+// bound of the catalogue program is not one of the library. The rest reads the images and writes the
 // text, and of that only safety is proved, since no contract can say what is read or written. For an
 // image that cannot be read there is a line `-`, with the reason on standard error, and the images
 // after it are listed all the same.
+ghost use mathlib.Core.Path.{_≡_};
+ghost use mathlib.Core.List.{[], _∷_};
+ghost use Prim.Native.Nat.{_≤_};
+ghost use lib.ListN.{length};
+ghost use Rattle.rules.specs.Bytes.{part, splice};
+ghost use Rattle.rules.specs.Calls.Listing.{listed};
 use input::ARGUMENT_ROOM;
 use input::IMAGE_ROOM;
 use input::Received;
 use input::read_file;
 use libc::STDOUT_FILENO;
-use listing::listing;
-use listing::refused_line;
-use rules::Amount;
+use listing::show;
 use sector::buffer::lay;
 use sector::bytes::part;
 
-// No listing is longer: a line of at most 21 bytes and at most 127 of at most 36.
-const TEXT_ROOM: usize = 4593;
+// Room for every listing: a line of at most 21 bytes and at most 127 of at most 33.
+const TEXT_ROOM: usize = 4212;
 
 // Each `put_` puts a text at the front of the lent one and gives its length.
-fn put_listing(image: &[u8], text: &mut [u8]) -> usize {
-    let amount = listing(image, text);
-    match amount {
-        Amount::Given(length) => length,
-        Amount::Refused(number) => refused_line(number, text),
-    }
+fn put_listing(image: &[u8], text: &mut [u8]) -> usize
+    requires { ⌜ 4212 ≤ length (now text) ⌝ }
+    ensures { λ r. ⌜ part (now (text .exit)) 0 r ≡ listed (now (image .entry)) ⌝ }
+    ensures { λ r. ⌜ (r ≡ length (listed (now (image .entry)))) × (now (text .exit) ≡ splice (now (text .entry)) 0 (listed (now (image .entry)))) ⌝ }
+{
+    show(image, text)
 }
 
-fn put_unread(text: &mut [u8]) -> usize {
+fn put_unread(text: &mut [u8]) -> usize
+    ensures { λ r. ⌜ (r ≡ 2) × (now (text .exit) ≡ splice (now (text .entry)) 0 (0x2D ∷ (10 ∷ []))) ⌝ }
+{
     lay(text, 0, b"-\n");
     2
 }
 
-fn put_file(path: &[u8], buffer: &mut [u8], text: &mut [u8]) -> usize {
+fn put_file(path: &[u8], buffer: &mut [u8], text: &mut [u8]) -> usize
+    requires { ⌜ 4212 ≤ length (now text) ⌝ }
+{
     let received = read_file(path, buffer);
     match received {
         Received::Bytes(length) => put_listing(part(buffer, 0, length), text),
@@ -41,7 +49,9 @@ fn put_file(path: &[u8], buffer: &mut [u8], text: &mut [u8]) -> usize {
     }
 }
 
-fn put_argument(position: usize, argument: &mut [u8], buffer: &mut [u8], text: &mut [u8]) -> usize {
+fn put_argument(position: usize, argument: &mut [u8], buffer: &mut [u8], text: &mut [u8]) -> usize
+    requires { ⌜ 4212 ≤ length (now text) ⌝ }
+{
     let length = os::arg(position, argument);
     if os::errno() != 0 {
         os::fail(b"argument");

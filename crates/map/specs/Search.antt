@@ -5,6 +5,10 @@ use Prim.Native.Nat.{ℕ, _≤_, _<_}
 use Rattle.rules.specs.Map.{mapBit}
 use Rattle.map.specs.declared.choice.Search.{Search}
 
+-- nothing is passed yet
+abbrev pub first : Search
+first = record { sector = 0; high = 34; low = 2 }
+
 -- all sectors from 34 up to `high`, and from 2 up to `low`, are taken
 pub record Searched (sector0 : List ℕ) (search : Search) : Type 0 where
   pub high : (34 ≤ search .high) × (search .high ≤ 1600)

@@ -1,9 +1,11 @@
 // Where a descriptor and data go.
 ghost use mathlib.Core.Path.{_≡_};
+ghost use mathlib.Core.Bool.{cond};
 ghost use mathlib.Core.List.{List};
 ghost use Prim.Native.Nat.{ℕ, _-_, _≤_};
+ghost use lib.Dec.{ltb};
 ghost use Rattle.rules.specs.Choice.{lowestFree, descriptorChoice, dataChoice};
-ghost use Rattle.map.specs.Search.{Searched};
+ghost use Rattle.map.specs.Search.{first, Searched};
 use sector::bytes::byte;
 
 // The lowest free sector from `from` on, or `end` where all before it are taken. A full byte of the map is passed at once.
@@ -42,7 +44,7 @@ pub struct Search {
 impl Search {
     // Nothing is passed yet, whatever the map says.
     pub fn first() -> Search
-        ensures { λ r. ⌜ ((sector0 : List ℕ) → Searched sector0 r) ⌝ }
+        ensures { λ r. ⌜ (r ≡ first) × ((sector0 : List ℕ) → Searched sector0 r) ⌝ }
     {
         Search {
             sector: 0,
@@ -54,7 +56,7 @@ impl Search {
     // The lowest free sector from 34 up; when none is left there, the lowest free from 2 to 33.
     pub fn next(self, sector0: &[u8]) -> Search
         requires { ⌜ Searched (now sector0) self ⌝ }
-        ensures { λ r. ⌜ (r .sector ≡ dataChoice (now (sector0 .entry))) × Searched (now (sector0 .entry)) r × (r .sector ≤ 1600) ⌝ }
+        ensures { λ r. ⌜ (r .sector ≡ dataChoice (now (sector0 .entry))) × Searched (now (sector0 .entry)) r × (r .sector ≤ 1600) × (r .high ≡ lowestFree (now (sector0 .entry)) 1566 34) × (r .low ≡ cond (ltb (r .high) 1600) (self .low) (r .sector)) ⌝ }
     {
         let low = self.low;
         let high = lowest_free(sector0, self.high, 1600);

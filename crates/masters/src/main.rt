@@ -3,11 +3,13 @@
 //
 // The number is `packing::pack`'s: 0 for a sound image, 1 to 6 for its first fault; a `-` stands in the place of an unsound image,
 // and `- -` for number and place where it cannot be read, with the reason on standard error. Two sound images have equal packed
-// bytes exactly if their label areas and catalogues are equal. What stands here reads the images and writes the lines, and of that
-// only safety is proved.
+// bytes exactly if their label areas and catalogues are equal. `pack_received` packs what was read, and is proved to give what
+// `specs/` says; the rest reads the images and writes the lines, and of that only safety is proved.
 //
 // There are three buffers whatever the number of images: an image, its packed form, and the packed form of an earlier one, which is
 // read again for every comparison.
+ghost use mathlib.Core.Path.{_≡_};
+ghost use Rattle.masters.specs.Packed.{masterOf, packedOver};
 use input::ARGUMENT_ROOM;
 use input::IMAGE_ROOM;
 use input::Received;
@@ -29,7 +31,10 @@ enum Master {
 }
 
 // Packs what was read. What is longer than the packed form can be is no volume.
-fn pack_received(received: Received, source: &[u8], packed: &mut [u8]) -> Master {
+fn pack_received(received: Received, source: &[u8], packed: &mut [u8]) -> Master
+    ensures { λ r. ⌜ r ≡ masterOf received (now (source .entry)) (now (packed .entry)) ⌝ }
+    ensures { λ _. ⌜ now (packed .exit) ≡ packedOver received (now (source .entry)) (now (packed .entry)) ⌝ }
+{
     let Received::Bytes(length) = received else {
         return Master::Unread;
     };

@@ -1,5 +1,5 @@
 -- What a call answered, and what C is given of it.
-use mathlib.Core.Path.{_≡_, refl, sym, _∙_}
+use mathlib.Core.Path.{_≡_, sym, _∙_}
 use mathlib.Core.List.{List}
 use Prim.Native.Nat.{ℕ}
 use Rattle.rules.specs.Outcome.{Report, Outcome, AnswerSays, AmountSays, Meets, Gives, behind, ReadSays}

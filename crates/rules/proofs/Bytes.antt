@@ -1,14 +1,14 @@
 -- The laws of the readings.
-use mathlib.Core.Path.{_≡_, refl, sym, _∙_}
+use mathlib.Core.Path.{_≡_, refl, sym, ap, _∙_}
 use mathlib.Core.Bool.{Bool, true, false, _&&_}
-use mathlib.Core.List.{List, [], _∷_}
+use mathlib.Core.List.{List, [], _∷_, _++_}
 use Prim.Native.Nat.{ℕ, zero, suc, _+_, _-_, _≤_, _<_}
 use native.Mathlib.Omega.{arith}
 use native.Mathlib.Numerals.{add-one}
 use native.Mathlib.Decide.{decLt}
 use lib.Dec.{eqb}
-use lib.ListN.{length, drop, length-take, length-drop, drop-of-length-le, List·getD-eq-default}
-use lib.Seq.{drop-cons, getD-take, getD-drop, ext-getD}
+use lib.ListN.{length, take, drop, length-take, length-drop, take-append-drop, drop-of-length-le, List·getD-eq-default, replicate, length-replicate, getD-replicate}
+use lib.Seq.{take-all, take-at, drop-at, drop-drop, drop-cons, getD-take, getD-drop, ext-getD}
 use borrow.Author.Tests.{eq-eqb, eqb-true}
 use Rattle.rules.specs.Bytes.{byteAt, part, allAre, same}
 use Rattle.rules.proofs.Tests.{both, absurd-test}
@@ -61,6 +61,29 @@ part-below bytes from count limit some below i =
           omega arith
     ]
 
+-- a list is its two halves, so two lists whose halves are equal are equal
+both-halves : (m n : ℕ) (bytes : List ℕ) → length bytes ≡ m + n → part bytes 0 m ++ part bytes m n ≡ bytes
+both-halves m n bytes long =
+    ap (λ (l : List ℕ). take m bytes ++ l) (take-all n (drop m bytes) (omega (arith, long, length-drop m bytes))) ∙ take-append-drop m bytes
+
+pub halves : (m n : ℕ) (a b : List ℕ) → length a ≡ m + n → length b ≡ m + n → part a 0 m ≡ part b 0 m → part a m n ≡ part b m n → a ≡ b
+halves m n a b long long′ first second = sym (both-halves m n a long) ∙ rw (first, second) (both-halves m n b long′)
+
+-- a part behind the front of a list, and lists that agree in a part and behind it
+pub part-behind : (front back : List ℕ) (m i many : ℕ) → length front ≡ m → part (front ++ back) (m + i) many ≡ part back i many
+part-behind front back m i many long = ap (take many) (sym (drop-drop i m (front ++ back)) ∙ ap (drop i) (drop-at front back m long))
+
+pub part-and-rest : (a b : List ℕ) (i many : ℕ) → part a i many ≡ part b i many → drop (i + many) a ≡ drop (i + many) b → drop i a ≡ drop i b
+part-and-rest a b i many here behind =
+    sym (take-append-drop many (drop i a)) ∙ rw (here, drop-drop many i a, behind, ← drop-drop many i b) (take-append-drop many (drop i b))
+
+-- two lists that are equal and begin with parts of one length: so are the parts
+pub append-parts : (a b c d : List ℕ) → length a ≡ length c → a ++ b ≡ c ++ d → (a ≡ c) × (b ≡ d)
+append-parts a b c d long e = (
+  sym (take-at a b (length c) long) ∙ ap (take (length c)) e ∙ take-at c d (length c) refl,
+  sym (drop-at a b (length c) long) ∙ ap (drop (length c)) e ∙ drop-at c d (length c) refl,
+)
+
 -- all are one value: the next byte and the rest, the end, and every place
 pub all-step : (value : ℕ) (bytes : List ℕ) (i : ℕ) → i < length bytes
     → allAre value (drop i bytes) ≡ (eqb (byteAt bytes i) value && allAre value (drop (i + 1) bytes))
@@ -81,6 +104,10 @@ pub at-all : (value : ℕ) (bytes : List ℕ) → ((i : ℕ) → i < length byte
 unfolding allAre
 at-all value [] f = refl
 at-all value (b ∷ bytes) f = rw (eq-eqb b value (f zero (omega arith))) (at-all value bytes (λ i h. f (suc i) (omega arith)))
+
+pub at-replicate : (value : ℕ) (bytes : List ℕ) → ((i : ℕ) → i < length bytes → byteAt bytes i ≡ value) → bytes ≡ replicate (length bytes) value
+at-replicate value bytes f =
+    ext-getD 0 bytes (replicate (length bytes) value) (sym (length-replicate (length bytes) value)) (λ i h. f i h ∙ sym (getD-replicate (length bytes) i value 0 h))
 
 -- zeros from a place on, said of every place from there, past the end too
 all-zero-at : (bytes : List ℕ) → allAre 0 bytes ≡ true → (i : ℕ) → byteAt bytes i ≡ 0

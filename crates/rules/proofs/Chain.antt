@@ -16,10 +16,10 @@ use Rattle.rules.specs.Chain.{blockBytes, blockOf, endsChain, blocks, bl
 use Rattle.rules.specs.Map.{count}
 use Rattle.rules.proofs.Tests.{both}
 use Rattle.rules.proofs.Bytes.{drop-three, zeros-at, at-zeros}
-use Rattle.rules.proofs.Map.{count-none, count-other, count-append}
+use Rattle.rules.proofs.Map.{count-none, count-other, count-at, count-append}
 
 -- a block is had back from its bytes
-same-block : (s o s′ o′ : ℕ) → s ≡ s′ → o ≡ o′ → _≡_ {A = Block} (record { start = s; last = o }) (record { start = s′; last = o′ })
+pub same-block : (s o s′ o′ : ℕ) → s ≡ s′ → o ≡ o′ → _≡_ {A = Block} (record { start = s; last = o }) (record { start = s′; last = o′ })
 same-block s o s′ o′ p q = rw (p, q)
 
 pub block-bytes : (s o : ℕ) → s < 4096
@@ -118,6 +118,22 @@ run-holds p s (suc many) h =
           let rest = run-holds p (s + 1) many (omega (arith, count-other p s (run (s + 1) many) there)) in
           (omega arith, omega arith)
     ]
+
+pub run-counts : (p s many : ℕ) → s ≤ p → p < s + many → 1 ≤ count p (run s many)
+run-counts p s many low high =
+    let e : s + (p - s) ≡ p = omega arith in
+    rw (run-at s many (p - s) (omega arith), e) at (count-at (run s many) (p - s) (omega (arith, run-length s many)))
+
+pub run-parts : (s first second : ℕ) → run s (first + second) ≡ run s first ++ run (s + first) second
+unfolding run
+run-parts s zero second =
+    let e : s + 0 ≡ s = omega arith in
+    let f : 0 + second ≡ second = omega arith in
+    rw (e, f)
+run-parts s (suc first) second =
+    let e : s + 1 + first ≡ s + suc first = omega arith in
+    let f : suc first + second ≡ suc (first + second) = omega arith in
+    rw (f, ← e) (ap (λ (l : List ℕ). s ∷ l) (run-parts (s + 1) first second))
 
 -- the places of a linked chain: c of them, each from 2 to n - 1
 pub places-length : (n c next : ℕ) (bs : List Block) → Linked n c next bs → next + length (placesFrom next bs) ≡ c

@@ -1,18 +1,19 @@
--- A descriptor's rule, as a test and as facts; and what is read of a descriptor of which other bytes were changed.
+-- A descriptor's rule, as a test and as facts; its record count and the two bytes of it, each had back from the other; and what is read of a descriptor of which other bytes were changed.
 use mathlib.Core.Path.{_≡_}
 use mathlib.Core.Bool.{true, _&&_}
-use mathlib.Core.List.{List}
-use Prim.Native.Nat.{ℕ, _≤_, _<_}
+use mathlib.Core.List.{List, [], _∷_}
+use Prim.Native.Nat.{ℕ, _/_, _%_, _≤_, _<_}
 use native.Mathlib.Omega.{arith}
 use lib.ListN.{length, set, length-set}
 use lib.Seq.{getD-set-other}
-use Rattle.rules.specs.Bytes.{byteAt, bitOf}
+use Rattle.rules.specs.Bytes.{byteAt, bitOf, splice}
 use Rattle.rules.specs.Name.{nameRule, IsName}
 use Rattle.rules.specs.Chain.{chainRule}
 use Rattle.rules.specs.Kind.{statusRule, kindOf, kindRule, IsStatus}
-use Rattle.rules.specs.Descriptor.{nameOf, statusOf, sectorsOf, chainOf, fileKind, descriptorRule, IsDescriptor}
+use Rattle.rules.specs.Descriptor.{nameOf, statusOf, sectorsOf, recordCountOf, chainOf, fileKind, descriptorRule, IsDescriptor}
 use Rattle.rules.proofs.Tests.{both}
 use Rattle.rules.proofs.Bytes.{part-same}
+use Rattle.rules.proofs.Splice.{splice-inside}
 use Rattle.rules.proofs.Name.{name-is, is-name}
 use Rattle.rules.proofs.Chain.{chain-is, is-chain}
 use Rattle.rules.proofs.Status.{status-is, is-status, kind-is, is-kind}
@@ -36,6 +37,21 @@ pub is-descriptor : (n : ℕ) (d : List ℕ) → IsDescriptor n d → descriptor
 unfolding descriptorRule
 is-descriptor n d is =
     rw (is-name (nameOf d) (is .name), is-status (statusOf d) (is .status), is-kind (fileKind d) (sectorsOf d) (is .kind), is-chain n (sectorsOf d) (chainOf d) (is .chain))
+
+-- the record count: a number whose low byte is byte 18 and whose high byte is byte 19; so one that is laid there low byte first is read back
+pub record-count-back : (d : List ℕ) (number : ℕ) → byteAt d 18 ≡ number % 256 → byteAt d 19 ≡ number / 256 → recordCountOf d ≡ number
+unfolding recordCountOf
+record-count-back d number low high = omega arith
+
+pub record-count-laid : (d : List ℕ) (number : ℕ) → 20 ≤ length d → recordCountOf (splice d 18 ((number % 256) ∷ ((number / 256) ∷ []))) ≡ number
+record-count-laid d number long =
+    let bytes = (number % 256) ∷ ((number / 256) ∷ []) in
+    record-count-back (splice d 18 bytes) number (splice-inside d 18 bytes 0 (omega arith) (omega arith)) (splice-inside d 18 bytes 1 (omega arith) (omega arith))
+
+-- and its two bytes are those of the count
+pub record-count-bytes : (d : List ℕ) → byteAt d 18 < 256 → (byteAt d 18 ≡ recordCountOf d % 256) × (byteAt d 19 ≡ recordCountOf d / 256)
+unfolding recordCountOf
+record-count-bytes d low = (omega arith, omega arith)
 
 module _ (d d′ : List ℕ) (long : length d′ ≡ length d) where
   pub name-same : ((i : ℕ) → i < 10 → byteAt d′ i ≡ byteAt d i) → nameOf d′ ≡ nameOf d

@@ -12,15 +12,16 @@ use borrow.Author.Tests.{eq-eqb, ne-eqb, eqb-true}
 use Rattle.rules.specs.Bytes.{byteAt, wordBytes, part, over, splice}
 use Rattle.rules.specs.Sectors.{sectorOf, sectorCount}
 use Rattle.rules.specs.declared.Block.{Block}
-use Rattle.rules.specs.Chain.{blockBytes, endsChain, blocks, run, placesFrom, places, extended, extendedAll, blocksBytes, Linked, IsChain}
+use Rattle.rules.specs.Chain.{blockBytes, endsChain, blocks, run, placesFrom, extended, extendedAll, blocksBytes, chainWith, Linked, IsChain}
 use Rattle.rules.specs.Map.{count}
-use Rattle.rules.specs.Descriptor.{sectorsOf, chainOf, withChain, IsDescriptor}
+use Rattle.rules.specs.Descriptor.{sectorsOf, chainOf, withChain}
 use Rattle.rules.specs.Volume.{files, placesIn, fileHolders, holders}
 use Rattle.rules.specs.Sound.{fileAt, Sound}
 use Rattle.rules.proofs.Bytes.{part-length, part-short, part-at}
 use Rattle.rules.proofs.Map.{count-here, count-more}
 use Rattle.rules.proofs.Splice.{splice-length, splice-inside, splice-below, splice-above, splice-parts}
-use Rattle.rules.proofs.Chain.{block-bytes, run-step, places-length}
+use Rattle.rules.proofs.Chain.{block-bytes, run-step}
+use Rattle.rules.proofs.Volume.{places-count}
 use Rattle.rules.proofs.Free.{free-holders}
 
 -- three bytes a block
@@ -80,10 +81,6 @@ replicate-zero many i =
       | no past ↦ List·getD-eq-default (replicate many 0) 0 {n = i} (omega (arith, length-replicate {A = ℕ} many 0))
     ]
 
--- a chain of 228 bytes with those blocks at its front
-abbrev pub chainWith : List Block → List ℕ
-chainWith bs = over (replicate 228 0) (blocksBytes bs)
-
 pub chain-with-length : (bs : List Block) → length (chainWith bs) ≡ 228
 unfolding splice
 chain-with-length bs = splice-length (replicate 228 0) 0 (blocksBytes bs) ∙ length-replicate {A = ℕ} 228 0
@@ -96,6 +93,17 @@ pub blocks-over : (many : ℕ) (bs : List Block) → Writable bs → 3 * length 
 unfolding splice
 blocks-over many bs w fits =
     blocks-laid (replicate many 0) bs w (omega (arith, length-replicate {A = ℕ} many 0)) (λ i h. replicate-zero many i)
+
+-- bytes laid over what is zero behind them are laid over zeros
+over-zeros : (buffer bytes : List ℕ) → ((i : ℕ) → length bytes ≤ i → byteAt buffer i ≡ 0) → over buffer bytes ≡ over (replicate (length buffer) 0) bytes
+unfolding over
+over-zeros [] bytes zeros = refl
+over-zeros (b ∷ buffer) [] zeros = rw (zeros 0 (omega arith)) (ap (λ (l : List ℕ). 0 ∷ l) (alone buffer (over-zeros buffer [] (λ i h. zeros (suc i) (omega arith)))))
+  where
+    alone : (buffer : List ℕ) → over buffer [] ≡ over (replicate (length buffer) 0) [] → buffer ≡ replicate (length buffer) 0
+    alone [] e = refl
+    alone (b ∷ buffer) e = e
+over-zeros (b ∷ buffer) (c ∷ bytes) zeros = ap (λ (l : List ℕ). c ∷ l) (over-zeros buffer bytes (λ i h. zeros (suc i) (omega arith)))
 
 -- a run with one place more
 run-more : (s many : ℕ) → run s (many + 1) ≡ run s many ++ ((s + many) ∷ [])
@@ -141,6 +149,46 @@ module _ (n : ℕ) (k : ℕ) where
       go false e = (is .0, is .1, is .2, (low, omega arith, omega arith, omega (arith, is .3)))
   extended-linked low high c next (block ∷ (second ∷ more)) is =
       (is .0, is .1, is .2, extended-linked low high c (block .last + 1) (second ∷ more) (is .3))
+
+-- A chain of some blocks by its last one and its last place: a sector more extends that block where it follows that place, and otherwise begins a block.
+pub record Ending (k c next : ℕ) (bs : List Block) : Type 0 where
+  pub front : List Block
+  pub block : Block
+  pub was : bs ≡ front ++ (block ∷ [])
+  pub before : List ℕ
+  pub last : ℕ
+  pub places-are : placesFrom next bs ≡ before ++ (last ∷ [])
+  pub extends : k ≡ last + 1 → extended next bs k ≡ front ++ (record { start = block .start; last = block .last + 1 } ∷ [])
+  pub begins : (k ≡ last + 1 → ⊥) → extended next bs k ≡ bs ++ (record { start = k; last = c } ∷ [])
+
+pub ending : (n k c next : ℕ) (block : Block) (more : List Block) → Linked n c next (block ∷ more) → Ending k c next (block ∷ more)
+unfolding Linked placesFrom extended
+ending n k c next block [] is =
+    let many = block .last - next in
+    let e : block .start + (block .last + 1 - next) ≡ block .start + many + 1 = omega (arith, is .1) in
+    record {
+      front = [];
+      block = block;
+      was = refl;
+      before = run (block .start) many;
+      last = block .start + many;
+      places-are = append-nil (run (block .start) (many + 1)) ∙ run-more (block .start) many;
+      extends = λ follows. rw (eq-eqb k (block .start + (block .last + 1 - next)) (follows ∙ sym e));
+      begins = λ apart. rw (ne-eqb k (block .start + (block .last + 1 - next)) (λ f. apart (f ∙ e)), is .3);
+    }
+ending n k c next block (second ∷ more) is =
+    let rest = ending n k c (block .last + 1) second more (is .3) in
+    let here = run (block .start) (block .last - next + 1) in
+    record {
+      front = block ∷ rest .front;
+      block = rest .block;
+      was = ap (λ (l : List Block). block ∷ l) (rest .was);
+      before = here ++ rest .before;
+      last = rest .last;
+      places-are = ap (λ (l : List ℕ). here ++ l) (rest .places-are) ∙ sym (append-assoc here (rest .before) (rest .last ∷ []));
+      extends = λ follows. ap (λ (l : List Block). block ∷ l) (rest .extends follows);
+      begins = λ apart. ap (λ (l : List Block). block ∷ l) (rest .begins apart);
+    }
 
 -- it has as many blocks or one more, and at least one
 pub extended-length : (next : ℕ) (bs : List Block) (k : ℕ)
@@ -280,6 +328,13 @@ module _ (d : List ℕ) (c : ℕ) (bs : List Block) where
       pub with-chain-blocks : blocks (chainOf (withChain d c bs)) ≡ bs
       with-chain-blocks = ap blocks with-chain-chain ∙ blocks-laid (chainOf d) bs w (omega (arith, chain-long)) chain-zero
 
+      pub with-chain-with : chainOf (withChain d c bs) ≡ chainWith bs
+      unfolding splice
+      with-chain-with =
+          with-chain-chain
+          ∙ over-zeros (chainOf d) (blocksBytes bs) (λ i h. chain-zero i (omega (arith, h, blocks-bytes-length bs)))
+          ∙ ap (λ (many : ℕ). over (replicate many 0) (blocksBytes bs)) chain-long
+
       pub with-chain-is : (n : ℕ) → Linked n c 0 bs → IsChain n c (chainOf (withChain d c bs))
       with-chain-is n is =
           record {
@@ -299,13 +354,7 @@ places-among image (k ∷ ks) zero h = omega (arith, length-append (placesIn ima
 places-among image (k ∷ ks) (suc p) h =
     omega (arith, places-among image ks p (omega arith), length-append (placesIn image k) (fileHolders image ks))
 
-places-many : (image : List ℕ) (n k : ℕ) → IsDescriptor n (sectorOf image k) → length (placesIn image k) ≡ sectorsOf (sectorOf image k)
-unfolding placesIn places
-places-many image n k is =
-    let e = places-length n (sectorsOf (sectorOf image k)) 0 (blocks (chainOf (sectorOf image k))) (is .chain .linked) in
-    omega (arith, e)
-
 pub sectors-few : (image : List ℕ) (p : ℕ) → Sound image → p < length (files image) → sectorsOf (sectorOf image (fileAt image p)) ≤ 1600
 unfolding holders
 sectors-few image p is h =
-    omega (arith, free-holders image is, is .size, places-among image (files image) p h, places-many image (sectorCount image) (fileAt image p) (is .descriptors p h))
+    omega (arith, free-holders image is, is .size, places-among image (files image) p h, places-count (sectorCount image) image (fileAt image p) (is .descriptors p h))

@@ -1,20 +1,21 @@
 -- The files that a sound volume lists, by their numbers: where their descriptors and places are, that no sector is held twice, and what is left of the holders
 -- where one file is taken out.
-use mathlib.Core.Path.{_≡_, ap}
+use mathlib.Core.Path.{_≡_, refl, sym, ap}
 use mathlib.Core.List.{List, [], _∷_}
-use Prim.Native.Nat.{ℕ, _+_, _*_, _≤_, _<_}
+use Prim.Native.Nat.{ℕ, suc, _+_, _*_, _≤_, _<_}
 use native.Mathlib.Omega.{arith}
-use native.Mathlib.Decide.{decLt}
+use native.Mathlib.Decide.{decLt, ℕ-discrete}
 use lib.ListN.{length, getD}
 use Rattle.rules.specs.Sectors.{sectorOf, sectorCount}
+use Rattle.rules.specs.Name.{Before}
 use Rattle.rules.specs.Map.{mapBit, count, taken}
 use Rattle.rules.specs.Descriptor.{IsDescriptor}
 use Rattle.rules.specs.Index.{without}
 use Rattle.rules.specs.Volume.{files, nameIn, placesIn, fileHolders, holders}
 use Rattle.rules.specs.Sound.{Sound}
 use Rattle.rules.proofs.Sectors.{sector-length}
-use Rattle.rules.proofs.Name.{before-irrefl}
-use Rattle.rules.proofs.Map.{bits-taken, counted-all, count-here, count-at, count-append}
+use Rattle.rules.proofs.Name.{before-trans, before-irrefl}
+use Rattle.rules.proofs.Map.{bits-taken, counted-all, count-none, count-here, count-other, count-at, count-append}
 use Rattle.rules.proofs.Volume.{file-holders-inside}
 use Rattle.rules.proofs.Staying.{holders-without, file-holds}
 use Rattle.rules.proofs.Opening.{IsOpened}
@@ -36,6 +37,28 @@ one-of-name image ks up j k some more =
                 | no high ↦ let z : p ≡ q = omega arith in ap (λ (i : ℕ). getD ks i 0) z
               ]
         ]
+
+-- and two lists of the same numbers in name order are one
+pub one-order : (image ks js : List ℕ) → Ascending image ks → Ascending image js → ((i : ℕ) → count i ks ≡ count i js) → ks ≡ js
+one-order image [] [] up up′ same = refl
+one-order image [] (j ∷ js) up up′ same = absurd (omega (arith, same j, count-none j, count-here j js))
+one-order image (k ∷ ks) [] up up′ same = absurd (omega (arith, same k, count-none k, count-here k ks))
+one-order image (k ∷ ks) (j ∷ js) up up′ same =
+    elim (ℕ-discrete k j) [
+      | yes here ↦ rw here (ap (λ (l : List ℕ). j ∷ l) (one-order image ks js (later k ks up) (later j js up′) (λ i. omega (arith, rw here at (same i), count-append i (j ∷ []) ks, count-append i (j ∷ []) js))))
+      | no there ↦
+          absurd
+          (before-irrefl (nameIn image j)
+          (before-trans (nameIn image j) (nameIn image k) (nameIn image j)
+          (first j js up′ k (omega (arith, same k, count-here k ks, count-other k j js (λ e. there (sym e)))))
+          (first k ks up j (omega (arith, same j, count-here j js, count-other j k ks there)))))
+    ]
+  where
+    later : (i : ℕ) (is : List ℕ) → Ascending image (i ∷ is) → Ascending image is
+    later i is up p q h l = up (suc p) (suc q) (omega arith) (omega arith)
+
+    first : (i : ℕ) (is : List ℕ) → Ascending image (i ∷ is) → (m : ℕ) → 1 ≤ count m is → Before (nameIn image i) (nameIn image m)
+    first i is up = counted-all (λ (m : ℕ). Before (nameIn image i) (nameIn image m)) is (λ q l. up 0 (suc q) (omega arith) (omega arith))
 
 -- the holders are the two system sectors and those of the files
 pub system-and : (j : ℕ) (hs : List ℕ) → count j (0 ∷ (1 ∷ hs)) ≡ count j (0 ∷ (1 ∷ [])) + count j hs

@@ -1,13 +1,13 @@
 -- The listing's text: numbers in decimal, names without their padding, and how long the text of a sound volume can get.
-use mathlib.Core.Path.{_≡_, refl, _∙_}
+use mathlib.Core.Path.{_≡_, refl, sym, ap, _∙_}
 use mathlib.Core.Bool.{Bool, true, false, cond}
 use mathlib.Core.List.{List, [], _∷_, _++_}
 use Prim.Native.Nat.{ℕ, zero, suc, _+_, _*_, _/_, _%_, _^_, _≤_, _<_}
 use native.Mathlib.Omega.{arith}
 use native.Mathlib.Decide.{decLt}
 use lib.Dec.{eqb, ltb}
-use lib.ListN.{length, length-append}
-use borrow.Author.Tests.{eq-eqb, ne-eqb, lt-ltb, le-ltb}
+use lib.ListN.{length, getD, length-append}
+use borrow.Author.Tests.{lt-ltb, le-ltb}
 use Rattle.rules.specs.Bytes.{byteAt, part}
 use Rattle.rules.specs.Sectors.{sectorOf, sectorCount}
 use Rattle.rules.specs.Kind.{isProgram, isInternal, isVariable, programLength, kindOf}
@@ -23,6 +23,7 @@ use Rattle.rules.specs.declared.Kind.the-variants.{Program, Fixed, Varia
 use Rattle.rules.proofs.Bytes.{part-short}
 use Rattle.rules.proofs.Sectors.{sector-below}
 use Rattle.rules.proofs.Verdict.{sound, unsound-first, sound-first}
+use Rattle.rules.proofs.Extended.{sectors-few}
 use Rattle.rules.proofs.Outcome.{reported-refused, reported-given}
 
 -- digits: one, or those of the tenth part and one more
@@ -48,9 +49,29 @@ digits-short (suc fuel) (suc d) x h =
       | no more ↦ rw (le-ltb x 10 (omega arith), length-append) (omega (arith, digits-short fuel d (x / 10) (tenth-below (suc d) x h)))
     ]
 
-decimal-short : (d x : ℕ) → x < 10 ^ suc d → length (decimal x) ≤ suc d
+pub decimal-short : (d x : ℕ) → x < 10 ^ suc d → length (decimal x) ≤ suc d
 unfolding decimal
-decimal-short d x h = digits-short 20 d x h
+decimal-short d x h = digits-short (suc x) d x h
+
+-- where the fuel is enough, more of it gives the same digits
+digits-same : (d fuel x : ℕ) → x < 10 ^ suc d → x ≤ fuel → digits (suc d) x ≡ digits (suc fuel) x
+digits-same zero fuel x h enough =
+    let one : x < 10 = omega arith in
+    digits-one zero x one ∙ sym (digits-one fuel x one)
+digits-same (suc d) zero x h enough =
+    let one : x < 10 = omega arith in
+    digits-one (suc d) x one ∙ sym (digits-one zero x one)
+digits-same (suc d) (suc fuel) x h enough =
+    elim (decLt x 10) [
+      | yes one ↦ digits-one (suc d) x one ∙ sym (digits-one (suc fuel) x one)
+      | no more ↦
+          let tenth = digits-same d fuel (x / 10) (tenth-below (suc d) x h) (omega arith) in
+          digits-more (suc d) x (omega arith) ∙ ap (λ (l : List ℕ). l ++ ((48 + x % 10) ∷ [])) tenth ∙ sym (digits-more (suc fuel) x (omega arith))
+    ]
+
+pub digits-decimal : (d x : ℕ) → x < 10 ^ suc d → digits (suc d) x ≡ decimal x
+unfolding decimal
+digits-decimal d x h = digits-same d x x h (omega arith)
 
 -- a name is no longer without its padding
 pub unpadded-short : (name : List ℕ) → length (unpadded name) ≤ length name
@@ -76,7 +97,7 @@ pub free-few : (sector0 : List ℕ) → freeCount sector0 ≤ 1600
 unfolding freeCount
 free-few sector0 = zero-bits-few sector0 1600 0
 
--- a kind: its word has seven bytes, and its length is below 256 × 65,536
+-- a kind: its word has seven bytes, and its length is below a million where the file has at most 1,600 sectors
 kind-word-long : (kind : Kind) → length (kindWord kind) ≡ 7
 unfolding kindWord
 kind-word-long (Program bytes) = refl
@@ -85,33 +106,34 @@ kind-word-long (Fixed recordLength false) = refl
 kind-word-long (Variable recordLength true) = refl
 kind-word-long (Variable recordLength false) = refl
 
-kind-length-below : (status c endOffset recordLength : ℕ) → c < 65536 → endOffset < 256 → recordLength < 256 → kindLength (kindOf status c endOffset recordLength) < 16777216
+kind-length-below : (status c endOffset recordLength : ℕ) → c ≤ 1600 → endOffset < 256 → recordLength < 256 → kindLength (kindOf status c endOffset recordLength) < 10 ^ 6
 unfolding kindOf kindLength programLength
 kind-length-below status c endOffset recordLength hc he hr = test (isProgram status) (isVariable status)
   where
     test : (program variable : Bool)
-        → kindLength (cond program (Program (programLength c endOffset)) (cond variable (Variable recordLength (isInternal status)) (Fixed recordLength (isInternal status)))) < 16777216
+        → kindLength (cond program (Program (programLength c endOffset)) (cond variable (Variable recordLength (isInternal status)) (Fixed recordLength (isInternal status)))) < 10 ^ 6
     test true variable = omega arith
     test false true = omega arith
     test false false = omega arith
 
--- a file's line: 10 + 1 + 7 + 1 + 8 + 1 + 5 + 1 + 1 + 1
-file-line-short : (d : List ℕ) → ((i : ℕ) → byteAt d i < 256) → length (fileLine d) ≤ 36
+-- a file's line: 10 + 1 + 7 + 1 + 6 + 1 + 4 + 1 + 1 + 1
+file-line-short : (d : List ℕ) → ((i : ℕ) → byteAt d i < 256) → sectorsOf d ≤ 1600 → length (fileLine d) ≤ 33
 unfolding fileLine nameOf fileKind
-file-line-short d small =
+file-line-short d small few =
     let name = unpadded-short (part d 0 10) in
     let ten = part-short d 0 10 in
     let word = kind-word-long (fileKind d) in
-    let c : sectorsOf d < 65536 = omega (arith, small 14, small 15) in
-    let long = decimal-short 7 (kindLength (fileKind d)) (omega (arith, kind-length-below (statusOf d) (sectorsOf d) (byteAt d 16) (byteAt d 17) c (small 16) (small 17))) in
-    let many = decimal-short 4 (sectorsOf d) (omega arith) in
+    let long = decimal-short 5 (kindLength (fileKind d)) (kind-length-below (statusOf d) (sectorsOf d) (byteAt d 16) (byteAt d 17) few (small 16) (small 17)) in
+    let many = decimal-short 3 (sectorsOf d) (omega arith) in
     simp length-append (omega arith)
 
-file-lines-short : (image ks : List ℕ) → ((i : ℕ) → byteAt image i < 256) → length (fileLines image ks) ≤ 36 * length ks
+file-lines-short : (image ks : List ℕ) → ((i : ℕ) → byteAt image i < 256) → ((p : ℕ) → p < length ks → sectorsOf (sectorOf image (getD ks p 0)) ≤ 1600)
+    → length (fileLines image ks) ≤ 33 * length ks
 unfolding fileLines
-file-lines-short image [] small = omega arith
-file-lines-short image (k ∷ ks) small =
-    rw length-append (omega (arith, file-line-short (sectorOf image k) (sector-below image k 256 (omega arith) small), file-lines-short image ks small))
+file-lines-short image [] small few = omega arith
+file-lines-short image (k ∷ ks) small few =
+    let line = file-line-short (sectorOf image k) (sector-below image k 256 (omega arith) small) (few 0 (omega arith)) in
+    rw length-append (omega (arith, line, file-lines-short image ks small (λ p h. few (suc p) (omega arith))))
 
 -- the disk's line: 10 + 1 + 4 + 1 + 4 + 1
 disk-line-short : (image : List ℕ) → sectorCount image ≤ 1600 → length (diskLine image) ≤ 21
@@ -123,12 +145,13 @@ disk-line-short image size =
     let free = decimal-short 3 (freeCount (sectorOf image 0)) (omega (arith, free-few (sectorOf image 0))) in
     simp length-append (omega arith)
 
--- and a volume has at most 127 files
-pub listing-short : (image : List ℕ) → ((i : ℕ) → byteAt image i < 256) → verdict image ≡ 0 → length (listingText image) ≤ 4593
+-- and a volume has at most 127 files, each of at most 1,600 sectors
+pub listing-short : (image : List ℕ) → ((i : ℕ) → byteAt image i < 256) → verdict image ≡ 0 → length (listingText image) ≤ 4212
 unfolding listingText files
 listing-short image small e =
     let is = sound image e in
-    rw length-append (omega (arith, disk-line-short image (is .size .1), file-lines-short image (files image) small, is .index .few))
+    let lines = file-lines-short image (files image) small (λ p h. sectors-few image p is h) in
+    rw length-append (omega (arith, disk-line-short image (is .size .1), lines, is .index .few))
 
 -- the listing, for a buffer of `room` bytes: of an unsound image, where the text is too long, and where it fits
 module _ (image : List ℕ) (room : ℕ) where

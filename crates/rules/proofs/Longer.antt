@@ -7,7 +7,7 @@ use native.Mathlib.Omega.{arith}
 use native.Mathlib.Decide.{decLt}
 use lib.ListN.{length, take, List·getD-eq-default}
 use Rattle.rules.specs.Bytes.{byteAt, wordBytes, splice}
-use Rattle.rules.specs.Chain.{blocks, placesFrom, places, extended, blocksBytes, Linked}
+use Rattle.rules.specs.Chain.{blocks, placesFrom, places, extended, blocksBytes, chainWith, Linked}
 use Rattle.rules.specs.Kind.{isProgram}
 use Rattle.rules.specs.Descriptor.{nameOf, statusOf, sectorsOf, chainOf, fileKind, withChain, IsDescriptor}
 use Rattle.rules.specs.declared.Block.{Block}
@@ -15,7 +15,7 @@ use Rattle.rules.proofs.Bytes.{part-at, part-short}
 use Rattle.rules.proofs.Splice.{splice-past, splice-take}
 use Rattle.rules.proofs.Descriptor.{name-same}
 use Rattle.rules.proofs.Status.{any-kind}
-use Rattle.rules.proofs.Extended.{Writable, extended-places, extended-linked, extended-length, linked-writable, with-chain-length, with-chain-sectors, with-chain-before, with-chain-blocks, with-chain-is}
+use Rattle.rules.proofs.Extended.{Writable, extended-places, extended-linked, extended-length, linked-writable, with-chain-length, with-chain-sectors, with-chain-before, with-chain-blocks, with-chain-with, with-chain-is}
 
 abbrev pub longer-blocks : List ℕ → ℕ → List Block
 longer-blocks d new = extended 0 (blocks (chainOf d)) new
@@ -65,6 +65,9 @@ module _ (n : ℕ) (d : List ℕ) (new : ℕ) (size : length d ≡ 256) (is : Is
   longer-places =
       ap (placesFrom 0) (with-chain-blocks d (sectorsOf d + 1) (longer-blocks d new) size writable few zero-behind)
       ∙ extended-places n new (sectorsOf d) 0 (blocks (chainOf d)) (is .chain .linked)
+
+  pub longer-chain : chainOf (longer-descriptor d new) ≡ chainWith (longer-blocks d new)
+  longer-chain = with-chain-with d (sectorsOf d + 1) (longer-blocks d new) size writable few zero-behind
 
   pub longer-rules : IsDescriptor n (longer-descriptor d new)
   unfolding fileKind

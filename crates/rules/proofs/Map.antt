@@ -1,5 +1,5 @@
 -- Counts of holders, and the map: its rule as a test and as facts; the bits determine the bytes, and the bytes the bits.
-use mathlib.Core.Path.{_≡_, refl, sym, ap, _∙_}
+use mathlib.Core.Path.{_≡_, refl, sym, ap, _∙_, fun-ext}
 use mathlib.Core.Bool.{true, _&&_}
 use mathlib.Core.List.{List, [], _∷_, _++_}
 use Prim.Native.Nat.{ℕ, zero, suc, _+_, _-_, _*_, _/_, _%_, _≤_, _<_}
@@ -46,6 +46,10 @@ one-once k j =
       | yes here ↦ rw here (omega (arith, count-here j [], count-none j))
       | no other ↦ omega (arith, count-other j k [] other, count-none j)
     ]
+
+-- what does not count in a list is none of its numbers
+pub count-apart : (j k : ℕ) (ks : List ℕ) → count j (k ∷ ks) ≡ 0 → (j ≡ k → ⊥) × (count j ks ≡ 0)
+count-apart j k ks none = ((λ e. omega (arith, rw e at none, count-here k ks)), omega (arith, none, count-more j k ks))
 
 -- what stands in a list counts
 pub count-at : (ks : List ℕ) (p : ℕ) → p < length ks → 1 ≤ count (getD ks p 0) ks
@@ -240,6 +244,11 @@ map-of-bits n holders sector0 once e k h =
     in
     let z : 0 + 8 * (k / 8) + k % 8 ≡ k = omega arith in
     rw here (byte-bit (taken n holders) (taken-once n holders once) (0 + 8 * (k / 8)) (k % 8) (mod-lt k (omega arith)) ∙ ap (taken n holders) z)
+
+-- holders that count the same have the same map
+pub map-same : (n : ℕ) (old new : List ℕ) → ((k : ℕ) → count k new ≡ count k old) → mapOf n new ≡ mapOf n old
+unfolding mapOf
+map-same n old new counts = ap (λ (bit : ℕ → ℕ). bytesOf bit 200 0) (fun-ext (taken-same n old new counts))
 
 -- and bytes with the holders' bits are the map's
 pub map-of-bytes : (n : ℕ) (holders sector0 : List ℕ) → length (part sector0 56 200) ≡ 200 → ((i : ℕ) → byteAt sector0 i < 256)

@@ -1,13 +1,12 @@
 -- Openings: a file that a call names, a number of sector 1 at a time; what is known of one that was found and of a name that was not; and what a call on it does.
 use mathlib.Core.Path.{_≡_, refl, sym, ap, _∙_}
 use mathlib.Core.Bool.{Bool, true, false, not, cond}
-use mathlib.Core.List.{List, [], _∷_, _++_}
+use mathlib.Core.List.{List, [], _∷_}
 use Prim.Native.Nat.{ℕ, suc, _+_, _-_, _*_, _≤_, _<_}
 use native.Mathlib.Omega.{arith}
 use native.Mathlib.Decide.{decLt, ℕ-discrete}
-use lib.Dec.{eqb}
-use lib.ListN.{length, drop, getD}
-use borrow.Author.Tests.{eqb-true, eqb-false, not-false}
+use lib.ListN.{length, getD}
+use borrow.Author.Tests.{not-false}
 use Rattle.rules.specs.Bytes.{wordAt, same}
 use Rattle.rules.specs.Sectors.{sectorOf, sectorCount}
 use Rattle.rules.specs.Name.{nameRule}
@@ -15,7 +14,7 @@ use Rattle.rules.specs.Map.{count}
 use Rattle.rules.specs.Descriptor.{sectorsOf, IsDescriptor}
 use Rattle.rules.specs.Index.{numbers}
 use Rattle.rules.specs.Volume.{files, nameIn, placesIn}
-use Rattle.rules.specs.Tests.{Test, refuse, firstOf, unlessMet, Passed}
+use Rattle.rules.specs.Tests.{Test, refuse, firstOf, Passed}
 use Rattle.rules.specs.Verdict.{volumeTests, verdict}
 use Rattle.rules.specs.Sound.{Sound, fileAt, IsFile}
 use Rattle.rules.specs.Outcome.{Report, refuses, Outcome, refusal, AmountSays, Meets, Gives, ReadSays}
@@ -25,7 +24,7 @@ use Rattle.rules.specs.declared.Answer.the-variants as answer
 use Rattle.rules.specs.declared.Amount.the-variants as amount
 use Rattle.rules.specs.declared.Opened.{Opened}
 use Rattle.rules.specs.declared.Opened.the-variants.{At, Absent, Refused}
-use Rattle.rules.proofs.Tests.{absurd-test, all-passed, passed-both, first-passed, first-met, none-met, unless-passed, unless-met}
+use Rattle.rules.proofs.Tests.{absurd-test, all-passed, passed-both, none-met, unless-passed, unless-met}
 use Rattle.rules.proofs.Bytes.{same-is, is-same}
 use Rattle.rules.proofs.Map.{count-none, count-other}
 use Rattle.rules.proofs.Sectors.{sector-length}

@@ -1,5 +1,5 @@
 -- What an answer says is one thing only; what a call promises where it was refused, where it was done and where it hands on what another did; and what stands behind a pointer.
-use mathlib.Core.Path.{_≡_, refl, sym, ap, _∙_}
+use mathlib.Core.Path.{_≡_, refl, sym, _∙_}
 use mathlib.Core.Bool.{Bool, true, false, cond}
 use mathlib.Core.List.{List, []}
 use Prim.Native.Nat.{ℕ}
@@ -8,7 +8,7 @@ use borrow.Author.Tests.{eq-eqb, ne-eqb, eqb-true, eqb-false}
 use Rattle.rules.specs.Bytes.{splice}
 use Rattle.rules.specs.Sectors.{Write, written}
 use Rattle.rules.specs.Tests.{Test, firstOf, unlessMet}
-use Rattle.rules.specs.Outcome.{Report, gives, refuses, Outcome, done, refusal, reported, tested, AnswerSays, AmountSays, Meets, Gives, answerOf, amountOf, behind, ReadSays}
+use Rattle.rules.specs.Outcome.{Report, gives, refuses, Outcome, done, refusal, reported, AnswerSays, AmountSays, Meets, Gives, answerOf, amountOf, behind, ReadSays}
 use Rattle.rules.specs.declared.Answer.{Answer}
 use Rattle.rules.specs.declared.Amount.{Amount}
 use Rattle.rules.specs.declared.Answer.the-variants as answer
@@ -16,14 +16,7 @@ use Rattle.rules.specs.declared.Amount.the-variants as amount
 use Rattle.rules.proofs.Tests.{unless-passed, unless-met}
 use Rattle.rules.proofs.Splice.{splice-none}
 
--- by its tests: a call that was refused, and one that was done
-module _ (tests : List Test) (writes : List Write) where
-  pub tested-refused : (number : ℕ) → (number ≡ 0 → ⊥) → firstOf tests ≡ number → tested tests writes ≡ refusal number
-  tested-refused number some e = rw (unless-met tests writes [] (λ z. some (sym e ∙ z)), e)
-
-  pub tested-done : firstOf tests ≡ 0 → tested tests writes ≡ done writes
-  tested-done e = rw (unless-passed tests writes [] e, e)
-
+-- by its tests: a look that was refused, and one that was done
 module _ (tests : List Test) (value : ℕ) (bytes : List ℕ) where
   pub reported-refused : (number : ℕ) → (number ≡ 0 → ⊥) → firstOf tests ≡ number → reported tests value bytes ≡ refuses number
   reported-refused number some e = let met : firstOf tests ≡ 0 → ⊥ = λ z. some (sym e ∙ z) in rw (unless-met tests value 0 met, unless-met tests bytes [] met, e)

@@ -5,6 +5,7 @@ use Prim.Native.Nat.{ℕ, suc, _+_, _*_, _≤_, _<_}
 use native.Mathlib.Omega.{arith}
 use lib.ListN.{length, getD, length-append, length-map}
 use Rattle.rules.specs.Sectors.{sectorOf, sectorCount}
+use Rattle.rules.specs.Chain.{chainWith}
 use Rattle.rules.specs.Map.{count}
 use Rattle.rules.specs.Descriptor.{IsDescriptor}
 use Rattle.rules.specs.Volume.{File, files, placesIn, fileHolders, holders, headerIn, contentsIn, fileIn, catalogue}
@@ -16,7 +17,7 @@ use Rattle.rules.proofs.Sectors.{sector-length}
 use Rattle.rules.proofs.Map.{count-here, count-more}
 use Rattle.rules.proofs.Volume.{places-inside}
 use Rattle.rules.proofs.Free.{free-holders}
-use Rattle.rules.proofs.Extended.{chainWith, chain-with-length}
+use Rattle.rules.proofs.Extended.{chain-with-length}
 
 -- contents of whole sectors
 unfoldable pub Full : List (List ℕ) → Type 0

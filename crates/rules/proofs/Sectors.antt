@@ -1,11 +1,12 @@
--- A sector that the image has is 256 bytes long, and its bytes are the image's; a change of its bytes, the whole sector then written, is that change of the image's bytes.
+-- A sector that the image has is 256 bytes long, and its bytes are the image's, so that equal sectors make equal images; a change of its bytes, the whole sector then written, is that change of the image's bytes.
 use mathlib.Core.Path.{_≡_, sym, ap, _∙_}
 use mathlib.Core.List.{List, [], _∷_}
-use Prim.Native.Nat.{ℕ, _+_, _*_, _≤_, _<_}
+use Prim.Native.Nat.{ℕ, _+_, _*_, _/_, _%_, _≤_, _<_}
 use native.Mathlib.Omega.{arith}
 use lib.ListN.{length, set}
+use lib.Seq.{ext-getD}
 use Rattle.rules.specs.Bytes.{byteAt, splice}
-use Rattle.rules.specs.Sectors.{sectorOf}
+use Rattle.rules.specs.Sectors.{sectorOf, sectorCount}
 use Rattle.rules.proofs.Bytes.{part-length, part-at, part-below}
 use Rattle.rules.proofs.Splice.{splice-part, set-splice}
 
@@ -34,3 +35,15 @@ module _ (image : List ℕ) (k : ℕ) where
   sector-laid bytes h =
       let z : 256 * k + 0 ≡ 256 * k = omega arith in
       splice-part image (256 * k) 256 0 bytes (omega arith) ∙ ap (λ (at : ℕ). splice image at bytes) z
+
+-- two images of one length, a whole number of sectors, whose sectors are equal
+pub image-same : (a b : List ℕ) → length a ≡ length b → length a ≡ 256 * sectorCount a → ((j : ℕ) → j < sectorCount a → sectorOf a j ≡ sectorOf b j) → a ≡ b
+image-same a b long whole same =
+    ext-getD 0 a b long
+    (λ i h.
+    let e : 256 * (i / 256) + i % 256 ≡ i = omega arith in
+    let low : i % 256 < 256 = omega arith in
+    let byte =
+    sym (sector-byte a (i / 256) (i % 256) low) ∙ ap (λ (s : List ℕ). byteAt s (i % 256)) (same (i / 256) (omega (arith, h, whole))) ∙ sector-byte b (i / 256) (i % 256) low
+    in
+    rw e at byte)

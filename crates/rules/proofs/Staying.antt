@@ -5,6 +5,7 @@ use mathlib.Core.Bool.{Bool, true, false, cond}
 use mathlib.Core.List.{List, [], _∷_, _++_, map}
 use Prim.Native.Nat.{ℕ, zero, suc, _+_, _≤_, _<_}
 use native.Mathlib.Omega.{arith}
+use native.Mathlib.Decide.{ℕ-discrete}
 use lib.ListN.{length, getD, set}
 use lib.Dec.{eqb}
 use borrow.Author.Tests.{eqb-true, eqb-false}
@@ -14,7 +15,7 @@ use Rattle.rules.specs.Map.{mapBit, count}
 use Rattle.rules.specs.Chain.{places}
 use Rattle.rules.specs.Descriptor.{chainOf}
 use Rattle.rules.specs.Index.{without}
-use Rattle.rules.specs.Volume.{nameIn, placesIn, fileHolders, holders, headerIn, contentsIn, fileIn, placed}
+use Rattle.rules.specs.Volume.{files, nameIn, placesIn, fileHolders, holders, headerIn, contentsIn, fileIn, catalogue, placed}
 use Rattle.rules.specs.Sound.{Sound}
 use Rattle.rules.proofs.Map.{count-none, count-here, count-other, count-more, count-at, count-append}
 
@@ -23,19 +24,31 @@ pub places-kept : (image after : List ℕ) (k : ℕ) → sectorOf after k ≡ se
 unfolding placesIn
 places-kept image after k e = ap (λ (s : List ℕ). places (chainOf s)) e
 
--- and the holders of files whose descriptors all do
-pub holders-kept : (image after ks : List ℕ) → ((k : ℕ) → 1 ≤ count k ks → sectorOf after k ≡ sectorOf image k) → fileHolders after ks ≡ fileHolders image ks
+-- the holders of files that all have the same places, as those have whose descriptors stand
+pub holders-agree : (image after ks : List ℕ) → ((k : ℕ) → 1 ≤ count k ks → placesIn after k ≡ placesIn image k) → fileHolders after ks ≡ fileHolders image ks
 unfolding fileHolders
-holders-kept image after [] kept = refl
-holders-kept image after (k ∷ ks) kept =
-    rw (places-kept image after k (kept k (omega (arith, count-here k ks))), holders-kept image after ks (λ j h. kept j (omega (arith, count-more j k ks))))
+holders-agree image after [] same = refl
+holders-agree image after (k ∷ ks) same =
+    rw (same k (omega (arith, count-here k ks)), holders-agree image after ks (λ j h. same j (omega (arith, count-more j k ks))))
+
+pub holders-kept : (image after ks : List ℕ) → ((k : ℕ) → 1 ≤ count k ks → sectorOf after k ≡ sectorOf image k) → fileHolders after ks ≡ fileHolders image ks
+holders-kept image after ks kept = holders-agree image after ks (λ k h. places-kept image after k (kept k h))
 
 -- a list read through two functions that agree on it
 pub map-agree : {B : Type 0} (f g : ℕ → B) (ks : List ℕ) → ((k : ℕ) → 1 ≤ count k ks → f k ≡ g k) → map f ks ≡ map g ks
 map-agree f g [] same = refl
 map-agree f g (k ∷ ks) same = rw (same k (omega (arith, count-here k ks)), map-agree f g ks (λ j h. same j (omega (arith, count-more j k ks))))
 
--- and through two that agree on it but at one place, whose number stands there once
+-- two that read it alike do agree on it
+pub map-each : {B : Type 0} (f g : ℕ → B) (ks : List ℕ) → map f ks ≡ map g ks → (j : ℕ) → 1 ≤ count j ks → f j ≡ g j
+map-each f g [] same j there = absurd (omega (arith, there, count-none j))
+map-each f g (k ∷ ks) same j there =
+    elim (ℕ-discrete k j) [
+      | yes here ↦ rw (← here) (cc same)
+      | no other ↦ map-each f g ks (cc same) j (omega (arith, there, count-other j k ks other))
+    ]
+
+-- a list read through two that agree on it but at one place, whose number stands there once
 pub map-changed : {B : Type 0} (old new : ℕ → B) (ks : List ℕ) (p : ℕ) → p < length ks → count (getD ks p 0) ks ≤ 1
     → ((k : ℕ) → 1 ≤ count k ks → (k ≡ getD ks p 0 → ⊥) → new k ≡ old k) → map new ks ≡ set (map old ks) p (new (getD ks p 0))
 map-changed old new [] p h once others = absurd (omega arith)
@@ -87,6 +100,26 @@ holders-without image k j (i ∷ is) there = go (eqb i k) refl (holders-without 
 -- a file's descriptor and places are among the holders
 pub file-holds : (image : List ℕ) (k j : ℕ) (ks : List ℕ) → 1 ≤ count k ks → count j (k ∷ placesIn image k) ≤ count j (fileHolders image ks)
 file-holds image k j ks there = omega (arith, holders-without image k j ks there)
+
+file-held : (image : List ℕ) (k j : ℕ) → 1 ≤ count k (files image) → count j (k ∷ placesIn image k) ≤ count j (holders image)
+unfolding holders
+file-held image k j there =
+    omega (arith, file-holds image k j (files image) there, count-more j 1 (fileHolders image (files image)), count-more j 0 (1 ∷ fileHolders image (files image)))
+
+-- and so are the system sectors
+pub system-held : (image : List ℕ) → (1 ≤ count 0 (holders image)) × (1 ≤ count 1 (holders image))
+unfolding holders count
+system-held image = (omega arith, omega arith)
+
+-- where all that is held stands as it stood, so does the catalogue
+pub catalogue-kept : (image after : List ℕ) → ((k : ℕ) → 1 ≤ count k (holders image) → sectorOf after k ≡ sectorOf image k) → catalogue after ≡ catalogue image
+unfolding catalogue files
+catalogue-kept image after kept =
+    rw (kept 1 (system-held image .1))
+    (files-kept image after (files image)
+    (λ k there.
+    file-kept image after k (kept k (omega (arith, file-held image k k there, count-here k (placesIn image k))))
+    (λ p placed. kept p (omega (arith, placed, file-held image k p there, count-more p k (placesIn image k))))))
 
 -- a sector that the map has free is nobody's
 pub free-unheld : (image : List ℕ) (k : ℕ) → Sound image → k < sectorCount image → mapBit (sectorOf image 0) k ≡ 0 → count k (holders image) ≡ 0

@@ -2,7 +2,7 @@
 use mathlib.Core.Path.{_≡_, refl, sym, _∙_}
 use mathlib.Core.Bool.{Bool, true, false, cond, _&&_, _||_}
 use mathlib.Core.List.{List, [], _∷_, _++_}
-use Prim.Native.Nat.{ℕ, suc}
+use Prim.Native.Nat.{ℕ, suc, _≤_, _<_}
 use native.Mathlib.Omega.{arith}
 use lib.Dec.{eqb}
 use borrow.Author.Tests.{eq-eqb, ne-eqb}
@@ -46,6 +46,20 @@ pub none-met : (tests : List Test) → Passed tests → firstOf tests ≡ 0
 unfolding firstOf Passed
 none-met [] passed = refl
 none-met (test ∷ tests) passed = rw (passed .0) (none-met tests (passed .1))
+
+-- where no test has a larger number, neither has the first one met
+unfoldable pub AtMost : ℕ → List Test → Type 0
+AtMost most [] = Unit {0}
+AtMost most (test ∷ tests) = (test .less < most) × AtMost most tests
+
+pub first-most : (most : ℕ) (tests : List Test) → AtMost most tests → firstOf tests ≤ most
+unfolding firstOf AtMost
+first-most most [] few = omega arith
+first-most most (test ∷ tests) few = go (test .met) (first-most most tests (few .1))
+  where
+    go : (t : Bool) → firstOf tests ≤ most → cond t (suc (test .less)) (firstOf tests) ≤ most
+    go true more = omega (arith, few .0)
+    go false more = more
 
 -- one list behind another
 pub first-passed : (first second : List Test) → firstOf first ≡ 0 → firstOf (first ++ second) ≡ firstOf second

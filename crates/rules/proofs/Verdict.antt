@@ -5,21 +5,21 @@ use mathlib.Core.Bool.{true, false, _&&_}
 use mathlib.Core.List.{List, [], _∷_, _++_}
 use Prim.Native.Nat.{ℕ, zero, suc, _*_, _%_, _≤_, _<_}
 use native.Mathlib.Omega.{arith}
-use native.Mathlib.Decide.{decLt, ℕ-discrete}
+use native.Mathlib.Decide.{ℕ-discrete}
 use lib.Dec.{eqb, leb, ltb}
 use lib.ListN.{length, getD}
 use borrow.Author.Tests.{eq-eqb, eqb-true, le-leb, leb-true, le-ltb, ltb-false, not-false}
 use Rattle.rules.specs.Sectors.{sectorOf, sectorCount}
 use Rattle.rules.specs.Name.{precedes, Before}
 use Rattle.rules.specs.Label.{labelRule}
-use Rattle.rules.specs.Map.{mapBit, count, taken, mapRule}
+use Rattle.rules.specs.Map.{count, mapRule}
 use Rattle.rules.specs.Descriptor.{descriptorRule, IsDescriptor}
 use Rattle.rules.specs.Index.{indexRule}
 use Rattle.rules.specs.Volume.{files, nameIn, holders}
 use Rattle.rules.specs.Tests.{Test, firstOf, Passed}
 use Rattle.rules.specs.Verdict.{sizeRule, descriptorsRule, heldTwice, volumeTests, verdict}
 use Rattle.rules.specs.Sound.{Sound, fileAt}
-use Rattle.rules.proofs.Tests.{both, neither, all-passed, first-passed, first-met}
+use Rattle.rules.proofs.Tests.{both, neither, all-passed, first-passed, first-met, AtMost, first-most}
 use Rattle.rules.proofs.Name.{precedes-is, is-precedes, before-trans}
 use Rattle.rules.proofs.Label.{label-is, is-label}
 use Rattle.rules.proofs.Map.{count-none, count-here, count-other, count-more, taken-below, taken-past, bits-taken, map-at, at-map}
@@ -174,6 +174,11 @@ passes image is =
 
 pub verdict-sound : (image : List ℕ) → (verdict image ≡ 0) ↔ Sound image
 verdict-sound image = (sound image, passes image)
+
+-- the numbers are 0 to 6
+pub verdict-small : (image : List ℕ) → verdict image ≤ 6
+unfolding verdict volumeTests AtMost
+verdict-small image = first-most 6 (volumeTests image) (omega arith, (omega arith, (omega arith, (omega arith, (omega arith, (omega arith, tt))))))
 
 -- a call whose tests begin with those of the volume
 module _ (image : List ℕ) (tests : List Test) where

@@ -4,8 +4,8 @@ use mathlib.Core.Bool.{Bool, cond, _&&_}
 use mathlib.Core.List.{List, [], _∷_, _++_}
 use Prim.Native.Nat.{ℕ, zero, suc, _+_, _-_, _*_, _/_, _%_, _≤_, _<_}
 use lib.Dec.{eqb, leb, ltb}
-use lib.ListN.{length, drop}
-use Rattle.rules.specs.Bytes.{byteAt, allAre}
+use lib.ListN.{length, drop, replicate}
+use Rattle.rules.specs.Bytes.{byteAt, allAre, over}
 use Rattle.rules.specs.declared.Block.{Block}
 
 -- a block of start s and last offset o holds: s mod 256; then s/256 + 16 × (o mod 16); then o/16
@@ -66,6 +66,10 @@ extendedAll bs (k ∷ ks) = extendedAll (extended 0 bs k) ks
 unfoldable pub blocksBytes : List Block → List ℕ
 blocksBytes [] = []
 blocksBytes (block ∷ more) = blockBytes block ++ blocksBytes more
+
+-- the 228 bytes of a chain with those blocks: all after them are zero
+abbrev pub chainWith : List Block → List ℕ
+chainWith bs = over (replicate 228 0) (blocksBytes bs)
 
 -- The same as facts.
 unfoldable pub Linked : ℕ → ℕ → ℕ → List Block → Type 0

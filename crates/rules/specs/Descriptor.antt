@@ -1,7 +1,7 @@
--- A descriptor: bytes 0-9 name, 12 status, 14-15 the number of sectors c, 16 end offset, 17 record length, 28-255 the chain. 10-11, 13 and 16-27 are carried and not judged.
+-- A descriptor: bytes 0-9 name, 12 status, 13 records per sector, 14-15 the number of sectors c, 16 end offset, 17 record length, 18-19 record count, 28-255 the chain. 10-11, 13 and 16-27 are carried and not judged.
 use mathlib.Core.Bool.{Bool, _&&_}
 use mathlib.Core.List.{List, _∷_, _++_}
-use Prim.Native.Nat.{ℕ}
+use Prim.Native.Nat.{ℕ, _+_, _*_}
 use lib.ListN.{replicate}
 use Rattle.rules.specs.Bytes.{byteAt, wordAt, wordBytes, part, splice}
 use Rattle.rules.specs.Name.{nameRule, IsName}
@@ -18,6 +18,10 @@ statusOf descriptor = byteAt descriptor 12
 
 abbrev pub sectorsOf : List ℕ → ℕ
 sectorsOf descriptor = wordAt descriptor 14
+
+-- low byte first
+unfoldable pub recordCountOf : List ℕ → ℕ
+recordCountOf descriptor = byteAt descriptor 18 + 256 * byteAt descriptor 19
 
 -- the 228 bytes from byte 28 on are handed to the chain rules as they stand
 unfoldable pub chainOf : List ℕ → List ℕ

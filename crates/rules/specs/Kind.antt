@@ -1,7 +1,7 @@
 -- Status and kind. Status: 01 hex program, 02 internal, 08 protected, 80 variable; other bits zero; 01 excludes 02 and 80.
 use mathlib.Core.Path.{_≡_}
 use mathlib.Core.Bool.{Bool, true, cond, not, _&&_}
-use Prim.Native.Nat.{ℕ, _+_, _-_, _*_, _≤_}
+use Prim.Native.Nat.{ℕ, _+_, _-_, _*_, _/_, _≤_}
 use lib.Dec.{eqb, leb}
 use Rattle.rules.specs.Bytes.{bitOf}
 use Rattle.rules.specs.declared.Kind.{Kind}
@@ -29,6 +29,10 @@ statusRule status = eqb status (allowed status) && cond (isProgram status) (not 
 -- a program's length in bytes: c sectors, the last used up to the end offset
 unfoldable pub programLength : ℕ → ℕ → ℕ
 programLength c endOffset = 256 * (c - 1) + endOffset
+
+-- how many sectors a program of so many bytes takes
+abbrev pub sectorsFor : ℕ → ℕ
+sectorsFor bytes = bytes / 256 + 1
 
 -- the kind of a file of that status, with its c, end offset and record length
 unfoldable pub kindOf : ℕ → ℕ → ℕ → ℕ → Kind

@@ -15,7 +15,8 @@ use Rattle.rules.specs.Volume.{files}
 use Rattle.rules.specs.Tests.{firstOf, unlessMet}
 use Rattle.rules.specs.Outcome.{done, refusal}
 use Rattle.rules.specs.Calls.Create.{entered}
-use Rattle.rules.specs.Calls.Store.{sectorsFor, dataWrites, newSectors, newBlocks, storeTests, storing}
+use Rattle.rules.specs.Kind.{sectorsFor}
+use Rattle.rules.specs.Calls.Store.{dataWrites, newSectors, newBlocks, storeTests, storing}
 use Rattle.storing.specs.Spread.{Spread}
 
 module _ (image name bytes : List ℕ) where

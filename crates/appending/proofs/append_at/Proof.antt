@@ -151,7 +151,7 @@ returns-4 c =
     rw (open-file (e .before), is-data e, eq-eqb _ _ (l .if3 .left), lt-ltb (freeCount (sectorOf (start₃ l .args .image .now) 0)) 1 (omega (arith, free-is (c .before), c .if4 .taken))) (refusal-meets (start₃ l .args .image .now) _ 12 (λ z. omega arith) refl)
 
 next-requires : tie.Need-next-requires
-next-requires c κs = c .before .before .first .ensures _
+next-requires c κs = c .before .before .first .ensures .1 _
 
 sector-of-requires-4 : tie.Need-sector-of-requires-4
 sector-of-requires-4 c κs = small (start₅ (c .before))

@@ -1,5 +1,5 @@
 -- `cataloguing::entry` meets its contract: each refusal gives the number of the first test that was met; the file's number stands in sector 1 at twice the place. Assumes nothing.
-use mathlib.Core.Path.{_≡_, refl, sym, ap, _∙_}
+use mathlib.Core.Path.{_≡_, sym, ap, _∙_}
 use mathlib.Core.List.{List, [], _∷_}
 use Prim.Native.Nat.{ℕ, _<_, _≤_, _*_}
 use native.Mathlib.Omega.{arith}

@@ -1,6 +1,5 @@
 -- `opening::find` meets its contract: each of its ways out is the first test that was met, or the search where none was. Assumes nothing.
 use mathlib.Core.Path.{_≡_, sym, _∙_}
-use Prim.Native.Nat.{ℕ}
 use native.Mathlib.Omega.{arith}
 use borrow.Author.Tests.{not-true, not-false}
 use Rattle.rules.specs.Verdict.{verdict}

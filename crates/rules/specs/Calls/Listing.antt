@@ -11,18 +11,18 @@ use Rattle.rules.specs.Descriptor.{nameOf, statusOf, sectorsOf, fileKind
 use Rattle.rules.specs.Volume.{files}
 use Rattle.rules.specs.Kind.{isProtected}
 use Rattle.rules.specs.Tests.{Test, refuse}
-use Rattle.rules.specs.Verdict.{volumeTests}
+use Rattle.rules.specs.Verdict.{volumeTests, verdict}
 use Rattle.rules.specs.Outcome.{Report, reported}
 use Rattle.rules.specs.declared.Kind.{Kind}
 use Rattle.rules.specs.declared.Kind.the-variants.{Program, Fixed, Variable}
 
--- a number in decimal digits, by a fuel of digits; twenty are enough for 64 bits
+-- a number in decimal digits, by a fuel of digits; for x, x + 1 are always enough
 unfoldable pub digits : ℕ → ℕ → List ℕ
 digits zero x = []
 digits (suc fuel) x = cond (ltb x 10) ((48 + x) ∷ []) (digits fuel (x / 10) ++ ((48 + x % 10) ∷ []))
 
 unfoldable pub decimal : ℕ → List ℕ
-decimal x = digits 20 x
+decimal x = digits (suc x) x
 
 -- a name up to its padding
 unfoldable pub unpadded : List ℕ → List ℕ
@@ -74,3 +74,11 @@ listingOf image room = reported (listingTests image room) (length (listingText i
 -- an unsound image gives only `REFUSED` and its number
 unfoldable pub refusedLine : ℕ → List ℕ
 refusedLine number = 0x52 ∷ (0x45 ∷ (0x46 ∷ (0x55 ∷ (0x53 ∷ (0x45 ∷ (0x44 ∷ (32 ∷ (decimal number ++ (10 ∷ [])))))))))
+
+-- the text of an image, sound or not
+unfoldable pub listed : List ℕ → List ℕ
+listed image = cond (eqb (verdict image) 0) (listingText image) (refusedLine (verdict image))
+
+-- what the call leaves a program to show, for a buffer of `room` bytes: the listing, or the line of the refusal
+unfoldable pub shown : List ℕ → ℕ → List ℕ
+shown image room = cond (eqb (listingOf image room .number) 0) (listingText image) (refusedLine (listingOf image room .number))

@@ -1,10 +1,11 @@
 -- Storing takes a name and the program's bytes, and writes status 01, c, byte 16 and the chain; the descriptor's other bytes are zero. L bytes take L/256 rounded down, + 1, sectors; the rest of the last sector is zero.
 use mathlib.Core.List.{List, [], _∷_, _++_}
-use Prim.Native.Nat.{ℕ, _+_, _/_, _%_}
+use Prim.Native.Nat.{ℕ, _+_, _%_}
 use lib.Dec.{leb, ltb}
 use lib.ListN.{length, drop, replicate}
 use Rattle.rules.specs.Bytes.{over}
 use Rattle.rules.specs.Sectors.{Write, sectorOf}
+use Rattle.rules.specs.Kind.{sectorsFor}
 use Rattle.rules.specs.Map.{freeCount, marked, markedAll}
 use Rattle.rules.specs.Chain.{extendedAll}
 use Rattle.rules.specs.Descriptor.{newDescriptor, withChain}
@@ -15,9 +16,6 @@ use Rattle.rules.specs.Outcome.{Outcome, write, tested}
 use Rattle.rules.specs.Opening.{openOf, adding}
 use Rattle.rules.specs.Calls.Create.{entered}
 use Rattle.rules.specs.declared.Block.{Block}
-
-abbrev pub sectorsFor : ℕ → ℕ
-sectorsFor bytes = bytes / 256 + 1
 
 -- the bytes go to the sectors ks, in file order, 256 to each; where there are no more, zeros
 unfoldable pub dataWrites : List ℕ → List ℕ → List Write

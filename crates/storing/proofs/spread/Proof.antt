@@ -42,7 +42,7 @@ kept-chain c = c .loop .inv .built .size ∙ sym (ap length (start c .pre .1))
 loop-holds : tie.Need-loop-holds Inv-loop μ-loop
 loop-holds c =
     let pre = c .before .before .before .pre in
-    spreading-first _ (pre .0) (λ i. omega (arith, c .before .slice-known2 .given i)) (pre .1) (c .first .ensures _)
+    spreading-first _ (pre .0) (λ i. omega (arith, c .before .slice-known2 .given i)) (pre .1) (c .first .ensures .1 _)
 
 next-requires : tie.Need-next-requires Inv-loop μ-loop
 next-requires c κs = c .before .before .loop .inv .searched

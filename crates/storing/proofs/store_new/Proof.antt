@@ -15,7 +15,8 @@ use Rattle.rules.specs.Chain.{blocks, places}
 use Rattle.rules.specs.Descriptor.{newDescriptor, withChain}
 use Rattle.rules.specs.Index.{indexOf}
 use Rattle.rules.specs.Volume.{files, placed}
-use Rattle.rules.specs.Calls.Store.{sectorsFor, dataWrites}
+use Rattle.rules.specs.Kind.{sectorsFor}
+use Rattle.rules.specs.Calls.Store.{dataWrites}
 use Rattle.rules.proofs.Name.{name-is}
 use Rattle.rules.proofs.Choice.{choices-length}
 use Rattle.rules.proofs.Outcome.{refusal-meets, done-meets}

@@ -1,7 +1,6 @@
 -- `summarizing::free_count` meets its contract: the judge's number, or the count of sector 0. Assumes nothing.
 use mathlib.Core.Path.{sym, ap, _∙_}
 use Rattle.rules.specs.Map.{freeCount}
-use Rattle.rules.specs.Tests.{unlessMet}
 use Rattle.rules.specs.Verdict.{verdict}
 use Rattle.rules.specs.Outcome.{AmountSays}
 use Rattle.rules.specs.Calls.Summary.{freeCountOf}

@@ -1,13 +1,13 @@
 -- `listing::text::put_number` meets its contract. The loop's invariant: the digits of what is left of the number, and those set already with the mark behind them, are the number's with the mark.
 -- The measure is what is left of the number. Assumes nothing.
 use mathlib.Core.Path.{_≡_, refl, sym, ap, _∙_}
-use mathlib.Core.List.{[], _∷_, _++_}
+use mathlib.Core.List.{List, [], _∷_, _++_}
 use Prim.Native.Nat.{ℕ, suc, _-_, _/_, _^_, _≤_, _<_}
 use native.Mathlib.Omega.{arith}
 use lib.ListN.{length, length-take, drop, set, length-drop, length-set}
 use lib.Seq.{take-all}
 use Rattle.rules.specs.Calls.Listing.{digits, decimal}
-use Rattle.rules.proofs.Listing.{tenth-below}
+use Rattle.rules.proofs.Listing.{tenth-below, digits-decimal}
 use Rattle.listing.proofs.LaidLaws.{laid-as}
 use Rattle.listing.proofs.TextSteps.{digit-more, digit-last, second-digit}
 use borrow.Author.Needs.{needs}
@@ -21,8 +21,10 @@ abbrev μ-loop : tie.MeasureT-loop
 μ-loop text at number mark figures₀ left₀ first₀ figures left first = left
 
 loop-holds : tie.Need-loop-holds Inv-loop μ-loop
-unfolding decimal
-loop-holds c = (refl, omega arith, omega (arith, c .before .fits .number), refl)
+loop-holds c =
+    let number = c .before .args .number in
+    let below : number < 10 ^ 20 = omega (arith, c .before .fits .number) in
+    (refl, omega arith, below, ap (λ (l : List ℕ). l ++ (c .before .args .mark ∷ [])) (digits-decimal 19 number below))
 
 sub-first : tie.Need-sub-first Inv-loop μ-loop
 sub-first c =

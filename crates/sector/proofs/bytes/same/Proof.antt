@@ -1,7 +1,7 @@
 -- `sector::bytes::same` meets its contract. The loop's invariant: what is left of the two is equal exactly where they are.
 -- The measure is what is left of the length. Assumes nothing.
 use mathlib.Core.Path.{_≡_, refl, sym, _∙_}
-use Prim.Native.Nat.{_≤_, _-_}
+use Prim.Native.Nat.{_-_}
 use native.Mathlib.Omega.{arith}
 use lib.ListN.{length, drop}
 use borrow.Author.Tests.{eq-eqb, ne-eqb}

@@ -1,0 +1,2 @@
+-- The definitions that the contracts of `belt` cite.
+pub mod Line

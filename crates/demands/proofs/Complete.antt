@@ -1,0 +1,180 @@
+-- Two versions that meet demand 2 do the same at every call: the number is that of the first ground; a refusal leaves everything and carries its number alone; and what a call that was done
+-- gives and leaves is fixed by its meaning.
+use mathlib.Core.Path.{_≡_, refl, sym, ap, _∙_}
+use mathlib.Core.Logic.{inl, inr}
+use mathlib.Core.List.{List, [], _∷_, _++_}
+use Prim.Native.Nat.{ℕ}
+use native.Mathlib.Omega.{arith}
+use native.Mathlib.Decide.{ℕ-discrete}
+use lib.ListN.{length}
+use Rattle.rules.specs.Sectors.{sectorCount}
+use Rattle.rules.specs.Volume.{catalogue}
+use Rattle.rules.specs.Sound.{Sound}
+use Rattle.rules.specs.Verdict.{verdict}
+use Rattle.rules.specs.declared.Answer.{Answer}
+use Rattle.rules.specs.declared.Answer.the-variants as answers
+use Rattle.rules.specs.declared.Amount.{Amount}
+use Rattle.rules.specs.declared.Amount.the-variants as amounts
+use Rattle.rules.specs.declared.Summary.{Summary}
+use Rattle.rules.specs.declared.Summary.the-variants as summaries
+use Rattle.rules.specs.declared.Entry.{Entry}
+use Rattle.rules.specs.declared.Row.{Row}
+use Rattle.rules.proofs.Verdict.{sound}
+use Rattle.demands.specs.Call as call
+use Rattle.demands.specs.Call.{Form, Answered, answerNumber, amountNumber, summaryNumber, numberIn, Plain, Look, Call, formOf, Result, Version, numberOf}
+use Rattle.demands.specs.Ours.{seen, ours}
+use Rattle.demands.specs.Grounds.{Ground, First, faults, lookGrounds, grounds}
+use Rattle.demands.specs.Demand2.{FreeIs, Shows, Means, Frame, Demand2}
+use Rattle.demands.specs.Unique.{OneVersion, OnlyOurs}
+use Rattle.demands.proofs.Demand2.{demand2}
+use Rattle.demands.proofs.Formatting.{formats-one}
+use Rattle.demands.proofs.Lines.{lists-one}
+use Rattle.demands.proofs.PackedOne.{packs-one}
+use Rattle.demands.proofs.Touched.{touches-one}
+use Rattle.demands.proofs.Unique.{same-result}
+
+-- the first ground fixes the number
+first-one : (n m : ℕ) (gs : List {1} Ground) → First n gs → First m gs → n ≡ m
+unfolding First
+first-one n m [] one two = one ∙ sym two
+first-one n m (g ∷ gs) (inl one) (inl two) = one .1 ∙ sym (two .1)
+first-one n m (g ∷ gs) (inl one) (inr two) = absurd (two .0 (one .0))
+first-one n m (g ∷ gs) (inr one) (inl two) = absurd (one .0 (two .0))
+first-one n m (g ∷ gs) (inr one) (inr two) = first-one n m gs (one .1) (two .1)
+
+-- and one that is met stays the first, whatever grounds are behind
+first-more : (n : ℕ) (gs more : List {1} Ground) → (n ≡ 0 → ⊥) → First n (gs ++ []) → First n (gs ++ more)
+unfolding First
+first-more n [] more some first = absurd (some first)
+first-more n (g ∷ gs) more some (inl here) = inl here
+first-more n (g ∷ gs) more some (inr past) = inr (past .0, first-more n gs more some (past .1))
+
+-- so a call that tests the image and was done was made on a sound one
+done-sound : (image : List ℕ) (n : ℕ) (more : List {1} Ground) → n ≡ 0 → First n (faults image ++ more) → Sound image
+unfolding ours seen grounds lookGrounds
+done-sound image n more zero first =
+    elim (ℕ-discrete (verdict image) 0) [
+      | yes none ↦ sound image none
+      | no some ↦
+          let judged = first-more (verdict image) (faults image) more some (demand2 .progress (call.look call.judge []) image) in
+          absurd (some (first-one (verdict image) n (faults image ++ more) judged first ∙ zero))
+    ]
+
+-- an answer that is no refusal with 0, by its number
+answer-one : (a b : Answer) → answerNumber a ≡ answerNumber b → (a ≡ answers.Refused 0 → ⊥) → (b ≡ answers.Refused 0 → ⊥) → a ≡ b
+unfolding answerNumber
+answer-one answers.Done answers.Done e p q = refl
+answer-one answers.Done (answers.Refused n) e p q = absurd (q (ap answers.Refused (sym e)))
+answer-one (answers.Refused n) answers.Done e p q = absurd (p (ap answers.Refused e))
+answer-one (answers.Refused n) (answers.Refused m) e p q = ap answers.Refused e
+
+not-done : (a : Answer) → (answerNumber a ≡ 0 → ⊥) → a ≡ answers.Done → ⊥
+unfolding answerNumber
+not-done a some e = some (rw e)
+
+entry-one : (a b : Entry) → a .answer ≡ b .answer → a .row ≡ b .row → a ≡ b
+entry-one a b e f = go (a .answer) (b .answer) (a .row) (b .row) e f
+  where
+    go : (a b : Answer) (x y : Row) → a ≡ b → x ≡ y → _≡_ {A = Entry} (record { answer = a; row = x }) (record { answer = b; row = y })
+    go a b x y e f = rw (e, f)
+
+amount-one : (a b : Amount) → amountNumber a ≡ amountNumber b → (amountNumber a ≡ 0 → ⊥) → a ≡ b
+unfolding amountNumber
+amount-one (amounts.Given v) b e some = absurd (some refl)
+amount-one (amounts.Refused n) (amounts.Given v) e some = absurd (some e)
+amount-one (amounts.Refused n) (amounts.Refused m) e some = ap amounts.Refused e
+
+summary-one : (a b : Summary) → summaryNumber a ≡ summaryNumber b → (summaryNumber a ≡ 0 → ⊥) → a ≡ b
+unfolding summaryNumber
+summary-one (summaries.Given x y z) b e some = absurd (some refl)
+summary-one (summaries.Refused n) (summaries.Given x y z) e some = absurd (some e)
+summary-one (summaries.Refused n) (summaries.Refused m) e some = ap summaries.Refused e
+
+-- a refusal, by the form of the answer
+refused-one : (form : Form) (a b : Answered form) → numberIn form a ≡ numberIn form b → (numberIn form a ≡ 0 → ⊥) → Plain form a → Plain form b → a ≡ b
+refused-one call.number a b e some p q = e
+refused-one call.answer a b e some p q = answer-one a b e p q
+refused-one call.amount a b e some p q = amount-one a b e some
+refused-one call.summary a b e some p q = summary-one a b e some
+refused-one call.row a b e some p q =
+    entry-one a b (answer-one (a .answer) (b .answer) e (p .0) (q .0)) (p .1 (not-done (a .answer) some) ∙ sym (q .1 (not-done (b .answer) (λ z. some (e ∙ z)))))
+
+-- a look that was done, by what it shows
+free-one : (image : List ℕ) (a b : ℕ) → FreeIs image a → FreeIs image b → a ≡ b
+free-one image a b one two = omega (arith, one .is, two .is)
+
+shown-one : {form : Form} (look : Look form) (buffer image : List ℕ) → Sound image → (r r′ : Result form) → numberIn form (r .answer) ≡ numberIn form (r′ .answer)
+    → Plain form (r .answer) → Plain form (r′ .answer) → Shows look buffer image r → Shows look buffer image r′ → (r .answer ≡ r′ .answer) × (r .buffer ≡ r′ .buffer)
+unfolding Shows
+shown-one call.judge buffer image is r r′ e p q s t = (e, s ∙ sym t)
+shown-one call.freeCount buffer image is r r′ e p q s t =
+    (s .0 .is ∙ ap amounts.Given (free-one image (s .0 .free) (t .0 .free) (s .0 .count) (t .0 .count)) ∙ sym (t .0 .is), s .1 ∙ sym (t .1))
+shown-one call.summarize buffer image is r r′ e p q s t = (
+  s .0 .is ∙ ap (summaries.Given (sectorCount image) (length (catalogue image))) (free-one image (s .0 .free) (t .0 .free) (s .0 .count) (t .0 .count)) ∙ sym (t .0 .is),
+  s .1 ∙ sym (t .1),
+)
+shown-one (call.entry place) buffer image is r r′ e p q s t = (s .0 ∙ sym (t .0), s .1 ∙ sym (t .1))
+shown-one (call.read name offset) buffer image is r r′ e p q s t = (answer-one (r .answer) (r′ .answer) e p q, s ∙ sym t)
+shown-one (call.load name) buffer image is r r′ e p q s t = (s .0 ∙ sym (t .0), s .1 ∙ sym (t .1))
+shown-one call.list buffer image is r r′ e p q s t =
+    let same = lists-one image (s .text) (t .text) (s .lists) (t .lists) in
+    (s .is ∙ rw same (sym (t .is)), s .put ∙ rw same (sym (t .put)))
+shown-one call.pack buffer image is r r′ e p q s t = (answer-one (r .answer) (r′ .answer) e p q, packs-one image (r .buffer) (r′ .buffer) is (s .1) (t .1))
+
+-- nothing is lent where nothing is put
+nothing-one : (a b : List ℕ) → length a ≡ 0 → length b ≡ 0 → a ≡ b
+nothing-one [] [] e f = refl
+nothing-one [] (x ∷ b) e f = absurd (omega (arith, f))
+nothing-one (x ∷ a) b e f = absurd (omega (arith, e))
+
+module _ (v w : Version) (meets : Demand2 v) (meets′ : Demand2 w) (image : List ℕ) where
+  number-one : (c : Call) → numberOf v c image ≡ numberOf w c image
+  number-one c = first-one (numberOf v c image) (numberOf w c image) (grounds c image) (meets .progress c image) (meets′ .progress c image)
+
+  result-one : (c : Call) → v c image .answer ≡ w c image .answer → v c image .buffer ≡ w c image .buffer → v c image .image ≡ w c image .image → v c image ≡ w c image
+  result-one c a b i = same-result (formOf c) (v c image .answer) (w c image .answer) (v c image .buffer) (w c image .buffer) (v c image .image) (w c image .image) a b i
+
+  refused : (c : Call) → (numberOf v c image ≡ 0 → ⊥) → v c image ≡ w c image
+  refused c some =
+      let first = meets .refuses c image some in
+      let second = meets′ .refuses c image (λ zero. some (number-one c ∙ zero)) in
+      result-one c (refused-one (formOf c) (v c image .answer) (w c image .answer) (number-one c) some (meets .plain c image) (meets′ .plain c image))
+      (first .1 ∙ sym (second .1)) (first .0 ∙ sym (second .0))
+
+  done : (c : Call) → numberOf v c image ≡ 0 → v c image ≡ w c image
+  unfolding grounds Means Frame
+  done (call.look {form} look buffer) zero =
+      let c = call.look look buffer in
+      let is = done-sound image (numberOf v c image) (lookGrounds look buffer image) zero (meets .progress c image) in
+      let shown =
+      shown-one look buffer image is (v c image) (w c image) (number-one c) (meets .plain c image) (meets′ .plain c image)
+      (meets .means c image is zero) (meets′ .means c image is (sym (number-one c) ∙ zero))
+      in
+      result-one c (shown .0) (shown .1) (meets .frame c image is ∙ sym (meets′ .frame c image is))
+  done (call.change name change) zero =
+      let c = call.change name change in
+      let is = done-sound image (numberOf v c image) _ zero (meets .progress c image) in
+      let first = meets .means c image is zero in
+      let second = meets′ .means c image is (sym (number-one c) ∙ zero) in
+      result-one c (answer-one (v c image .answer) (w c image .answer) (number-one c) (meets .plain c image) (meets′ .plain c image))
+      (nothing-one (v c image .buffer) (w c image .buffer) (meets .lengths c image .1) (meets′ .lengths c image .1))
+      (touches-one image (v c image .image) (w c image .image) name _ (first .0) (second .0) is change (first .1) (second .1))
+  done (call.format n name geometry) zero =
+      let c = call.format n name geometry in
+      let first = meets .formats n name geometry image zero in
+      let second = meets′ .formats n name geometry image (sym (number-one c) ∙ zero) in
+      result-one c (answer-one (v c image .answer) (w c image .answer) (number-one c) (meets .plain c image) (meets′ .plain c image))
+      (nothing-one (v c image .buffer) (w c image .buffer) (meets .lengths c image .1) (meets′ .lengths c image .1))
+      (formats-one n name geometry (v c image .image) (w c image .image) (meets .lengths c image .0 ∙ sym (meets′ .lengths c image .0)) (first .1) (second .1))
+
+pub one-version : OneVersion
+unfolding OneVersion
+one-version v w meets meets′ c image =
+    elim (ℕ-discrete (numberOf v c image) 0) [
+      | yes zero ↦ done v w meets meets′ image c zero
+      | no some ↦ refused v w meets meets′ image c some
+    ]
+
+pub only-ours : OnlyOurs
+unfolding OneVersion OnlyOurs
+only-ours v meets = one-version v ours meets demand2

@@ -1,0 +1,158 @@
+-- What was stored loads, in every version that meets demand 2: the file of that name is the program put into the catalogue, so no ground for a refusal of the load is there, and its contents cut at
+-- its length are the bytes that were lent.
+use mathlib.Core.Path.{_≡_, sym, ap, _∙_}
+use mathlib.Core.Logic.{inl, inr}
+use mathlib.Core.List.{List, [], _∷_, _++_}
+use Prim.Native.Nat.{ℕ, _%_, _≤_, _<_}
+use native.Mathlib.Omega.{arith}
+use lib.ListN.{length, getD, length-map}
+use Rattle.rules.specs.Bytes.{byteAt, bitOf}
+use Rattle.rules.specs.Sectors.{sectorOf, sectorCount}
+use Rattle.rules.specs.Name.{IsName}
+use Rattle.rules.specs.Map.{count}
+use Rattle.rules.specs.Kind.{programLength, sectorsFor}
+use Rattle.rules.specs.Descriptor.{sectorsOf, IsDescriptor}
+use Rattle.rules.specs.Volume.{File, files, nameIn, fileIn, catalogue}
+use Rattle.rules.specs.Sound.{Sound, fileAt}
+use Rattle.rules.proofs.Map.{count-at}
+use Rattle.rules.proofs.Volume.{contents-count, header-at}
+use Rattle.rules.proofs.Listed.{listed-name, listed-descriptor}
+use Rattle.demands.specs.Call as call
+use Rattle.demands.specs.Call.{Call, Version, numberOf}
+use Rattle.demands.specs.Catalogue.{fileName, noFile, lengthIs, named}
+use Rattle.demands.specs.Effects.{Changed, newProgram}
+use Rattle.demands.specs.Grounds.{Ground, First, faults, lookGrounds, grounds, Has}
+use Rattle.demands.specs.Touches.{Enters, Touches}
+use Rattle.demands.specs.Demand2.{Shows, Means, Demand2, StoredLoads}
+use Rattle.demands.proofs.Filed.{file-of, file-name, named-file}
+use Rattle.demands.proofs.NewFile.{header-name, header-status, header-end}
+use Rattle.demands.proofs.Pieces.{pieces-length, joined-pieces, put-stands}
+use Rattle.demands.proofs.Touched.{of-first}
+
+-- where no ground is there, the number is 0
+unfoldable None : List {1} Ground → Type 0
+None [] = Unit {0}
+None (g ∷ gs) = (g .there → ⊥) × None gs
+
+first-none : (n : ℕ) (gs : List {1} Ground) → None gs → First n gs → n ≡ 0
+unfolding None First
+first-none n [] none first = first
+first-none n (g ∷ gs) none (inl here) = absurd (none .0 (here .0))
+first-none n (g ∷ gs) none (inr past) = first-none n gs (none .1) (past .1)
+
+none-both : (gs more : List {1} Ground) → None gs → None more → None (gs ++ more)
+unfolding None
+none-both [] more none behind = behind
+none-both (g ∷ gs) more none behind = (none .0, none-both gs more (none .1) behind)
+
+-- a sound volume has none of the faults 1 to 6
+faultless : (image : List ℕ) → Sound image → None (faults image)
+unfolding None faults
+faultless image is = (
+  (λ none. none (record { whole = is .whole; range = is .size })),
+  (
+    (λ none. none (is .label)),
+    (
+      (λ none. none (is .index)),
+      (
+        (λ none. none (record { descriptors = is .descriptors; ascending = is .ascending })),
+        ((λ held. omega (arith, is .single (held .sector), held .twice)), ((λ none. none (record { marked = is .marked; filled = is .filled })), tt)),
+      ),
+    ),
+  ),
+)
+
+module _ (version : Version) (all : Demand2 version) (name bytes buffer image : List ℕ) (is : Sound image) (room : length bytes ≤ length buffer) where
+  abbrev storing : Call
+  storing = call.change name (call.store bytes)
+
+  abbrev loading : Call
+  loading = call.look (call.load name) buffer
+
+  abbrev after : List ℕ
+  after = version storing image .image
+
+  abbrev file : File
+  file = newProgram name bytes
+
+  module _ (zero : numberOf version storing image ≡ 0) where
+    changed : Changed (call.store bytes) image after name
+    unfolding Means
+    changed = all .means storing image is zero .0
+
+    enters : Enters image after name (sectorsFor (length bytes))
+    unfolding Means Touches
+    enters = all .means storing image is zero .1
+
+    abbrev k : ℕ
+    k = enters .k
+
+    abbrev there : 1 ≤ count k (files after)
+    there = enters .gains .lies .listed
+
+    rules : IsDescriptor (sectorCount after) (sectorOf after k)
+    rules = listed-descriptor after (changed .sound) k there
+
+    is-name : IsName name
+    unfolding nameIn
+    is-name = rw (enters .gains .lies .named) at (rules .name)
+
+    abbrev ten : length name ≡ 10
+    ten = is-name .ten
+
+    -- the file of that name is the program
+    file-now : fileIn after k ≡ file
+    unfolding catalogue
+    file-now =
+        let stands = put-stands file (catalogue image) in
+        let p = stands .place in
+        let inside : p < length (files after) = omega (arith, stands .inside, ap length (changed .catalogue-is), length-map (files after) (fileIn after)) in
+        let found = sym (file-of after p inside) ∙ ap (λ (l : List File). getD l p noFile) (changed .catalogue-is) ∙ stands .is in
+        let same : fileAt after p ≡ k =
+        listed-name after (changed .sound) (fileAt after p) k (count-at (files after) p inside) there
+        (sym (file-name after (fileAt after p)) ∙ ap fileName found ∙ header-name name 0x01 0 (length bytes % 256) 0 ten (sectorsFor (length bytes)) ∙ sym (enters .gains .lies .named))
+        in
+        rw same at found
+
+    named-now : named name (catalogue after) ≡ file
+    named-now = named-file after name k (changed .sound) there (sym (enters .gains .lies .named)) ∙ file-now
+
+    long : lengthIs file ≡ length bytes
+    unfolding programLength
+    long = rw (pieces-length (sectorsFor (length bytes)) bytes, header-end name 0x01 0 (length bytes % 256) 0 ten (sectorsFor (length bytes))) (omega arith)
+
+    -- what the grounds speak of
+    this : Has after name (λ j. Unit {0})
+    this = record { sector = k; listed = there; named = enters .gains .lies .named; so = tt }
+
+    at-header : (i : ℕ) → i < 28 → byteAt (sectorOf after k) i ≡ byteAt (file .header) i
+    unfolding fileIn
+    at-header i low = sym (header-at after k i low) ∙ ap (λ (f : File). byteAt (f .header) i) file-now
+
+    length-now : programLength (sectorsOf (sectorOf after k)) (byteAt (sectorOf after k) 16) ≡ length bytes
+    unfolding fileIn
+    length-now = rw (← contents-count (sectorCount after) after k rules, at-header 16 (omega arith)) (ap (λ (f : File). programLength (length (f .contents)) (byteAt (file .header) 16)) file-now ∙ long)
+
+    loads : numberOf version loading after ≡ 0
+    unfolding grounds lookGrounds None this
+    loads =
+        first-none (numberOf version loading after) (grounds loading after)
+        (none-both (faults after) _ (faultless after (changed .sound)) (
+          (λ none. none is-name),
+          (
+            (λ none. none this),
+            (
+              (λ other. of-first after name (changed .sound) this other (ap (λ (b : ℕ). bitOf b 0) (at-header 12 (omega arith) ∙ header-status name 0x01 0 (length bytes % 256) 0 ten (sectorsFor (length bytes))))),
+              ((λ short. omega (arith, room, length-now, of-first after name (changed .sound) this short)), tt),
+            ),
+          ),
+        ))
+        (all .progress loading after)
+
+pub stored-loads : StoredLoads
+unfolding StoredLoads Means Shows
+stored-loads version all name bytes buffer image is room zero =
+    let loaded = all .means (loading version all name bytes buffer image is room) (after version all name bytes buffer image is room) (changed version all name bytes buffer image is room zero .sound) (loads version all name bytes buffer image is room zero) in
+    let file-is = named-now version all name bytes buffer image is room zero in
+    let size = long version all name bytes buffer image is room zero in
+    rw (file-is, size, joined-pieces (sectorsFor (length bytes)) bytes (omega arith)) at loaded

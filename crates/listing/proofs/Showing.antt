@@ -1,0 +1,80 @@
+-- What is shown of an image, by what `listing::listing` answers; and where there is room for any text it is that of the image, whatever the room. Assumes nothing.
+use mathlib.Core.Path.{_≡_, sym, ap, _∙_}
+use mathlib.Core.List.{List, []}
+use Prim.Native.Nat.{ℕ, _≤_, _<_}
+use native.Mathlib.Omega.{arith}
+use native.Mathlib.Decide.{ℕ-discrete}
+use lib.ListN.{length, take, length-append}
+use borrow.Author.Tests.{eq-eqb, ne-eqb}
+use Rattle.rules.specs.Bytes.{byteAt, part, splice}
+use Rattle.rules.specs.Verdict.{verdict}
+use Rattle.rules.specs.Outcome.{Report, AmountSays, Gives}
+use Rattle.rules.specs.Calls.Listing.{listingText, listingTests, listingOf, refusedLine, listed, shown}
+use Rattle.rules.specs.declared.Amount.the-variants.{Given, Refused}
+use Rattle.rules.proofs.Tests.{unless-passed, unless-met}
+use Rattle.rules.proofs.Splice.{splice-none, splice-front}
+use Rattle.rules.proofs.Listing.{decimal-short, listing-short, listing-unsound, listing-fits}
+use Rattle.rules.proofs.Verdict.{verdict-small}
+
+-- by the two answers of the listing
+module _ (image before : List ℕ) where
+  abbrev report : Report
+  report = listingOf image (length before)
+
+  shown-text : report .number ≡ 0 → shown image (length before) ≡ listingText image
+  unfolding shown
+  shown-text e = rw (eq-eqb (report .number) 0 e)
+
+  shown-line : (report .number ≡ 0 → ⊥) → shown image (length before) ≡ refusedLine (report .number)
+  unfolding shown
+  shown-line some = rw (ne-eqb (report .number) 0 some)
+
+  pub shown-given : {size : ℕ} {after : List ℕ} → Gives AmountSays report (Given size) before after
+      → (size ≡ length (shown image (length before))) × (after ≡ splice before 0 (shown image (length before)))
+  unfolding AmountSays listingOf
+  shown-given gave =
+      let none = gave .said .0 in
+      let text = shown-text none in (
+        gave .said .1 ∙ unless-passed (listingTests image (length before)) (length (listingText image)) 0 none ∙ sym (ap length text),
+        gave .left ∙ ap (splice before 0) (unless-passed (listingTests image (length before)) (listingText image) [] none ∙ sym text),
+      )
+
+  -- a refusal leaves the buffer, and the line goes over it
+  pub shown-refused : {number : ℕ} {after : List ℕ} → Gives AmountSays report (Refused number) before after → (after ≡ before) × (refusedLine number ≡ shown image (length before))
+  unfolding AmountSays listingOf
+  shown-refused gave =
+      let some = gave .said .1 in (
+        gave .left ∙ ap (splice before 0) (unless-met (listingTests image (length before)) (listingText image) [] some) ∙ splice-none before 0,
+        ap refusedLine (gave .said .0) ∙ sym (shown-line some),
+      )
+
+-- the line of a refusal is short
+pub refused-short : (number : ℕ) → number < 10 → length (refusedLine number) ≤ 10
+unfolding refusedLine
+refused-short number few = simp length-append (omega (arith, decimal-short 0 number few))
+
+-- where there is room for any text
+module _ (image : List ℕ) (room : ℕ) (small : (i : ℕ) → byteAt image i < 256) (wide : 4212 ≤ room) where
+  pub record IsListed : Type 0 where
+    pub is : shown image room ≡ listed image
+    pub fits : length (listed image) ≤ room
+
+  pub is-listed : IsListed
+  unfolding listed shown
+  is-listed =
+      elim (ℕ-discrete (verdict image) 0) [
+        | yes sound ↦
+            let short = listing-short image small sound in
+            let t = eq-eqb (verdict image) 0 sound in
+            record { is = rw (listing-fits image room sound (omega arith), t); fits = rw t (omega arith) }
+        | no unsound ↦ record { is = rw (listing-unsound image room unsound); fits = rw (ne-eqb (verdict image) 0 unsound) (omega (arith, refused-short (verdict image) (omega (arith, verdict-small image)))) }
+      ]
+
+-- what was laid over a text that has room for it stands at its front
+module _ (before : List ℕ) {bytes after : List ℕ} {size : ℕ} where
+  pub at-front : (text : List ℕ) → (size ≡ length bytes) × (after ≡ splice before 0 bytes) → bytes ≡ text → length text ≤ length before
+      → (part after 0 size ≡ text) × ((size ≡ length text) × (after ≡ splice before 0 text))
+  at-front text put is room =
+      let long = put .0 ∙ ap length is in
+      let laid = put .1 ∙ ap (splice before 0) is in
+      (ap (λ (n : ℕ). take n after) long ∙ ap (take (length text)) laid ∙ splice-front before text room, (long, laid))

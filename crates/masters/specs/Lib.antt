@@ -1,0 +1,2 @@
+-- The definitions that the contracts of `masters` cite.
+pub mod Packed
