@@ -24,7 +24,8 @@ use Rattle.rules.proofs.Name.{name-is}
 use Rattle.rules.proofs.Map.{taken-below, taken-past, map-of-bits}
 use Rattle.rules.proofs.Verdict.{size-is, passes}
 use Rattle.rules.proofs.Formatted.{zero-index, system-once, map-length, label-length, sector0-length, formatted-parts, formatted-length, formatted-sector0, formatted-sector1}
-use Rattle.demands.specs.Formatting.{EmptyVolume, Formats, Formatting, FormatCall}
+use Rattle.demands.specs.Formatting.{EmptyVolume, Formats}
+use Rattle.demands.specs.Does.{Formatting, FormatCall}
 
 -- a sector that begins with a name, and what stands behind it
 named-label : (n : ℕ) (name label map : List ℕ) → IsName name → wordAt (label ++ map) 0 ≡ n

@@ -29,8 +29,7 @@ use Rattle.rules.proofs.Formatted.{formatted-length}
 use Rattle.rules.proofs.Written.{written-length}
 use Rattle.rules.proofs.Outcome.{reported-given}
 use Rattle.demands.specs.Effects.{Kept}
-use Rattle.demands.specs.Does.{Does}
-use Rattle.demands.specs.Formatting.{FormatCall}
+use Rattle.demands.specs.Does.{Does, FormatCall}
 use Rattle.demands.specs.Call as call
 use Rattle.demands.specs.Call.{Form, answerNumber, numberIn, Look, Change, Call, lent, numberOf, run}
 use Rattle.demands.specs.Ours.{seen, outcome, ours}

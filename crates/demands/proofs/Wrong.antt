@@ -30,7 +30,8 @@ use Rattle.demands.specs.Call.{Change, Call, Result, Version, formOf, nu
 use Rattle.demands.specs.Ours.{seen, outcome, ours}
 use Rattle.demands.specs.CaseM.{notes, caseM}
 use Rattle.demands.specs.Bench.{diskX, geometry}
-use Rattle.demands.specs.Formatting.{EmptyVolume, Formatting}
+use Rattle.demands.specs.Formatting.{EmptyVolume}
+use Rattle.demands.specs.Does.{Formatting}
 use Rattle.demands.specs.Taking.{Free, ForData, Takes}
 use Rattle.demands.specs.Grounds.{Has}
 use Rattle.demands.specs.Touches.{Touches}

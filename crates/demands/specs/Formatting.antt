@@ -1,23 +1,21 @@
--- What formatting promises beyond its bytes: the volume that it makes is sound, the judge gives it 0, and its catalogue is empty.
+-- What formatting leaves: a volume that is sound, which the judge gives 0 and whose catalogue is empty; and what stands in every byte of it.
 use mathlib.Core.Path.{_≡_}
-use mathlib.Core.Bool.{true}
 use mathlib.Core.List.{List, [], _∷_}
-use Prim.Native.Nat.{ℕ, _-_, _/_, _%_, _≤_}
+use Prim.Native.Nat.{ℕ, _-_, _/_, _%_}
 use lib.ListN.{length, drop, replicate}
 use Rattle.rules.specs.Bytes.{part}
-use Rattle.rules.specs.Name.{nameRule}
 use Rattle.rules.specs.Map.{mapOf}
 use Rattle.rules.specs.Volume.{catalogue}
 use Rattle.rules.specs.Verdict.{verdict}
 use Rattle.rules.specs.Sound.{Sound}
-use Rattle.rules.specs.Calls.Format.{Geometry, formatted, formatNumber, afterFormat}
+use Rattle.rules.specs.Calls.Format.{Geometry}
 
 pub record EmptyVolume (image : List ℕ) : Type 0 where
   pub sound : Sound image
   pub judged : verdict image ≡ 0
   pub empty : catalogue image ≡ []
 
--- what it leaves in every byte: disk name; n, sectors per track, "DSK", a space, tracks, sides, density; zeros at 20-55; the map; a zero sector 1; and E5 hex in every other byte
+-- disk name; n, sectors per track, "DSK", a space, tracks, sides, density; zeros at 20-55; the map; a zero sector 1; and E5 hex in every other byte
 pub record Formats (n : ℕ) (name : List ℕ) (geometry : Geometry) (image : List ℕ) : Type 0 where
   pub name-is : part image 0 10 ≡ name
   pub fields : part image 10 10 ≡
@@ -26,11 +24,3 @@ pub record Formats (n : ℕ) (name : List ℕ) (geometry : Geometry) (image : Li
   pub map : part image 56 200 ≡ mapOf n (0 ∷ (1 ∷ []))
   pub index : part image 256 256 ≡ replicate 256 0
   pub rest : drop 512 image ≡ replicate (length image - 512) 0xE5
-
--- the bytes that formatting writes
-unfoldable pub Formatting : Type 0
-Formatting = (n : ℕ) (name : List ℕ) (g : Geometry) → 3 ≤ n → n ≤ 1600 → nameRule name ≡ true → EmptyVolume (formatted n name g)
-
--- the call: where it gives number 0, whatever the image was
-unfoldable pub FormatCall : Type 0
-FormatCall = (image : List ℕ) (n : ℕ) (name : List ℕ) (g : Geometry) → formatNumber image n name ≡ 0 → EmptyVolume (afterFormat image n name g)

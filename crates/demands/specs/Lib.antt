@@ -7,10 +7,10 @@ pub mod Taking
 pub mod Lines
 pub mod Grounds
 pub mod Touches
-pub mod Does
 pub mod CaseM
 pub mod Bench
 pub mod Formatting
+pub mod Does
 pub mod Packing
 pub mod Demand2
 pub mod Wrong
