@@ -8,7 +8,7 @@ use lib.Dec.{eqb, ltb}
 use lib.ListN.{length, replicate}
 use borrow.Author.Tests.{eqb-true, ltb-true}
 use Rattle.rules.specs.Bytes.{allAre, same, over, splice, withBit}
-use Rattle.rules.specs.Sectors.{sectorOf, written}
+use Rattle.rules.specs.Sectors.{sectorOf, written, joined}
 use Rattle.rules.specs.Name.{nameByte, padded, nameRule, precedes}
 use Rattle.rules.specs.Label.{labelRule}
 use Rattle.rules.specs.Map.{mapBit, count, taken, bitsRule, mapRule, byteOf, bytesOf, mapOf, zeroBits, freeCount, marked, markedAll}
@@ -18,7 +18,6 @@ use Rattle.rules.specs.Descriptor.{nameOf, chainOf, fileKind, descriptorRule, n
 use Rattle.rules.specs.Index.{numbers, rangeRule, indexRule, numbersBytes, indexOf, without}
 use Rattle.rules.specs.Volume.{files, nameIn, placesIn, fileHolders, holders, placed, headerIn, contentsIn, fileIn, catalogue}
 use Rattle.rules.specs.Calls.Pack.{labelArea, oneBlock, packedDescriptor, packedDescriptors, packedData, dataSectors, packedSectors, packed}
-use Rattle.rules.specs.Calls.Load.{joined}
 use Rattle.rules.specs.Verdict.{sizeRule, descriptorsRule, heldTwice, volumeTests, verdict}
 use Rattle.rules.specs.Choice.{lowestFree, descriptorChoice, dataChoice, dataChoices}
 use Rattle.rules.specs.Tests.{firstOf, unlessMet}

@@ -10,14 +10,13 @@ use lib.ListN.{length, getD, replicate, length-append, length-map, List·getD-ap
 use lib.Seq.{getD-append-seam, ext-getD}
 use borrow.Author.Tests.{eq-eqb, ne-eqb}
 use Rattle.rules.specs.Bytes.{byteAt, bitOf, part}
-use Rattle.rules.specs.Sectors.{sectorOf, sectorCount}
+use Rattle.rules.specs.Sectors.{sectorOf, sectorCount, joined}
 use Rattle.rules.specs.Name.{IsName}
 use Rattle.rules.specs.Kind.{isProtected}
 use Rattle.rules.specs.Map.{freeCount}
 use Rattle.rules.specs.Descriptor.{nameOf, statusOf, sectorsOf, fileKind, IsDescriptor}
 use Rattle.rules.specs.Volume.{File, files, nameIn, fileIn, catalogue}
 use Rattle.rules.specs.Sound.{Sound, fileAt}
-use Rattle.rules.specs.Calls.Load.{joined}
 use Rattle.rules.specs.Calls.Listing.{digits, decimal, unpadded, kindWord, kindLength, diskLine, fileLine, fileLines, listingText}
 use Rattle.rules.specs.declared.Kind.{Kind}
 use Rattle.rules.specs.declared.Kind.the-variants.{Program, Fixed, Variable}

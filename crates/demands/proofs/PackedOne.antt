@@ -5,11 +5,10 @@ use mathlib.Core.List.{List, [], _∷_, map, append-nil}
 use Prim.Native.Nat.{ℕ, _+_, _-_, _*_, _≤_, _<_}
 use native.Mathlib.Omega.{arith}
 use native.Mathlib.Decide.{decLt, ℕ-discrete}
-use lib.ListN.{length, getD, replicate, length-append, length-map}
-use Rattle.rules.specs.Bytes.{over}
+use lib.ListN.{length, getD, length-append, length-map}
 use Rattle.rules.specs.Sectors.{sectorOf, sectorCount}
 use Rattle.rules.specs.Map.{count}
-use Rattle.rules.specs.Chain.{blocks, run, placesFrom, places, blocksBytes}
+use Rattle.rules.specs.Chain.{blocks, run, placesFrom, places, chainWith}
 use Rattle.rules.specs.Descriptor.{chainOf}
 use Rattle.rules.specs.Index.{numbers}
 use Rattle.rules.specs.Volume.{File, files, placesIn, fileHolders, holders, headerIn, contentsIn, fileIn, catalogue}
@@ -69,7 +68,7 @@ same-blocks (block ∷ []) (first ∷ (second ∷ more)) few few′ e = absurd (
 same-chain : (chain other : List ℕ) → OneBlock chain → OneBlock other → places chain ≡ places other → chain ≡ other
 unfolding places
 same-chain chain other one one′ e =
-    one .rest ∙ ap (λ (bs : List Block). over (replicate 228 0) (blocksBytes bs)) (same-blocks (blocks chain) (blocks other) (one .few) (one′ .few) e) ∙ sym (one′ .rest)
+    one .rest ∙ ap chainWith (same-blocks (blocks chain) (blocks other) (one .few) (one′ .few) e) ∙ sym (one′ .rest)
 
 -- two images of the same files
 module _ (a b ks : List ℕ) (listed : map (fileIn a) ks ≡ map (fileIn b) ks) (k : ℕ) (there : 1 ≤ count k ks) where

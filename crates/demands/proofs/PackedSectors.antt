@@ -7,14 +7,13 @@ use native.Mathlib.Omega.{arith}
 use lib.ListN.{length, take, replicate, length-append, length-replicate, replicate-append-replicate, List·getD-append}
 use lib.Seq.{take-at, drop-at, take-all, take-append-le}
 use Rattle.rules.specs.Bytes.{byteAt, wordAt, part}
-use Rattle.rules.specs.Sectors.{sectorOf}
+use Rattle.rules.specs.Sectors.{sectorOf, joined}
 use Rattle.rules.specs.Name.{IsName}
 use Rattle.rules.specs.Map.{count}
 use Rattle.rules.specs.Chain.{blocks, run, placesFrom, places, Linked, chainWith}
 use Rattle.rules.specs.Kind.{kindOf, IsStatus, IsKind}
 use Rattle.rules.specs.Descriptor.{nameOf, sectorsOf, chainOf, fileKind, IsDescriptor}
 use Rattle.rules.specs.Volume.{File, placesIn, fileHolders, headerIn, contentsIn, fileIn}
-use Rattle.rules.specs.Calls.Load.{joined}
 use Rattle.rules.specs.Calls.Pack.{oneBlock, packedDescriptor, packedDescriptors, packedData, dataSectors}
 use Rattle.rules.specs.declared.Block.{Block}
 use Rattle.rules.proofs.Map.{count-append}

@@ -10,7 +10,7 @@ use lib.Seq.{take-append-le, take-append-add}
 use Rattle.rules.specs.Bytes.{over, splice}
 use Rattle.rules.specs.Name.{precedes}
 use Rattle.rules.specs.Volume.{File}
-use Rattle.rules.specs.Calls.Load.{joined}
+use Rattle.rules.specs.Sectors.{joined}
 use Rattle.rules.proofs.Splice.{splice-length, splice-front}
 use Rattle.demands.specs.Catalogue.{fileName, noFile, putIn}
 use Rattle.demands.specs.Effects.{pieces}

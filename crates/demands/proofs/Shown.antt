@@ -6,7 +6,7 @@ use Prim.Native.Nat.{ℕ, _<_}
 use native.Mathlib.Omega.{arith}
 use lib.ListN.{length, getD, take, length-map}
 use borrow.Author.Tests.{leb-false}
-use Rattle.rules.specs.Sectors.{sectorOf, sectorCount}
+use Rattle.rules.specs.Sectors.{sectorOf, sectorCount, joined}
 use Rattle.rules.specs.Descriptor.{nameOf, sectorsOf, IsDescriptor}
 use Rattle.rules.specs.Volume.{files, nameIn, placesIn, fileIn, catalogue}
 use Rattle.rules.specs.Sound.{Sound, fileAt}
@@ -16,7 +16,7 @@ use Rattle.rules.specs.Outcome.{Report, gives, answerOf}
 use Rattle.rules.specs.Opening.{openOf, onFile}
 use Rattle.rules.specs.Calls.Entry.{rowOf, noRow, entryTests, entryOf, entryRow}
 use Rattle.rules.specs.Calls.Read.{readTests, reading, readOf}
-use Rattle.rules.specs.Calls.Load.{joined, lengthIn, programIn, loadTests, loading, loadOf}
+use Rattle.rules.specs.Calls.Load.{lengthIn, programIn, loadTests, loading, loadOf}
 use Rattle.rules.specs.Calls.Listing.{listingText, listingTests, listingOf}
 use Rattle.rules.specs.declared.Entry.{Entry}
 use Rattle.rules.specs.declared.Answer.the-variants.{Done}

@@ -5,9 +5,8 @@ use mathlib.Core.List.{List, [], _∷_, _++_}
 use Prim.Native.Nat.{ℕ, _+_, _-_, _*_, _≤_, _<_}
 use lib.ListN.{length, getD, replicate}
 use Rattle.rules.specs.Bytes.{byteAt, bitOf, part}
-use Rattle.rules.specs.Sectors.{sectorOf, sectorCount}
+use Rattle.rules.specs.Sectors.{sectorOf, sectorCount, joined}
 use Rattle.rules.specs.Volume.{File, catalogue, holders}
-use Rattle.rules.specs.Calls.Load.{joined}
 use Rattle.rules.specs.declared.Kind.{Kind}
 use Rattle.rules.specs.declared.Kind.the-variants.{Program, Fixed, Variable}
 use Rattle.demands.specs.Catalogue.{fileName, fileOf, kindIs}

@@ -3,10 +3,10 @@ use mathlib.Core.Path.{_≡_}
 use mathlib.Core.List.{List, [], _∷_, _++_}
 use Prim.Native.Nat.{ℕ, _+_, _≤_, _<_}
 use lib.ListN.{length, replicate}
-use Rattle.rules.specs.Bytes.{part, over}
+use Rattle.rules.specs.Bytes.{part}
 use Rattle.rules.specs.Sectors.{sectorOf, sectorCount}
 use Rattle.rules.specs.Map.{count, mapOf}
-use Rattle.rules.specs.Chain.{blocks, run, blocksBytes}
+use Rattle.rules.specs.Chain.{blocks, run, chainWith}
 use Rattle.rules.specs.Descriptor.{chainOf}
 use Rattle.rules.specs.Index.{indexOf}
 use Rattle.rules.specs.Volume.{files, placesIn, holders, catalogue}
@@ -19,7 +19,7 @@ placesOf image (k ∷ ks) = placesIn image k ++ placesOf image ks
 -- a chain of one block, or of none, and zeros behind it
 pub record OneBlock (chain : List ℕ) : Type 0 where
   pub few : length (blocks chain) ≤ 1
-  pub rest : chain ≡ over (replicate 228 0) (blocksBytes (blocks chain))
+  pub rest : chain ≡ chainWith (blocks chain)
 
 pub record Packs (source target : List ℕ) : Type 0 where
   pub size : length target ≡ length source

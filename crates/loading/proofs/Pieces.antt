@@ -6,7 +6,7 @@ use native.Mathlib.Omega.{arith}
 use native.Mathlib.Nat.{sub-zero}
 use lib.ListN.{length, take}
 use Rattle.rules.specs.Bytes.{splice}
-use Rattle.rules.specs.Calls.Load.{joined}
+use Rattle.rules.specs.Sectors.{joined}
 use Rattle.rules.proofs.Splice.{splice-append, splice-none}
 
 take-split : (size : ℕ) (first second : List ℕ) → take size (first ++ second) ≡ take size first ++ take (size - length (take size first)) second

@@ -1,10 +1,8 @@
 -- What an answer says is one thing only; what a call promises where it was refused, where it was done and where it hands on what another did; and what stands behind a pointer.
 use mathlib.Core.Path.{_≡_, refl, sym, _∙_}
-use mathlib.Core.Bool.{Bool, true, false, cond}
 use mathlib.Core.List.{List, []}
 use Prim.Native.Nat.{ℕ}
-use lib.Dec.{eqb}
-use borrow.Author.Tests.{eq-eqb, ne-eqb, eqb-true, eqb-false}
+use borrow.Author.Tests.{eq-eqb, ne-eqb}
 use Rattle.rules.specs.Bytes.{splice}
 use Rattle.rules.specs.Sectors.{Write, written}
 use Rattle.rules.specs.Tests.{Test, firstOf, unlessMet}
@@ -25,26 +23,10 @@ module _ (tests : List Test) (value : ℕ) (bytes : List ℕ) where
   reported-given e = rw (unless-passed tests value 0 e, unless-passed tests bytes [] e, e)
 
 -- what an answer says is that it is this one
-pub answer-says : (number : ℕ) → AnswerSays (answerOf number) number
-unfolding AnswerSays answerOf
-answer-says number = go (eqb number 0) refl
-  where
-    go : (t : Bool) → eqb number 0 ≡ t → AnswerSays (cond t answer.Done (answer.Refused number)) number
-    go true e = eqb-true number 0 e
-    go false e = (refl, eqb-false number 0 e)
-
 pub says-answer : (given : Answer) (number : ℕ) → AnswerSays given number → given ≡ answerOf number
 unfolding AnswerSays answerOf
 says-answer answer.Done number said = rw (eq-eqb number 0 said)
 says-answer (answer.Refused refused) number said = rw (ne-eqb number 0 (said .1), said .0)
-
-pub amount-says : (report : Report) → AmountSays (amountOf report) report
-unfolding AmountSays amountOf
-amount-says report = go (eqb (report .number) 0) refl
-  where
-    go : (t : Bool) → eqb (report .number) 0 ≡ t → AmountSays (cond t (amount.Given (report .value)) (amount.Refused (report .number))) report
-    go true e = (eqb-true (report .number) 0 e, refl)
-    go false e = (refl, eqb-false (report .number) 0 e)
 
 pub says-amount : (given : Amount) (report : Report) → AmountSays given report → given ≡ amountOf report
 unfolding AmountSays amountOf

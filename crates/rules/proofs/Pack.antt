@@ -4,13 +4,12 @@ use mathlib.Core.List.{List, [], _∷_, map}
 use Prim.Native.Nat.{ℕ, suc, _+_, _*_, _≤_, _<_}
 use native.Mathlib.Omega.{arith}
 use lib.ListN.{length, getD, length-append, length-map}
-use Rattle.rules.specs.Sectors.{sectorOf, sectorCount}
+use Rattle.rules.specs.Sectors.{sectorOf, sectorCount, joined}
 use Rattle.rules.specs.Chain.{chainWith}
 use Rattle.rules.specs.Map.{count}
 use Rattle.rules.specs.Descriptor.{IsDescriptor}
 use Rattle.rules.specs.Volume.{File, files, placesIn, fileHolders, holders, headerIn, contentsIn, fileIn, catalogue}
 use Rattle.rules.specs.Sound.{Sound}
-use Rattle.rules.specs.Calls.Load.{joined}
 use Rattle.rules.specs.Calls.Pack.{labelArea, oneBlock, packedDescriptor, packedDescriptors, packedData, dataSectors, packedSectors}
 use Rattle.rules.proofs.Bytes.{part-length}
 use Rattle.rules.proofs.Sectors.{sector-length}

@@ -19,7 +19,7 @@ statusOf descriptor = byteAt descriptor 12
 abbrev pub sectorsOf : List ℕ → ℕ
 sectorsOf descriptor = wordAt descriptor 14
 
--- low byte first
+-- the record count, low byte first
 unfoldable pub recordCountOf : List ℕ → ℕ
 recordCountOf descriptor = byteAt descriptor 18 + 256 * byteAt descriptor 19
 

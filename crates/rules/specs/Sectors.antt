@@ -1,5 +1,5 @@
 -- An image is its bytes; a sector of it is a reading, a write of a whole sector is laid over it.
-use mathlib.Core.List.{List, [], _∷_}
+use mathlib.Core.List.{List, [], _∷_, _++_}
 use Prim.Native.Nat.{ℕ, _*_, _/_}
 use lib.ListN.{length}
 use Rattle.rules.specs.Bytes.{part, splice}
@@ -10,6 +10,11 @@ sectorOf image k = part image (256 * k) 256
 -- n: how many sectors an image has
 abbrev pub sectorCount : List ℕ → ℕ
 sectorCount image = length image / 256
+
+-- sectors laid end to end
+unfoldable pub joined : List (List ℕ) → List ℕ
+joined [] = []
+joined (sector ∷ sectors) = sector ++ joined sectors
 
 -- a sector and the 256 bytes that it is to hold
 pub record Write : Type 0 where

@@ -6,9 +6,8 @@ use Prim.Native.Nat.{ℕ, _≤_, _<_, _-_, _+_}
 use native.Mathlib.Omega.{arith}
 use lib.ListN.{length, take}
 use Rattle.rules.specs.Bytes.{splice, part}
-use Rattle.rules.specs.Sectors.{sectorOf}
+use Rattle.rules.specs.Sectors.{sectorOf, joined}
 use Rattle.rules.specs.Chain.{places}
-use Rattle.rules.specs.Calls.Load.{joined}
 use Rattle.descriptor.specs.Cursor.{ahead, Steady}
 use Rattle.descriptor.proofs.Ahead.{at-first, at-place, at-end}
 use Rattle.rules.proofs.Bytes.{part-short}

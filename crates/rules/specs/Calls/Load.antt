@@ -1,22 +1,17 @@
 -- A load gives the program's bytes and their number: the contents of its sectors one after another, cut at its length.
 use mathlib.Core.Bool.{not}
-use mathlib.Core.List.{List, [], _∷_, _++_}
+use mathlib.Core.List.{List, [], _∷_}
 use Prim.Native.Nat.{ℕ}
 use lib.Dec.{ltb}
 use lib.ListN.{take}
 use Rattle.rules.specs.Bytes.{byteAt}
-use Rattle.rules.specs.Sectors.{sectorOf}
+use Rattle.rules.specs.Sectors.{sectorOf, joined}
 use Rattle.rules.specs.Kind.{isProgram, programLength}
 use Rattle.rules.specs.Descriptor.{statusOf, sectorsOf}
 use Rattle.rules.specs.Volume.{contentsIn}
 use Rattle.rules.specs.Tests.{Test, refuse}
 use Rattle.rules.specs.Outcome.{Report, reported}
 use Rattle.rules.specs.Opening.{openOf, onFile}
-
--- sectors laid end to end
-unfoldable pub joined : List (List ℕ) → List ℕ
-joined [] = []
-joined (sector ∷ sectors) = sector ++ joined sectors
 
 unfoldable pub lengthIn : List ℕ → ℕ → ℕ
 lengthIn image k = programLength (sectorsOf (sectorOf image k)) (byteAt (sectorOf image k) 16)

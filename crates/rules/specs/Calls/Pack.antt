@@ -5,14 +5,13 @@ use Prim.Native.Nat.{ℕ, zero, suc, _+_, _-_, _*_}
 use lib.Dec.{eqb}
 use lib.ListN.{length, replicate}
 use Rattle.rules.specs.Bytes.{part, over}
-use Rattle.rules.specs.Sectors.{sectorOf, sectorCount}
+use Rattle.rules.specs.Sectors.{sectorOf, sectorCount, joined}
 use Rattle.rules.specs.Map.{mapOf}
 use Rattle.rules.specs.Chain.{run, blocksBytes}
 use Rattle.rules.specs.Index.{indexOf}
 use Rattle.rules.specs.Volume.{File, catalogue}
 use Rattle.rules.specs.Tests.{Test, refuse, firstOf, unlessMet}
 use Rattle.rules.specs.Verdict.{volumeTests}
-use Rattle.rules.specs.Calls.Load.{joined}
 use Rattle.rules.specs.declared.Block.{Block}
 
 -- bytes 0 to 55 of sector 0

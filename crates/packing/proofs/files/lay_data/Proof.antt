@@ -5,10 +5,9 @@ use Prim.Native.Nat.{ℕ, _+_, _*_, _-_}
 use native.Mathlib.Omega.{arith}
 use lib.ListN.{length}
 use Rattle.rules.specs.Bytes.{splice}
-use Rattle.rules.specs.Sectors.{sectorOf}
+use Rattle.rules.specs.Sectors.{sectorOf, joined}
 use Rattle.rules.specs.Chain.{places}
 use Rattle.rules.specs.Volume.{fileIn}
-use Rattle.rules.specs.Calls.Load.{joined}
 use Rattle.rules.proofs.Pack.{used-inside}
 use Rattle.packing.proofs.FileLaws.{contents-read, files-few, data-ends}
 use Rattle.packing.proofs.FileSteps.{Read, Joined, rest-read, joined-start, joined-ahead, joined-step, joined-end}

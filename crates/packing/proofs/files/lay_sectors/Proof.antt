@@ -5,9 +5,8 @@ use mathlib.Core.List.{List, _∷_, _++_, map}
 use Prim.Native.Nat.{ℕ, _+_, _<_}
 use native.Mathlib.Omega.{arith}
 use lib.ListN.{length}
-use Rattle.rules.specs.Sectors.{sectorOf}
+use Rattle.rules.specs.Sectors.{sectorOf, joined}
 use Rattle.rules.specs.Chain.{places}
-use Rattle.rules.specs.Calls.Load.{joined}
 use Rattle.rules.proofs.Pieces.{Pieces, pieces-first, pieces-next, pieces-last}
 use Rattle.descriptor.specs.Cursor.{ahead, Steady}
 use Rattle.descriptor.proofs.Ahead.{at-first, at-place, at-end}
