@@ -1,8 +1,11 @@
 -- What the belt writes for an image.
+use mathlib.Core.Bool.{Bool, cond}
 use mathlib.Core.List.{List, [], _∷_, _++_}
 use Prim.Native.Nat.{ℕ, _+_}
 use Rattle.rules.specs.Bytes.{part}
 use Rattle.rules.specs.Verdict.{verdict}
+use Rattle.line.specs.Letters.{letters}
+use Rattle.console.specs.Ground.{groundOf}
 use Rattle.input.specs.declared.Received.{Received}
 use Rattle.input.specs.declared.Received.the-variants.{Bytes, Failed}
 
@@ -11,6 +14,14 @@ unfoldable pub markOf : Received → List ℕ → ℕ
 markOf (Bytes count) buffer = 48 + verdict (part buffer 0 count)
 markOf Failed buffer = 0x2D
 
--- the line of an argument: the mark, a space, the argument, a newline
-unfoldable pub lineOf : ℕ → List ℕ → List ℕ
-lineOf mark path = mark ∷ (32 ∷ (path ++ (10 ∷ [])))
+-- the ground in words, where it is asked for
+unfoldable pub reasonOf : Bool → ℕ → List ℕ
+reasonOf verbose mark = cond verbose (letters ": " ++ groundOf mark) []
+
+-- the line of an argument: the mark, a space, the argument, the reason, a newline
+unfoldable pub lineOf : Bool → ℕ → List ℕ → List ℕ
+lineOf verbose mark path = (mark ∷ (32 ∷ [])) ++ (path ++ (reasonOf verbose mark ++ (10 ∷ [])))
+
+-- that of standard input, which has no name
+unfoldable pub bareLine : Bool → ℕ → List ℕ
+bareLine verbose mark = (mark ∷ []) ++ (reasonOf verbose mark ++ (10 ∷ []))

@@ -1,10 +1,13 @@
 // The bench cases of document 01 that are run and compared: a line for each, with the case's number in
-// the document, what is done, and the number that the library gives or that stands on the disk. `stdout`
-// has the lines that the document wants, and case M's catalogue.
+// the document, what is done, and what came of it: the number that the library gives, a sector, or yes or
+// no. `stdout` has the lines that the document wants, and case M's catalogue.
 //
 // A case is a function that makes its volume in an array of its own, so no case leans on another. Its
 // answer is whether its lines could be written.
 use appending::append;
+use console::options::ARGUMENT_ROOM;
+use console::options::read_options;
+use console::options::usage;
 use creating::create;
 use deleting::delete;
 use descriptor::chain::place_at;
@@ -21,11 +24,30 @@ use sector::bytes::part;
 use sector::bytes::sector_of;
 use storing::store;
 
-fn write_line(words: &[u8], number: u32) -> bool {
+fn write_line(words: &[u8], unit: &[u8], number: u32) -> bool {
     io::write_all(STDOUT_FILENO, words)
-        && io::write_all(STDOUT_FILENO, b": ")
+        && io::write_all(STDOUT_FILENO, unit)
         && io::print_decimal(STDOUT_FILENO, number as u64)
         && io::write_all(STDOUT_FILENO, b"\n")
+}
+
+// The number that a call gives back.
+fn write_number(words: &[u8], number: u32) -> bool {
+    write_line(words, b": number ", number)
+}
+
+fn write_sector(words: &[u8], sector: u32) -> bool {
+    write_line(words, b": sector ", sector)
+}
+
+fn write_answer(words: &[u8], yes: bool) -> bool {
+    if !io::write_all(STDOUT_FILENO, words) {
+        return false;
+    }
+    if yes {
+        return io::write_all(STDOUT_FILENO, b": yes\n");
+    }
+    io::write_all(STDOUT_FILENO, b": no\n")
 }
 
 // One side in single density: what a case does not say of the drive.
@@ -55,13 +77,13 @@ fn number_after(answer: Answer, image: &[u8]) -> u32 {
 
 fn case_10_two_sectors() -> bool {
     let image = [0u8; 512];
-    write_line(b"10 512 bytes", judge(&image))
+    write_number(b"10 512 bytes", judge(&image))
 }
 
 fn case_10_three_sectors() -> bool {
     let mut image = [0u8; 768];
     let answer = format(&mut image, 3, b"BENCH     ", one_side(3, 1));
-    write_line(b"10 768 bytes, formatted", number_after(answer, &image))
+    write_number(b"10 768 bytes, formatted", number_after(answer, &image))
 }
 
 // The place of a sector of the file whose descriptor is in sector 2.
@@ -74,10 +96,10 @@ fn case_11() -> bool {
     let formatted = format(&mut image, 35, b"BENCH     ", one_side(5, 7));
     let bytes = [0x41u8; 300];
     let stored = store(&mut image, b"TWO       ", &bytes);
-    write_line(b"11 35 sectors, formatted", number_of(formatted))
-        && write_line(b"11 two sectors stored", number_after(stored, &image))
-        && write_line(b"11 first in sector", place_in_file(&image, 0))
-        && write_line(b"11 second in sector", place_in_file(&image, 1))
+    write_number(b"11 35 sectors, formatted", number_of(formatted))
+        && write_number(b"11 two sectors stored", number_after(stored, &image))
+        && write_sector(b"11 the first lies in", place_in_file(&image, 0))
+        && write_sector(b"11 the second lies in", place_in_file(&image, 1))
 }
 
 fn digit(i: usize) -> u8 {
@@ -116,10 +138,10 @@ fn full_disk(image: &mut [u8; 33280]) -> bool {
     let last = append(image, b"F000      ", &bytes);
     let full = append(image, b"F001      ", &bytes);
     let after = create(image, b"NEXT      ", 0x80, 80, 3);
-    write_line(b"12 the next create", number_of(next))
-        && write_line(b"12 the last free sector appended", number_of(last))
-        && write_line(b"12 another one", number_of(full))
-        && write_line(b"12 the next create on the full disk", number_of(after))
+    write_number(b"12 the next create", number_of(next))
+        && write_number(b"12 the last free sector appended", number_of(last))
+        && write_number(b"12 another one", number_of(full))
+        && write_number(b"12 the next create on the full disk", number_of(after))
 }
 
 // 130 sectors: two of the system, 127 descriptors, and one that is free until it is appended.
@@ -127,8 +149,8 @@ fn case_12() -> bool {
     let mut image = [0u8; 33280];
     let formatted = format(&mut image, 130, b"BENCH     ", one_side(10, 13));
     let made = create_files(&mut image);
-    write_line(b"12 130 sectors, formatted", number_of(formatted))
-        && write_line(b"12 127 files created", made)
+    write_number(b"12 130 sectors, formatted", number_of(formatted))
+        && write_number(b"12 127 files created", made)
         && full_disk(&mut image)
 }
 
@@ -138,17 +160,9 @@ fn case_13() -> bool {
     let bytes = [0x43u8; 32769];
     let stored = store(&mut image, b"LONG      ", &bytes[0..32768]);
     let refused = store(&mut image, b"LONGER    ", &bytes);
-    write_line(b"13 200 sectors, formatted", number_of(formatted))
-        && write_line(b"13 32768 bytes stored", number_after(stored, &image))
-        && write_line(b"13 32769 bytes stored", number_of(refused))
-}
-
-// 1 where every byte from sector 2 on is E5 hex, else 0.
-fn blank_files(image: &[u8]) -> u32 {
-    if all_are(0xE5, image, 512) {
-        return 1;
-    }
-    0
+    write_number(b"13 200 sectors, formatted", number_of(formatted))
+        && write_number(b"13 32768 bytes stored", number_after(stored, &image))
+        && write_number(b"13 32769 bytes stored", number_of(refused))
 }
 
 fn case_14() -> bool {
@@ -159,12 +173,15 @@ fn case_14() -> bool {
     let deleted = delete(&mut image, b"GONE      ");
     let mut target = [0u8; 8960];
     let packed = pack(&image, &mut target);
-    write_line(b"14 35 sectors, formatted", number_of(formatted))
-        && write_line(b"14 a program stored", number_of(stored))
-        && write_line(b"14 and deleted", number_after(deleted, &image))
-        && write_line(b"14 all E5 from sector 2 on", blank_files(&image))
-        && write_line(b"14 packed", number_after(packed, &target))
-        && write_line(b"14 all E5 from sector 2 on, packed", blank_files(&target))
+    write_number(b"14 35 sectors, formatted", number_of(formatted))
+        && write_number(b"14 a program stored", number_of(stored))
+        && write_number(b"14 and deleted", number_after(deleted, &image))
+        && write_answer(b"14 all E5 from sector 2 on", all_are(0xE5, &image, 512))
+        && write_number(b"14 packed", number_after(packed, &target))
+        && write_answer(
+            b"14 all E5 from sector 2 on, packed",
+            all_are(0xE5, &target, 512),
+        )
 }
 
 // The listing of an image, or its number.
@@ -172,7 +189,7 @@ fn write_listing(image: &[u8]) -> bool {
     let mut text = [0u8; 4212];
     let listed = listing(image, &mut text);
     match listed {
-        Amount::Refused(number) => write_line(b"M refused", number),
+        Amount::Refused(number) => write_number(b"M refused", number),
         Amount::Given(size) => io::write_all(STDOUT_FILENO, part(&text, 0, size)),
     }
 }
@@ -185,10 +202,10 @@ fn case_m() -> bool {
     let created = create(&mut image, b"NOTES     ", 0x80, 80, 3);
     let bytes = [0x42u8; 256];
     let appended = append(&mut image, b"NOTES     ", &bytes);
-    write_line(b"M formatted", number_of(formatted))
-        && write_line(b"M ALPHA stored", number_of(stored))
-        && write_line(b"M NOTES created", number_of(created))
-        && write_line(b"M a sector appended", number_after(appended, &image))
+    write_number(b"M formatted", number_of(formatted))
+        && write_number(b"M ALPHA stored", number_of(stored))
+        && write_number(b"M NOTES created", number_of(created))
+        && write_number(b"M a sector appended", number_after(appended, &image))
         && write_listing(&image)
 }
 
@@ -202,9 +219,27 @@ fn write_cases() -> bool {
         && case_m()
 }
 
+// Whether the cases are to be run: no argument is one.
+fn begins(argument: &mut [u8; ARGUMENT_ROOM]) -> bool {
+    let end = os::arg_count();
+    let options = read_options(end, argument);
+    !usage(
+        options.help,
+        end > 1,
+        b"usage: bench
+Runs the bench cases of the paper that are run and compared, a line for each: the number that a call
+gives back, a sector, or yes or no.
+  -h, --help  this text
+",
+    )
+}
+
 // A line that cannot be written ends the run: no later one would do better.
 fn main() {
-    if !write_cases() {
-        os::fail(b"standard output");
+    let mut argument = [0u8; ARGUMENT_ROOM];
+    if begins(&mut argument) {
+        if !write_cases() {
+            os::fail(b"standard output");
+        }
     }
 }

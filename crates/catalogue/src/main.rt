@@ -9,6 +9,9 @@ ghost use Prim.Native.Nat.{_≤_};
 ghost use lib.ListN.{length};
 ghost use Rattle.rules.specs.Bytes.{part, splice};
 ghost use Rattle.catalogue.specs.Output.{output};
+use console::options::ARGUMENT_ROOM;
+use console::options::read_options;
+use console::options::usage;
 use input::Received;
 use input::read_or_tell;
 use libc::STDIN_FILENO;
@@ -36,10 +39,11 @@ fn put_text(image: &[u8], text: &mut [u8]) -> usize
     if image.len() > IMAGE_MOST {
         return refused_line(1, text);
     }
-    show(image, text)
+    let shown = show(image, text);
+    shown.size
 }
 
-fn run(buffer: &mut [u8], text: &mut [u8])
+fn list_standard_input(buffer: &mut [u8], text: &mut [u8])
     requires { ⌜ 4212 ≤ length (now text) ⌝ }
 {
     let received = read_or_tell(STDIN_FILENO, b"standard input", buffer);
@@ -52,9 +56,27 @@ fn run(buffer: &mut [u8], text: &mut [u8])
     }
 }
 
+// Whether there is an image to list: no argument is one.
+fn begins(argument: &mut [u8; ARGUMENT_ROOM]) -> bool {
+    let end = os::arg_count();
+    let options = read_options(end, argument);
+    !usage(
+        options.help,
+        end > 1,
+        b"usage: catalogue < IMAGE
+Lists the image of a disk, of at most 65,536 bytes: its name, size and free count, then a line a
+file. REFUSED and its number for one that is no sound volume.
+  -h, --help  this text
+",
+    )
+}
+
 // The buffers are lent from here, once, so that every other function works on plain slices.
 fn main() {
-    let mut buffer = [0u8; IMAGE_ROOM];
-    let mut text = [0u8; TEXT_ROOM];
-    run(&mut buffer, &mut text);
+    let mut argument = [0u8; ARGUMENT_ROOM];
+    if begins(&mut argument) {
+        let mut buffer = [0u8; IMAGE_ROOM];
+        let mut text = [0u8; TEXT_ROOM];
+        list_standard_input(&mut buffer, &mut text);
+    }
 }

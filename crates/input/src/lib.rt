@@ -1,13 +1,13 @@
 // The image that a descriptor gives, read until it ends, or that a file has. Of what is read nothing can be said; that it was put at the start of
 // the buffer, and how much of it, is proved.
+ghost use mathlib.Core.Path.{_≡_};
+ghost use Rattle.console.specs.Name.{oneLine};
 ghost use Rattle.input.specs.Filled.{Filled};
+use console::name::one_line;
 
 // One byte more than the longest image that can be sound. An image that is too long fills the buffer and is refused for its length, whatever
 // comes after the bytes that were read.
 pub const IMAGE_ROOM: usize = 409601;
-
-// One byte more than the longest argument that Linux passes where a page has 4,096 bytes.
-pub const ARGUMENT_ROOM: usize = 131072;
 
 // What a reading gives: how many bytes it put at the start of the buffer.
 pub enum Received {
@@ -56,11 +56,14 @@ pub fn read_or_tell(descriptor: i32, name: &[u8], buffer: &mut [u8]) -> Received
     reading
 }
 
-// The image in a file. A reason is written before the descriptor is closed, since closing can set errno anew.
-pub fn read_file(path: &[u8], buffer: &mut [u8]) -> Received
+// The image in a file. Once that is open its path is only shown, so it becomes one line. A reason is written before the descriptor is closed,
+// since closing can set errno anew.
+pub fn read_file(path: &mut [u8], buffer: &mut [u8]) -> Received
     ensures { λ r. ⌜ Filled r (now (buffer .exit)) ⌝ }
+    ensures { λ _. ⌜ now (path .exit) ≡ oneLine (now (path .entry)) ⌝ }
 {
     let descriptor = os::open_read(path);
+    one_line(path);
     if descriptor < 0 {
         os::fail(path);
         return Received::Failed;

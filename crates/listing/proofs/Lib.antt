@@ -1,5 +1,4 @@
--- The laws that the proofs share: pieces laid one after another, and a turn of each loop said of the definitions.
-mod LaidLaws
-mod TextSteps
+-- The laws that the proofs share: a turn of each loop said of the definitions, and what is shown of an image.
+mod FieldSteps
 mod LineSteps
 pub mod Showing

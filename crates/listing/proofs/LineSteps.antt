@@ -11,7 +11,7 @@ use Rattle.rules.specs.Calls.Listing.{fileLine, fileLines}
 use Rattle.rules.proofs.Bytes.{part-short}
 use Rattle.rules.proofs.Pieces.{Pieces, pieces-first, pieces-next, pieces-last}
 use Rattle.sector.specs.Numbers.{NumbersFrom}
-use Rattle.listing.specs.Laid.{Laid}
+use Rattle.line.specs.Laid.{Laid}
 
 abbrev pub linesFrom : List ℕ → List ℕ → ℕ → List ℕ
 linesFrom image sector1 place = fileLines image (numbers (drop place sector1))

@@ -1,5 +1,5 @@
 -- What is shown of an image, by what `listing::listing` answers; and where there is room for any text it is that of the image, whatever the room. Assumes nothing.
-use mathlib.Core.Path.{_≡_, sym, ap, _∙_}
+use mathlib.Core.Path.{_≡_, refl, sym, ap, _∙_}
 use mathlib.Core.List.{List, []}
 use Prim.Native.Nat.{ℕ, _≤_, _<_}
 use native.Mathlib.Omega.{arith}
@@ -48,6 +48,15 @@ module _ (image before : List ℕ) where
         ap refusedLine (gave .said .0) ∙ sym (shown-line some),
       )
 
+  -- the number in either case
+  pub number-given : {size : ℕ} {after : List ℕ} → Gives AmountSays report (Given size) before after → 0 ≡ report .number
+  unfolding AmountSays
+  number-given gave = sym (gave .said .0)
+
+  pub number-refused : {number : ℕ} {after : List ℕ} → Gives AmountSays report (Refused number) before after → number ≡ report .number
+  unfolding AmountSays
+  number-refused gave = gave .said .0
+
 -- the line of a refusal is short
 pub refused-short : (number : ℕ) → number < 10 → length (refusedLine number) ≤ 10
 unfolding refusedLine
@@ -57,6 +66,7 @@ refused-short number few = simp length-append (omega (arith, decimal-short 0 num
 module _ (image : List ℕ) (room : ℕ) (small : (i : ℕ) → byteAt image i < 256) (wide : 4212 ≤ room) where
   pub record IsListed : Type 0 where
     pub is : shown image room ≡ listed image
+    pub number : listingOf image room .number ≡ verdict image
     pub fits : length (listed image) ≤ room
 
   pub is-listed : IsListed
@@ -66,8 +76,8 @@ module _ (image : List ℕ) (room : ℕ) (small : (i : ℕ) → byteAt image i <
         | yes sound ↦
             let short = listing-short image small sound in
             let t = eq-eqb (verdict image) 0 sound in
-            record { is = rw (listing-fits image room sound (omega arith), t); fits = rw t (omega arith) }
-        | no unsound ↦ record { is = rw (listing-unsound image room unsound); fits = rw (ne-eqb (verdict image) 0 unsound) (omega (arith, refused-short (verdict image) (omega (arith, verdict-small image)))) }
+            record { is = rw (listing-fits image room sound (omega arith), t); number = rw (listing-fits image room sound (omega arith)) (sym sound); fits = rw t (omega arith) }
+        | no unsound ↦ record { is = rw (listing-unsound image room unsound); number = rw (listing-unsound image room unsound) refl; fits = rw (ne-eqb (verdict image) 0 unsound) (omega (arith, refused-short (verdict image) (omega (arith, verdict-small image)))) }
       ]
 
 -- what was laid over a text that has room for it stands at its front

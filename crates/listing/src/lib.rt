@@ -5,14 +5,14 @@ ghost use Rattle.rules.specs.Bytes.{splice};
 ghost use Rattle.rules.specs.Outcome.{AmountSays, Gives};
 ghost use Rattle.rules.specs.Calls.Listing.{listingOf, refusedLine, shown};
 
+mod fields;
 mod lines;
-mod text;
 
 use judge::judge;
+use line::put;
+use line::put_number;
 use lines::put_listing;
 use rules::Amount;
-use text::put;
-use text::put_number;
 
 // The text is laid down twice, first where there is no room, which gives its length: nothing is written where it does not fit.
 pub fn listing(image: &[u8], out: &mut [u8]) -> Amount
@@ -39,13 +39,23 @@ pub fn refused_line(number: u32, out: &mut [u8]) -> usize
     put_number(out, next, number as usize, b'\n')
 }
 
-// What a program shows of an image: its listing, or the line of the refusal.
-pub fn show(image: &[u8], out: &mut [u8]) -> usize
-    ensures { λ r. ⌜ (r ≡ length (shown (now (image .entry)) (length (now (out .entry))))) × (now (out .exit) ≡ splice (now (out .entry)) 0 (shown (now (image .entry)) (length (now (out .entry))))) ⌝ }
+// What a program shows of an image: its number, and the length of its text.
+pub struct Shown {
+    pub number: u32,
+    pub size: usize,
+}
+
+// The listing of an image, or the line of its refusal.
+pub fn show(image: &[u8], out: &mut [u8]) -> Shown
+    ensures { λ r. ⌜ (r .size ≡ length (shown (now (image .entry)) (length (now (out .entry))))) × (now (out .exit) ≡ splice (now (out .entry)) 0 (shown (now (image .entry)) (length (now (out .entry))))) ⌝ }
+    ensures { λ r. ⌜ r .number ≡ listingOf (now (image .entry)) (length (now (out .entry))) .number ⌝ }
 {
     let amount = listing(image, out);
     match amount {
-        Amount::Given(size) => size,
-        Amount::Refused(number) => refused_line(number, out),
+        Amount::Given(size) => Shown { number: 0, size },
+        Amount::Refused(number) => Shown {
+            number,
+            size: refused_line(number, out),
+        },
     }
 }

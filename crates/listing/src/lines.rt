@@ -2,13 +2,13 @@
 ghost use Prim.Native.Nat.{_≤_};
 ghost use Rattle.rules.specs.Volume.{files};
 ghost use Rattle.rules.specs.Calls.Listing.{diskLine, fileLine, fileLines, listingText};
-ghost use Rattle.listing.specs.Laid.{Laid};
-use crate::text::put_kind;
-use crate::text::put_name;
-use crate::text::put_number;
-use crate::text::put_protection;
+ghost use Rattle.line.specs.Laid.{Laid};
+use crate::fields::put_kind;
+use crate::fields::put_name;
+use crate::fields::put_protection;
 use descriptor::kind::kind_length;
 use descriptor::kind::kind_of;
+use line::put_number;
 use map::free::free_count_of;
 use sector::bytes::byte;
 use sector::bytes::part;

@@ -1,21 +1,31 @@
-// Writes the listing of each image that the command line names, one after the other.
+// Writes the listing of each image that the command line names, one after the other, each behind a line
+// that names the image; then, on standard error, how many images there were of each number.
 //
-// `put_listing` makes the text, and is proved to give what document 01 says of an image, of any size: the
-// bound of the catalogue program is not one of the library. The rest reads the images and writes the
-// text, and of that only safety is proved, since no contract can say what is read or written. For an
-// image that cannot be read there is a line `-`, with the reason on standard error, and the images
-// after it are listed all the same.
+// `put_listing` makes the text of an image and `put_page` what is written for it, and both are proved to
+// give what document 01 and `specs/` say, for an image of any size: the bound of the catalogue program is
+// not one of the library. The rest reads the images and writes the pages, and of that only safety is
+// proved, since no contract can say what is read or written. For an image that cannot be read there is a
+// line `-`, with the reason on standard error, and the images after it are listed all the same.
 ghost use mathlib.Core.Path.{_≡_};
 ghost use mathlib.Core.List.{[], _∷_};
-ghost use Prim.Native.Nat.{_≤_};
+ghost use Prim.Native.Nat.{_+_};
 ghost use lib.ListN.{length};
 ghost use Rattle.rules.specs.Bytes.{part, splice};
+ghost use Rattle.rules.specs.Verdict.{verdict};
 ghost use Rattle.rules.specs.Calls.Listing.{listed};
-use input::ARGUMENT_ROOM;
+ghost use Rattle.line.specs.Laid.{Laid};
+ghost use Rattle.listings.specs.Page.{textOf, partingOf, pageOf};
+use console::options::ARGUMENT_ROOM;
+use console::options::read_options;
+use console::options::usage;
+use console::tally::count;
+use console::tally::tell;
 use input::IMAGE_ROOM;
 use input::Received;
 use input::read_file;
 use libc::STDOUT_FILENO;
+use line::put;
+use listing::Shown;
 use listing::show;
 use sector::buffer::lay;
 use sector::bytes::part;
@@ -23,70 +33,158 @@ use sector::bytes::part;
 // Room for every listing: a line of at most 21 bytes and at most 127 of at most 33.
 const TEXT_ROOM: usize = 4212;
 
-// Each `put_` puts a text at the front of the lent one and gives its length.
-fn put_listing(image: &[u8], text: &mut [u8]) -> usize
-    requires { ⌜ 4212 ≤ length (now text) ⌝ }
-    ensures { λ r. ⌜ part (now (text .exit)) 0 r ≡ listed (now (image .entry)) ⌝ }
-    ensures { λ r. ⌜ (r ≡ length (listed (now (image .entry)))) × (now (text .exit) ≡ splice (now (text .entry)) 0 (listed (now (image .entry)))) ⌝ }
-{
-    show(image, text)
+// What an image is counted as, and the length of its text.
+struct Listed {
+    mark: u8,
+    size: usize,
 }
 
-fn put_unread(text: &mut [u8]) -> usize
-    ensures { λ r. ⌜ (r ≡ 2) × (now (text .exit) ≡ splice (now (text .entry)) 0 (0x2D ∷ (10 ∷ []))) ⌝ }
+// Each `put_` puts a text at the front of the lent one and gives its length.
+fn put_listing(image: &[u8], text: &mut [u8]) -> Listed
+    requires { ⌜ length (now text) ≡ 4212 ⌝ }
+    ensures { λ r. ⌜ part (now (text .exit)) 0 (r .size) ≡ listed (now (image .entry)) ⌝ }
+    ensures { λ r. ⌜ (r .size ≡ length (listed (now (image .entry)))) × (now (text .exit) ≡ splice (now (text .entry)) 0 (listed (now (image .entry)))) ⌝ }
+    ensures { λ r. ⌜ r .mark ≡ 48 + verdict (now (image .entry)) ⌝ }
+{
+    let shown = show(image, text);
+    Listed {
+        mark: b'0' + shown.number as u8,
+        size: shown.size,
+    }
+}
+
+fn put_unread(text: &mut [u8]) -> Listed
+    ensures { λ r. ⌜ (r .size ≡ 2) × (now (text .exit) ≡ splice (now (text .entry)) 0 (0x2D ∷ (10 ∷ []))) ⌝ }
+    ensures { λ r. ⌜ r .mark ≡ 0x2D ⌝ }
 {
     lay(text, 0, b"-\n");
-    2
+    Listed {
+        mark: b'-',
+        size: 2,
+    }
 }
 
-fn put_file(path: &[u8], buffer: &mut [u8], text: &mut [u8]) -> usize
-    requires { ⌜ 4212 ≤ length (now text) ⌝ }
+fn put_parting(first: bool, page: &mut [u8]) -> usize
+    ensures { λ r. ⌜ Laid 1 (now (page .entry)) (now (page .exit)) 0 r (partingOf first) ⌝ }
 {
-    let received = read_file(path, buffer);
+    if first {
+        return 0;
+    }
+    put(page, 0, b"\n")
+}
+
+// The text is the first `size` bytes of that lent. As much of the page as there is room for; its length is given in any case.
+fn put_page(first: bool, path: &[u8], text: &[u8], size: usize, page: &mut [u8]) -> usize
+    requires { ⌜ length (now text) ≡ 4212 ⌝ }
+    ensures { λ r. ⌜ (r ≡ length (pageOf first (now (path .entry)) (part (now (text .entry)) 0 size))) × (now (page .exit) ≡ splice (now (page .entry)) 0 (pageOf first (now (path .entry)) (part (now (text .entry)) 0 size))) ⌝ }
+{
+    let parted = put_parting(first, page);
+    let begun = put(page, parted, b"==> ");
+    let named = put(page, begun, path);
+    let headed = put(page, named, b" <==\n");
+    put(page, headed, part(text, 0, size))
+}
+
+fn put_received(received: Received, buffer: &[u8], text: &mut [u8]) -> Listed
+    requires { ⌜ length (now text) ≡ 4212 ⌝ }
+    ensures { λ r. ⌜ (r .size ≡ length (textOf received (now (buffer .entry)))) × (now (text .exit) ≡ splice (now (text .entry)) 0 (textOf received (now (buffer .entry)))) ⌝ }
+{
     match received {
         Received::Bytes(length) => put_listing(part(buffer, 0, length), text),
         Received::Failed => put_unread(text),
     }
 }
 
-fn put_argument(position: usize, argument: &mut [u8], buffer: &mut [u8], text: &mut [u8]) -> usize
-    requires { ⌜ 4212 ≤ length (now text) ⌝ }
+// The page is put together where the image was, and written at once, so that the pages of several
+// processes on one output do not mix. The answer, here and below, is whether it could be written.
+fn write_page(first: bool, path: &[u8], size: usize, buffer: &mut [u8], text: &[u8]) -> bool
+    requires { ⌜ length (now text) ≡ 4212 ⌝ }
+{
+    let end = put_page(first, path, text, size, buffer);
+    io::write_all(STDOUT_FILENO, part(buffer, 0, end))
+}
+
+// Lists the image of that path, counts it and writes its page.
+fn list_file(
+    first: bool,
+    path: &mut [u8],
+    buffer: &mut [u8],
+    text: &mut [u8],
+    tally: &mut [usize; 8],
+) -> bool
+    requires { ⌜ length (now text) ≡ 4212 ⌝ }
+{
+    let received = read_file(path, buffer);
+    let listed = put_received(received, buffer, text);
+    count(tally, listed.mark);
+    write_page(first, path, listed.size, buffer, text)
+}
+
+fn list_argument(
+    first: bool,
+    position: usize,
+    argument: &mut [u8],
+    buffer: &mut [u8],
+    text: &mut [u8],
+    tally: &mut [usize; 8],
+) -> bool
+    requires { ⌜ length (now text) ≡ 4212 ⌝ }
 {
     let length = os::arg(position, argument);
     if os::errno() != 0 {
         os::fail(b"argument");
-        return put_unread(text);
+        let listed = put_unread(text);
+        count(tally, listed.mark);
+        return write_page(first, b"", listed.size, buffer, text);
     }
-    put_file(&argument[..length], buffer, text)
+    list_file(first, &mut argument[..length], buffer, text, tally)
 }
 
-// Argument 0 is the program's own name. The answer is whether every text could be written.
-fn write_listings(
+fn list_arguments(
+    first: usize,
+    end: usize,
     argument: &mut [u8; ARGUMENT_ROOM],
     buffer: &mut [u8; IMAGE_ROOM],
     text: &mut [u8; TEXT_ROOM],
+    tally: &mut [usize; 8],
 ) -> bool {
-    let count = os::arg_count();
-    for position in 1..count {
-        let size = put_argument(position, argument, buffer, text);
-        if !io::write_all(STDOUT_FILENO, part(text, 0, size)) {
+    for position in first..end {
+        if !list_argument(position == first, position, argument, buffer, text, tally) {
             return false;
         }
     }
     true
 }
 
-// A text that cannot be written ends the run: no later one would do better. The buffers are arrays
-// down to the loop, which keeps their lengths by their types; of a slice of a large array the prover
-// would count them.
+// Argument 0 is the program's own name. A page that cannot be written ends the run: no later one would
+// do better. The buffers are arrays down to the loop, which keeps their lengths by their types; of a
+// slice of a large array the prover would count them.
 fn run(
     argument: &mut [u8; ARGUMENT_ROOM],
     buffer: &mut [u8; IMAGE_ROOM],
     text: &mut [u8; TEXT_ROOM],
 ) {
-    if !write_listings(argument, buffer, text) {
-        os::fail(b"standard output");
+    let end = os::arg_count();
+    let options = read_options(end, argument);
+    if usage(
+        options.help,
+        options.unknown || options.verbose || options.sums,
+        b"usage: listings [--] IMAGE...
+Lists each image of a disk behind a line that names it: its name, size and free count, then a line a
+file. REFUSED and its number for one that is no sound volume, - for one that cannot be read.
+How many there were of each number is the last line on standard error.
+  -h, --help  this text
+",
+    ) {
+        return;
     }
+    let first = options.first;
+    let mut tally = [0usize; 8];
+    if list_arguments(first, end, argument, buffer, text, &mut tally) {
+        tell(end - first, &tally);
+        return;
+    }
+    os::fail(b"standard output");
 }
 
 // The buffers are lent from here, once; every function below the loop works on plain slices.

@@ -1,2 +1,3 @@
 -- The definitions that the contracts of `masters` cite.
 pub mod Packed
+pub mod Line

@@ -26,7 +26,7 @@ returns-2 c =
     let text = start .args .text .now in
     let listed = is-listed image (length text) (λ i. omega (arith, short .before .before .shared-slice-known .given i)) (start .pre) in
     let is = output-short image (short .if1 .left) in
-    at-front text (output image) (y .show .ensures) (listed .is ∙ sym is) (omega (arith, listed .fits, ap length is))
+    at-front text (output image) (y .show .ensures .0) (listed .is ∙ sym is) (omega (arith, listed .fits, ap length is))
 
 pub put-text-spec : {M : Type 1} → statement M
 put-text-spec =

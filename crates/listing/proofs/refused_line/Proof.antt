@@ -1,7 +1,7 @@
 -- `listing::refused_line` meets its contract: the word and the number, laid one behind the other. Assumes nothing.
 use native.Mathlib.Omega.{arith}
 use Rattle.rules.specs.Calls.Listing.{refusedLine}
-use Rattle.listing.proofs.LaidLaws.{laid-then}
+use Rattle.line.proofs.LaidLaws.{laid-then}
 use borrow.Author.Needs.{needs}
 use Rattle.listing.proofs.refused_line.Statement.{statement}
 use Rattle.listing.proofs.refused_line.Tie as tie

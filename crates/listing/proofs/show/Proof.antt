@@ -1,5 +1,5 @@
 -- `listing::show` meets its contract: what the listing gave, or the line over a buffer that was left as it was. Assumes nothing.
-use Rattle.listing.proofs.Showing.{shown-given, shown-refused}
+use Rattle.listing.proofs.Showing.{shown-given, shown-refused, number-given, number-refused}
 use borrow.Author.Needs.{needs}
 use Rattle.listing.proofs.show.Statement.{statement}
 use Rattle.listing.proofs.show.Tie as tie
@@ -9,7 +9,8 @@ returns c =
     let o = c .before in
     let l = o .before .before .before .before in
     let a = l .before .before .before .before .args in
-    shown-given (a .image .now) (a .out .now) (rw (o .amount .given .1) at (l .listing .ensures))
+    let gave = rw (o .amount .given .1) at (l .listing .ensures) in
+    (shown-given (a .image .now) (a .out .now) gave, number-given (a .image .now) (a .out .now) gave)
 
 returns-2 : tie.Need-returns-2
 returns-2 c =
@@ -17,8 +18,9 @@ returns-2 c =
     let o = y .before .before .before in
     let l = o .before .before .before .before in
     let a = l .before .before .before .before .args in
-    let line = shown-refused (a .image .now) (a .out .now) (rw (o .amount2 .given .1) at (l .listing .ensures)) in
-    rw (← line .1, ← line .0) (y .refused-line .ensures)
+    let gave = rw (o .amount2 .given .1) at (l .listing .ensures) in
+    let line = shown-refused (a .image .now) (a .out .now) gave in
+    (rw (← line .1, ← line .0) (y .refused-line .ensures), number-refused (a .image .now) (a .out .now) gave)
 
 pub show-spec : {M : Type 1} → statement M
 show-spec =

@@ -1,25 +1,23 @@
--- `masters::first_with` is safe and ends: the measure is the number of arguments before `position` that are left. Assumes nothing.
-use Prim.Native.Nat.{_-_}
+-- `masters::first_with` keeps the table: what is found needs no entry, and what is not found is entered. Assumes nothing.
+use native.Mathlib.Omega.{arith}
+use Rattle.sums.proofs.TableLaws.{table-later}
 use borrow.Author.Needs.{needs}
 use Rattle.masters.proofs.first_with.Statement.{statement}
 use Rattle.masters.proofs.first_with.Tie as tie
 
-abbrev Inv-loop : tie.InvT-loop
-Inv-loop position form argument₀ source₀ other₀ earlier₀ argument source other earlier = Unit {0}
+returns : tie.Need-returns
+returns c = table-later _ (c .before .before .before .before .before .before .before .before .before .before .pre) (omega arith)
 
-abbrev μ-loop : tie.MeasureT-loop
-μ-loop position form argument₀ source₀ other₀ earlier₀ argument source other earlier = position - earlier
+returns-2 : tie.Need-returns-2
+returns-2 c = c .before .before .before .before .enter .ensures .table
 
 pub first-with-spec : {M : Type 1} → statement M
 first-with-spec =
     tie.close
     (tie.spec
-    Inv-loop
-    μ-loop
-    (λ c. search needs)
     (λ c κs. search needs)
-    (λ c. search needs)
-    (λ c. search needs)
-    (λ c. search needs)
-    (λ c. search needs)
-    (λ c. search needs))
+    (λ c κs. search needs)
+    returns
+    (λ c κs. search needs)
+    (λ c κs. search needs)
+    returns-2)

@@ -8,7 +8,7 @@ use Rattle.rules.specs.Bytes.{part}
 use Rattle.rules.specs.Sectors.{sectorOf, sectorCount}
 use Rattle.rules.specs.Map.{freeCount}
 use Rattle.rules.specs.Calls.Listing.{unpadded, decimal, diskLine}
-use Rattle.listing.proofs.LaidLaws.{laid-as, laid-then}
+use Rattle.line.proofs.LaidLaws.{laid-as, laid-then}
 use borrow.Author.Needs.{needs}
 use Rattle.listing.proofs.lines.put_disk_line.Statement.{statement}
 use Rattle.listing.proofs.lines.put_disk_line.Tie as tie

@@ -12,7 +12,7 @@ use Rattle.rules.specs.Descriptor.{nameOf, statusOf, sectorsOf, fileKind}
 use Rattle.rules.specs.Calls.Listing.{unpadded, decimal, kindWord, kindLength, fileLine}
 use Rattle.rules.specs.declared.Kind.{Kind}
 use Rattle.rules.proofs.Fields.{kind-read}
-use Rattle.listing.proofs.LaidLaws.{laid-as, laid-then}
+use Rattle.line.proofs.LaidLaws.{laid-as, laid-then}
 use borrow.Author.Needs.{needs}
 use Rattle.listing.proofs.lines.put_file_line.Statement.{statement}
 use Rattle.listing.proofs.lines.put_file_line.Tie as tie

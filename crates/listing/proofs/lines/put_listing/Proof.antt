@@ -1,7 +1,7 @@
 -- `listing::lines::put_listing` meets its contract: the disk's line and the files' lines, laid one behind the other. Assumes nothing.
 use native.Mathlib.Omega.{arith}
 use Rattle.rules.specs.Calls.Listing.{listingText}
-use Rattle.listing.proofs.LaidLaws.{laid-then}
+use Rattle.line.proofs.LaidLaws.{laid-then}
 use borrow.Author.Needs.{needs}
 use Rattle.listing.proofs.lines.put_listing.Statement.{statement}
 use Rattle.listing.proofs.lines.put_listing.Tie as tie

@@ -1,0 +1,25 @@
+-- `console::tally::put_sound` meets its contract: four pieces laid one behind the other. Assumes nothing.
+use native.Mathlib.Omega.{arith}
+use Rattle.line.specs.Letters.{letters}
+use Rattle.line.proofs.LaidLaws.{laid-as, laid-then}
+use Rattle.console.specs.Tally.{soundText}
+use borrow.Author.Needs.{needs}
+use Rattle.console.proofs.tally.put_sound.Statement.{statement}
+use Rattle.console.proofs.tally.put_sound.Tie as tie
+
+returns : tie.Need-returns
+unfolding soundText letters
+returns c =
+    laid-then (c .before .before .before .before .before .before .before .before .before .before .before .before .before .before .before .put-number .ensures) (laid-then (c .before .before .before .before .before .before .before .before .before .before .before .put-images .ensures) (laid-then (c .before .before .before .before .before .before .before .put-number2 .ensures) (c .before .before .put .ensures)))
+
+pub put-sound-spec : {M : Type 1} → statement M
+put-sound-spec =
+    tie.close
+    (tie.spec
+    (λ c κs. search needs)
+    (λ c κs. search needs)
+    (λ c κs. search needs)
+    (λ c. search needs)
+    (λ c κs. search needs)
+    (λ c. search needs)
+    returns)

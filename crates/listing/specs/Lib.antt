@@ -1,2 +1,0 @@
--- What the text leaves in its buffer.
-pub mod Laid

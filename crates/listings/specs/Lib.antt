@@ -1,0 +1,2 @@
+-- The definitions that the contracts of `listings` cite.
+pub mod Page

@@ -1,0 +1,26 @@
+-- `masters::put_line` meets its contract: four pieces laid one behind the other. Assumes nothing.
+use native.Mathlib.Omega.{arith}
+use Rattle.line.proofs.LaidLaws.{laid-then}
+use Rattle.masters.specs.Line.{lineOf}
+use borrow.Author.Needs.{needs}
+use Rattle.masters.proofs.put_line.Statement.{statement}
+use Rattle.masters.proofs.put_line.Tie as tie
+
+returns : tie.Need-returns
+unfolding lineOf
+returns c =
+    let line = laid-then (c .before .before .before .before .before .before .before .before .before .before .before .before .before .before .before .put .ensures) (laid-then (c .before .before .before .before .before .before .before .before .before .before .before .put-middle .ensures) (laid-then (c .before .before .before .before .before .before .before .put2 .ensures) (c .before .before .put3 .ensures))) in
+    (omega (arith, line .ends), line .left)
+
+pub put-line-spec : {M : Type 1} → statement M
+put-line-spec =
+    tie.close
+    (tie.spec
+    (λ c. search needs)
+    (λ c κs. search needs)
+    (λ c κs. search needs)
+    (λ c κs. search needs)
+    (λ c. search needs)
+    (λ c κs. search needs)
+    (λ c. search needs)
+    returns)
