@@ -1,5 +1,6 @@
 /*
- * A host program: judges a disk image, shows what is on it, takes files from it, puts files on it, and packs it.
+ * A host program: judges a disk image, shows what is on it, takes files from it, puts files on it, and packs
+ * it.
  *
  *     rt staticlib pnoelithe
  *     cc -Iinclude host/example.c target/staticlib/libpnoelithe.a -o example
@@ -8,110 +9,252 @@
  *     ./example IMAGE load NAME FILE         the program NAME into FILE
  *     ./example IMAGE read NAME FILE         the sectors of NAME, whatever its kind, into FILE
  *     ./example IMAGE store NAME FILE        FILE as a new program NAME
- *     ./example IMAGE append NAME FILE       FILE at the end of the data file NAME, which is made where there is
- *                                            none; the rest of the last sector is zero
+ *     ./example IMAGE append NAME FILE       FILE at the end of the data file NAME, which is made where
+ *                                            there is none; the rest of the last sector is zero
  *     ./example IMAGE delete NAME
  *     ./example IMAGE pack FILE              the packed volume into FILE; IMAGE stays as it is
  *
- * A call that is refused ends it with status 1, and no file is written.
+ * Status 0: all is done. 1: a call is refused, and no file is written. 2: something cannot be read or
+ * written, or the words are not those above. Standard error says why.
+ *
+ * A file is replaced as a whole: its bytes go to a file pnoelithe-XXXXXX beside it, which takes its name
+ * when they are on the medium. Where that fails, the old file is as it was. It is so too where the program
+ * is killed meanwhile; then the other file may be left.
  */
+#define _XOPEN_SOURCE 700 /* POSIX of 2008, and realpath */
+
+#include <errno.h>
+#include <fcntl.h>
+#include <limits.h>
 #include <stdio.h>
 #include <stdlib.h>
 #include <string.h>
+#include <sys/stat.h>
+#include <unistd.h>
 
 #include "pnoelithe.h"
 
-#define SECTOR 256
-#define IMAGE_MOST (SECTOR * 1600)
-#define LISTING_ROOM 4212
+#define TEMPORARY "pnoelithe-XXXXXX"
 #define DISPLAY_FIXED 0x00
 
-static uint8_t image[IMAGE_MOST + 1]; /* one byte more: an image that is too long has number 1 */
+static uint8_t image[PNO_IMAGE_MOST + 1]; /* one byte more: an image that is too long has number 1 */
 static size_t image_len;
-static uint8_t bytes[IMAGE_MOST + 1];
+static uint8_t bytes[PNO_IMAGE_MOST + 1];
+
+/* Ends the program where something cannot be read or written; errno says why. */
+_Noreturn static void fail(const char *verb, const char *path) {
+    fprintf(stderr, "cannot %s %s: %s\n", verb, path, strerror(errno));
+    exit(2);
+}
 
 /* Reads a file into a buffer; of a longer one, as much as the buffer takes. */
 static size_t read_file(const char *path, uint8_t *buffer, size_t room) {
     FILE *file = fopen(path, "rb");
     size_t length = file == NULL ? 0 : fread(buffer, 1, room, file);
-    if (file == NULL || ferror(file)) {
-        perror(path);
-        exit(1);
-    }
+    if (file == NULL || ferror(file))
+        fail("read", path);
     fclose(file);
     return length;
 }
 
-static void write_file(const char *path, const uint8_t *buffer, size_t length) {
-    FILE *file = fopen(path, "wb");
-    if (file == NULL || fwrite(buffer, 1, length, file) != length || fclose(file) != 0) {
-        perror(path);
-        exit(1);
+/* From here to write_file a function gives 0, or -1 and the reason in errno. */
+static int write_bytes(int file, const uint8_t *buffer, size_t length) {
+    while (length > 0) {
+        ssize_t written = write(file, buffer, length);
+        if (written < 0 && errno != EINTR)
+            return -1;
+        if (written > 0) {
+            buffer += written;
+            length -= (size_t)written;
+        }
     }
+    return 0;
+}
+
+/* Waits until what was written is on the medium. A pipe has none, and some folders know no such call. */
+static int settle(int file) {
+    return fsync(file) == 0 || errno == EINVAL ? 0 : -1;
+}
+
+/* Closes a file and gives the result of what was done with it before. */
+static int closed(int file, int result) {
+    int reason = errno;
+    if (close(file) != 0 && result == 0)
+        return -1;
+    errno = reason;
+    return result;
+}
+
+/* Owner, group and mode of the file that is replaced. */
+static int take_after(int file, const struct stat *old) {
+    struct stat now;
+    if (fstat(file, &now) != 0)
+        return -1;
+    if (now.st_uid != old->st_uid || now.st_gid != old->st_gid)
+        if (fchown(file, old->st_uid, old->st_gid) != 0)
+            return -1;
+    return now.st_mode == old->st_mode ? 0 : fchmod(file, old->st_mode & 07777);
+}
+
+/* The mode of any new file, where it is not the file system that gives modes. */
+static int take_default(int file) {
+    mode_t mask = umask(0);
+    umask(mask);
+    return fchmod(file, 0666 & ~mask) == 0 || errno == EPERM ? 0 : -1;
+}
+
+static int fill(int file, const struct stat *old, const uint8_t *buffer, size_t length) {
+    if ((old != NULL ? take_after(file, old) : take_default(file)) != 0)
+        return closed(file, -1);
+    if (write_bytes(file, buffer, length) != 0)
+        return closed(file, -1);
+    return closed(file, settle(file));
+}
+
+/* Makes the file under its temporary name and gives it its own; what is not finished is removed. */
+static int make(char *temporary, const char *path, const struct stat *old, const uint8_t *buffer,
+                size_t length) {
+    int file = mkstemp(temporary);
+    if (file < 0)
+        return -1;
+    if (fill(file, old, buffer, length) == 0 && rename(temporary, path) == 0)
+        return 0;
+    int reason = errno;
+    unlink(temporary);
+    errno = reason;
+    return -1;
+}
+
+/* Gives 1 where the file is in its place, and a loss of power might still bring the old one back. */
+static int replace(const char *path, const struct stat *old, const uint8_t *buffer, size_t length) {
+    const char *slash = strrchr(path, '/');
+    size_t before = slash == NULL ? 0 : (size_t)(slash - path) + 1;
+    char beside[PATH_MAX];
+    if (before + sizeof TEMPORARY > sizeof beside) {
+        errno = ENAMETOOLONG;
+        return -1;
+    }
+    memcpy(beside, path, before);
+    strcpy(beside + before, ".");
+    int folder = open(beside, O_RDONLY | O_DIRECTORY);
+    if (folder < 0)
+        return -1;
+    strcpy(beside + before, TEMPORARY);
+    int result = make(beside, path, old, buffer, length);
+    if (result == 0 && settle(folder) != 0)
+        result = 1;
+    int reason = errno;
+    close(folder);
+    errno = reason;
+    return result;
+}
+
+static int write_into(const char *path, const uint8_t *buffer, size_t length) {
+    int file = open(path, O_WRONLY);
+    if (file < 0)
+        return -1;
+    if (write_bytes(file, buffer, length) != 0)
+        return closed(file, -1);
+    return closed(file, settle(file));
+}
+
+/*
+ * A symbolic link stays, and the file that it leads to is replaced; one that leads nowhere is an error. So
+ * is a file that may not be written, though its folder may. A pipe or a device is written into.
+ */
+static int replace_or_write(const char *path, const uint8_t *buffer, size_t length) {
+    struct stat old;
+    char target[PATH_MAX];
+    if (stat(path, &old) != 0) {
+        if (errno != ENOENT || lstat(path, &old) == 0)
+            return -1;
+        return replace(path, NULL, buffer, length);
+    }
+    if (!S_ISREG(old.st_mode))
+        return write_into(path, buffer, length);
+    if (realpath(path, target) == NULL || access(target, W_OK) != 0)
+        return -1;
+    return replace(target, &old, buffer, length);
+}
+
+static void write_file(const char *path, const uint8_t *buffer, size_t length) {
+    int result = replace_or_write(path, buffer, length);
+    if (result != 0)
+        fail(result < 0 ? "write" : "sync the folder of", path);
+}
+
+/* Prints all that there is to print. An output that is closed or full may show it only at the end. */
+static void print(const void *text, size_t length) {
+    if (fwrite(text, 1, length, stdout) != length || fflush(stdout) != 0 || fclose(stdout) != 0)
+        fail("write", "standard output");
 }
 
 static uint32_t list(void) {
-    static uint8_t text[LISTING_ROOM];
+    static uint8_t text[PNO_LISTING_MOST];
     size_t length;
     uint32_t number = pno_listing(image, image_len, text, sizeof text, &length);
     if (number == PNO_DONE)
-        fwrite(text, 1, length, stdout);
+        print(text, length);
     return number;
 }
 
-static uint32_t judge(const uint8_t name[10], const char *path) {
+static uint32_t judge(const uint8_t *name, const char *path) {
+    static const char sound[] = "number 0: a sound volume\n";
     (void)name, (void)path;
     uint32_t number = pno_judge(image, image_len);
     if (number == PNO_DONE)
-        printf("number 0: a sound volume\n");
+        print(sound, sizeof sound - 1);
     return number;
 }
 
-static uint32_t load(const uint8_t name[10], const char *path) {
+static uint32_t load(const uint8_t *name, const char *path) {
     size_t length;
-    uint32_t number = pno_load(image, image_len, name, 10, bytes, sizeof bytes, &length);
+    uint32_t number = pno_load(image, image_len, name, PNO_NAME_BYTES, bytes, sizeof bytes, &length);
     if (number == PNO_DONE)
         write_file(path, bytes, length);
     return number;
 }
 
-static uint32_t read_sectors(const uint8_t name[10], const char *path) {
+static uint32_t read_sectors(const uint8_t *name, const char *path) {
     uint32_t number;
-    size_t length = 0;
-    while ((number = pno_read(image, image_len, name, 10, length / SECTOR, bytes + length, SECTOR)) == PNO_DONE)
-        length += SECTOR;
-    if (number != PNO_SIZE)
+    size_t length = 0, offset = 0;
+    while ((number = pno_read(image, image_len, name, PNO_NAME_BYTES, offset, bytes + length,
+                              PNO_SECTOR_BYTES)) == PNO_DONE) {
+        length += PNO_SECTOR_BYTES;
+        offset++;
+    }
+    if (number != PNO_ARGUMENT)
         return number;
     /* There is no sector at that offset: it is past the last one. */
     write_file(path, bytes, length);
     return PNO_DONE;
 }
 
-static uint32_t store(const uint8_t name[10], const char *path) {
+static uint32_t store(const uint8_t *name, const char *path) {
     size_t length = read_file(path, bytes, sizeof bytes);
-    return pno_store(image, image_len, name, 10, bytes, length);
+    return pno_store(image, image_len, name, PNO_NAME_BYTES, bytes, length);
 }
 
 /* Several calls, of which a later one may be refused: the image goes back to its file only if none is. */
-static uint32_t append(const uint8_t name[10], const char *path) {
+static uint32_t append(const uint8_t *name, const char *path) {
     size_t length = read_file(path, bytes, sizeof bytes);
-    uint32_t number = pno_create(image, image_len, name, 10, DISPLAY_FIXED, 128, 2);
+    uint32_t number = pno_create(image, image_len, name, PNO_NAME_BYTES, DISPLAY_FIXED, 128, 2);
     if (number == PNO_PRESENT)
         number = PNO_DONE;
-    for (size_t at = 0; at < length && number == PNO_DONE; at += SECTOR) {
-        uint8_t sector[SECTOR] = {0};
-        memcpy(sector, bytes + at, length - at < SECTOR ? length - at : SECTOR);
-        number = pno_append(image, image_len, name, 10, sector, SECTOR);
+    for (size_t at = 0; at < length && number == PNO_DONE; at += PNO_SECTOR_BYTES) {
+        uint8_t sector[PNO_SECTOR_BYTES] = {0};
+        memcpy(sector, bytes + at, length - at < sizeof sector ? length - at : sizeof sector);
+        number = pno_append(image, image_len, name, PNO_NAME_BYTES, sector, sizeof sector);
     }
     return number;
 }
 
-static uint32_t delete(const uint8_t name[10], const char *path) {
+static uint32_t delete(const uint8_t *name, const char *path) {
     (void)path;
-    return pno_delete(image, image_len, name, 10);
+    return pno_delete(image, image_len, name, PNO_NAME_BYTES);
 }
 
-static uint32_t pack(const uint8_t name[10], const char *path) {
+static uint32_t pack(const uint8_t *name, const char *path) {
     (void)name;
     uint32_t number = pno_pack(image, image_len, bytes, image_len);
     if (number == PNO_DONE)
@@ -119,43 +262,22 @@ static uint32_t pack(const uint8_t name[10], const char *path) {
     return number;
 }
 
-/* The ten bytes of a name; one that is too long has none, and is left blank, which no name is. */
-static void pad(uint8_t padded[10], const char *name) {
+/* A name with its padding; one that is too long has none, and is left blank, which no name is. */
+static void pad(uint8_t padded[PNO_NAME_BYTES], const char *name) {
     size_t length = strlen(name);
-    memset(padded, ' ', 10);
-    if (length <= 10)
+    memset(padded, ' ', PNO_NAME_BYTES);
+    if (length <= PNO_NAME_BYTES)
         memcpy(padded, name, length);
-}
-
-static int refused(uint32_t number) {
-    static const char *const grounds[] = {
-        [PNO_LENGTH] = "the length is not that of a volume",
-        [PNO_LABEL] = "sector 0 is no label",
-        [PNO_INDEX] = "sector 1 is no list of files",
-        [PNO_DESCRIPTOR] = "a file's descriptor breaks a rule",
-        [PNO_TWO_HOLDERS] = "a sector belongs to two files",
-        [PNO_MAP] = "the sector map is not that of the files",
-        [PNO_NAME] = "that is no name",
-        [PNO_NOT_FOUND] = "there is no such file",
-        [PNO_PRESENT] = "there is a file of that name",
-        [PNO_PROTECTED] = "the file is protected",
-        [PNO_NOT_PROGRAM] = "the file is of another kind",
-        [PNO_SIZE] = "that is too long",
-        [PNO_INDEX_FULL] = "there are 127 files already",
-        [PNO_DISK_FULL] = "the disk is full",
-        [PNO_CHAIN_FULL] = "the free sectors lie too far apart",
-    };
-    fprintf(stderr, "refused, number %u: %s\n", (unsigned)number, grounds[number]);
-    return 1;
 }
 
 static const struct command {
     const char *word;
     int words;  /* of the command line: the first after the command as a name, the last as a path */
     int writes; /* the image, which then goes back to its file */
-    uint32_t (*call)(const uint8_t name[10], const char *path);
-} commands[] = {{"judge", 3, 0, judge}, {"load", 5, 0, load},     {"read", 5, 0, read_sectors}, {"store", 5, 1, store},
-                {"pack", 4, 0, pack},   {"append", 5, 1, append}, {"delete", 4, 1, delete}};
+    uint32_t (*call)(const uint8_t *name, const char *path);
+} commands[] = {{"judge", 3, 0, judge},  {"load", 5, 0, load}, {"read", 5, 0, read_sectors},
+                {"store", 5, 1, store},  {"pack", 4, 0, pack}, {"append", 5, 1, append},
+                {"delete", 4, 1, delete}};
 
 int main(int argc, char **argv) {
     const struct command *command = NULL;
@@ -163,7 +285,8 @@ int main(int argc, char **argv) {
         if (argc == commands[i].words && strcmp(argv[2], commands[i].word) == 0)
             command = &commands[i];
     if (argc != 2 && command == NULL) {
-        fprintf(stderr, "usage: example IMAGE [judge | (load | read | store | append) NAME FILE | delete NAME | pack FILE]\n");
+        fprintf(stderr, "usage: example IMAGE "
+                        "[judge | (load | read | store | append) NAME FILE | delete NAME | pack FILE]\n");
         return 2;
     }
     image_len = read_file(argv[1], image, sizeof image);
@@ -171,12 +294,14 @@ int main(int argc, char **argv) {
     if (command == NULL) {
         number = list();
     } else {
-        uint8_t name[10];
+        uint8_t name[PNO_NAME_BYTES];
         pad(name, argc > 3 ? argv[3] : "");
         number = command->call(name, argv[argc - 1]);
     }
-    if (number != PNO_DONE)
-        return refused(number);
+    if (number != PNO_DONE) {
+        fprintf(stderr, "refused, number %u: %s\n", (unsigned)number, pno_text(number));
+        return 1;
+    }
     if (command != NULL && command->writes)
         write_file(argv[1], image, image_len);
     return 0;

@@ -1,15 +1,21 @@
 #!/usr/bin/env bash
 # Compiles the example host and runs it on an image on disk, step by step: case M's volume, which
 # document 01 makes and lists. What each step must print, and where its bytes must lie, stands here
-# as the paper has it. From any folder:
+# as the paper has it. Then it is kept from writing in every way that can be had here. Before that
+# the header, the wrapper in Rust and what make installs are tried. From any folder:
 #   host/example.sh
 # PNO_ARCHIVE names another archive than the one that is built from the repository.
 set -euo pipefail
+export LC_ALL=C
 
 host=$(cd "$(dirname "${BASH_SOURCE[0]}")" && pwd)
 . "$host/common.sh"
+. "$host/delivery.sh"
 work=$out/example-files
 disk=$work/disk.dsk
+sample=$top/crates/catalogue/stdin
+program=$out/example
+within=() # the command that runs the example, where it is not this shell
 steps=0
 
 fail() {
@@ -17,22 +23,11 @@ fail() {
     exit 1
 }
 
-# The header must be one for C++ too.
-compile_as_cpp() {
-    if command -v g++ >/dev/null; then
-        echo '#include "pnoelithe.h"' |
-            g++ -std=c++11 -Wall -Wextra -Werror -pedantic -I"$top/include" -fsyntax-only -x c++ -
-        echo "the header compiles as C++11"
-    else
-        echo "the header is not compiled as C++: there is no g++"
-    fi
-}
-
 # STATUS TEXT WORD...: the example, called with these words, must end so and print this.
 step() {
     local status=$1 text=$2 ended=0
     shift 2
-    "${emulator[@]}" "$out/example" "$@" >"$work/printed" 2>&1 || ended=$?
+    "${within[@]}" "${emulator[@]}" "$program" "$@" >"$work/printed" 2>&1 || ended=$?
     printf '%s' "${text:+$text
 }" >"$work/expected"
     [ "$ended" -eq "$status" ] || fail "status $ended, not $status: $*"
@@ -52,6 +47,17 @@ refusal() {
 must_be_same() {
     cmp "$1" "$2" >&2 || fail "$2 is not what it should be"
     steps=$((steps + 1))
+}
+
+# EXPECTED FOUND: both must be the same words.
+must_be() {
+    [ "$1" = "$2" ] || fail "$2, not $1"
+    steps=$((steps + 1))
+}
+
+# FOLDER NAME...: it must have what is named, and nothing else.
+must_hold() {
+    must_be "${*:2}" "$(ls -A "$1" | paste -sd ' ' -)"
 }
 
 # IMAGE SECTOR BYTES: so many bytes of the image from the start of a sector on.
@@ -136,15 +142,15 @@ TEXT DIS/FIX 128 2 U" "$disk"
 be_refused() {
     content 32769 >"$work/too-long"
     content $((256 * 49)) >"$work/49-sectors"
-    refusal "number 7: that is no name" "$disk" store A.B "$work/beta"
-    refusal "number 7: that is no name" "$disk" delete ELEVENBYTES
+    refusal "number 7: a name breaks its rule" "$disk" store A.B "$work/beta"
+    refusal "number 7: a name breaks its rule" "$disk" delete ELEVENBYTES
     refusal "number 8: there is no such file" "$disk" delete GAMMA
-    refusal "number 9: there is a file of that name" "$disk" store ALPHA "$work/beta"
-    refusal "number 12: the disk is full" "$disk" append TEXT "$work/49-sectors"
-    refusal "number 12: the disk is full" "$disk" append MORE "$work/49-sectors"
+    refusal "number 9: there is a file of that name already" "$disk" store ALPHA "$work/beta"
+    refusal "number 12: too few sectors are free" "$disk" append TEXT "$work/49-sectors"
+    refusal "number 12: too few sectors are free" "$disk" append MORE "$work/49-sectors"
     refusal "number 14: the file is of another kind" "$disk" load NOTES "$work/nothing"
     refusal "number 14: the file is of another kind" "$disk" append BETA "$work/note"
-    refusal "number 15: that is too long" "$disk" store LONG "$work/too-long"
+    refusal "number 15: a length, an offset or a status does not fit" "$disk" store LONG "$work/too-long"
     refusal "number 8: there is no such file" "$disk" read GAMMA "$work/nothing"
     [ ! -e "$work/nothing" ] || fail "a refused call has written a file"
 }
@@ -189,28 +195,275 @@ TEXT DIS/FIX 128 2 U" "$work/packed.dsk"
 # Images that are no volume, and a protected file of another disk manager's.
 judge_others() {
     head -c 16383 "$disk" >"$work/short.dsk"
-    refusal "number 1: the length is not that of a volume" "$work/short.dsk" judge
+    refusal "number 1: the image's length is not that of a volume" "$work/short.dsk" judge
     gzip -dc "$host/vectors/20-small-90-rawname.dsk.gz" >"$work/raw-name.dsk"
     refusal "number 2: sector 0 is no label" "$work/raw-name.dsk" judge
     refusal "number 2: sector 0 is no label" "$work/raw-name.dsk"
     { head -c 60 "$disk" && printf '\0' && tail -c +62 "$disk"; } >"$work/other-map.dsk"
-    refusal "number 6: the sector map is not that of the files" "$work/other-map.dsk" judge
-    refusal "number 6: the sector map is not that of the files" "$work/other-map.dsk" store NEW "$work/beta"
+    refusal "number 6: the map is not that of the files" "$work/other-map.dsk" judge
+    refusal "number 6: the map is not that of the files" "$work/other-map.dsk" store NEW "$work/beta"
     gzip -dc "$host/vectors/17-small-252-mix.dsk.gz" >"$work/mix.dsk"
     refusal "number 10: the file is protected" "$work/mix.dsk" delete LOCKED
 }
 
+# REASON IMAGE WORD...: the image cannot be written, for this reason. All that its folder has must
+# stay as it was, and nothing may come to it.
+unwritten() {
+    local reason=$1 image=$2 folder
+    folder=$(dirname "$image")
+    shift 2
+    cp "$image" "$work/before"
+    ls -lAi --full-time "$folder" >"$work/listed"
+    step 2 "cannot write $image: $reason" "$image" "$@"
+    ls -lAi --full-time "$folder" | diff "$work/listed" - >&2 || fail "$folder has changed: $*"
+    must_be_same "$work/before" "$image"
+}
+
+# FOLDER: makes it, or empties it, and lays case M's volume there as disk.dsk.
+lay_disk() {
+    rm -rf "$1"
+    mkdir "$1"
+    cp "$sample" "$1/disk.dsk"
+}
+
+# IMAGE OFFSET ESCAPES: puts bytes there.
+put_at() {
+    printf '%b' "$3" | dd of="$1" bs=1 seek="$2" conv=notrunc status=none
+}
+
+# What the steps from here on have to leave on case M's volume where they are not kept from it: ALPHA
+# is deleted, so sectors 2, 34 and 35 are free and NOTES is the only number in sector 1.
+make_deleted() {
+    deleted=$work/deleted.dsk
+    cp "$sample" "$deleted"
+    put_at "$deleted" 56 '\x0b'
+    put_at "$deleted" 60 '\x10'
+    put_at "$deleted" 256 '\x00\x03\x00\x00'
+    step 0 "SHELF 64 60
+NOTES DIS/VAR 80 1 U" "$deleted"
+}
+
+# A link, the mode, a path without a folder; a new file has the mode that new files have.
+keep_link_and_mode() {
+    local folder=$work/kept mask
+    mask=$(umask)
+    lay_disk "$folder"
+    mkdir "$folder/links"
+    ln -s ../disk.dsk "$folder/links/link.dsk"
+    chmod 604 "$folder/disk.dsk"
+    step 0 "" "$folder/links/link.dsk" delete ALPHA
+    must_be_same "$deleted" "$folder/disk.dsk"
+    must_be ../disk.dsk "$(readlink "$folder/links/link.dsk")"
+    must_be 604 "$(stat -c %a "$folder/disk.dsk")"
+    cp "$sample" "$folder/disk.dsk"
+    within=(env -C "$folder")
+    step 0 "" disk.dsk delete ALPHA
+    must_be_same "$deleted" "$folder/disk.dsk"
+    umask 026
+    step 0 "" disk.dsk pack packed.dsk
+    umask "$mask"
+    within=()
+    must_be 640 "$(stat -c %a "$folder/packed.dsk")"
+    must_hold "$folder" disk.dsk links packed.dsk
+    must_hold "$folder/links" link.dsk
+}
+
+# What is neither a file nor a place for one.
+write_elsewhere() {
+    local folder=$work/elsewhere image
+    image=$folder/disk.dsk
+    lay_disk "$folder"
+    ln -s nowhere "$folder/link"
+    mkfifo "$folder/pipe"
+    timeout 10 cat "$folder/pipe" >"$work/found" &
+    step 0 "" "$image" load ALPHA "$folder/pipe"
+    wait $! || fail "nothing came through a pipe"
+    must_be_same "$work/alpha" "$work/found"
+    step 2 "cannot write $folder/link: No such file or directory" "$image" load ALPHA "$folder/link"
+    step 2 "cannot write $folder: Is a directory" "$image" load ALPHA "$folder"
+    step 2 "cannot write $folder/no/file: No such file or directory" "$image" load ALPHA "$folder/no/file"
+    step 2 "cannot read $folder/none: No such file or directory" "$folder/none"
+    step 2 "cannot read $folder: Is a directory" "$image" store NEW "$folder"
+    [ -p "$folder/pipe" ] || fail "a pipe is replaced"
+    must_hold "$folder" disk.dsk link pipe
+    must_be_same "$sample" "$image"
+}
+
+full_output() {
+    within=(bash -c 'exec "$@" >/dev/full' bash)
+    step 2 "cannot write standard output: No space left on device" "$disk"
+    step 2 "cannot write standard output: No space left on device" "$disk" judge
+    within=()
+}
+
+# A command that prints nothing does not miss it.
+closed_output() {
+    within=(bash -c 'exec "$@" >&-' bash)
+    step 2 "cannot write standard output: Bad file descriptor" "$disk"
+    step 2 "cannot write standard output: Bad file descriptor" "$disk" judge
+    step 0 "" "$disk" pack "$work/packed.dsk"
+    within=()
+}
+
+# No file may have more than 8,192 bytes, half of the image; the signal for that is ignored.
+limited_file() {
+    lay_disk "$work/limited"
+    within=(bash -c 'trap "" XFSZ && ulimit -f 8 && exec "$@"' bash)
+    unwritten "File too large" "$work/limited/disk.dsk" delete ALPHA
+    within=()
+}
+
+# The same signal, number 25, kills in the middle of writing.
+killed() {
+    lay_disk "$work/killed"
+    within=(bash -c 'exec 2>/dev/null && ulimit -c 0 && ulimit -f 8 && "$@"; exit $?' bash)
+    step $((128 + 25)) "" "$work/killed/disk.dsk" delete ALPHA
+    within=()
+    must_be_same "$sample" "$work/killed/disk.dsk"
+    must_be 8192 "$(stat -c %s "$work"/killed/pnoelithe-??????)"
+}
+
+# Calls to the system that fail, by their place among the calls of that name: the first fsync is the
+# file's, the second one its folder's.
+faulty_calls() {
+    local folder=$work/faulty fault reason image call wraps=()
+    image=$folder/disk.dsk
+    program=$out/example-with-faults
+    for call in write fchmod fsync close rename; do
+        wraps+=("-Wl,--wrap=$call")
+    done
+    "${compiler[@]}" -std=c11 "${strict[@]}" -I"$top/include" "$host/example.c" "$host/faults.c" \
+        "$archive" "${wraps[@]}" -o "$program"
+    lay_disk "$folder"
+    while IFS=: read -r fault reason; do
+        within=(env FAULT="$fault")
+        unwritten "$reason" "$image" delete ALPHA
+    done <<'END'
+fchmod 1 1:Operation not permitted
+write 1 28:No space left on device
+fsync 1 122:Disk quota exceeded
+close 1 5:Input/output error
+rename 1 16:Device or resource busy
+END
+    for fault in "write 1 end" "fsync 1 end" "close 1 end" "rename 1 end"; do
+        within=(env FAULT="$fault")
+        step 99 "" "$image" delete ALPHA
+        must_be_same "$sample" "$image"
+        rm "$folder"/pnoelithe-??????
+    done
+    # Error 4 is that of a call that was interrupted, 22 that of a folder which knows no fsync.
+    for fault in "write 1 short" "write 1 4" "fsync 2 22" "fsync 2 end" "fsync 2 5"; do
+        lay_disk "$folder"
+        within=(env FAULT="$fault")
+        case $fault in
+        *end) step 99 "" "$image" delete ALPHA ;;
+        *5) step 2 "cannot sync the folder of $image: Input/output error" "$image" delete ALPHA ;;
+        *) step 0 "" "$image" delete ALPHA ;;
+        esac
+        must_be_same "$deleted" "$image"
+        must_hold "$folder" disk.dsk
+    done
+    # Error 1: the file system gives its own modes to new files.
+    lay_disk "$folder"
+    within=(env FAULT="fchmod 1 1")
+    step 0 "" "$image" load ALPHA "$folder/alpha"
+    must_be_same "$work/alpha" "$folder/alpha"
+    within=()
+    program=$out/example
+}
+
+# As a user who may not write everywhere, in a folder that every user reaches.
+forbidden_places() {
+    local other=65534 folder image
+    if [ "$(id -u)" -ne 0 ]; then
+        other=$(id -u)
+    else
+        within=(setpriv --reuid "$other" --regid "$other" --clear-groups)
+        if ! "${within[@]}" true 2>/dev/null; then
+            echo "places that may not be written are not tried: root writes everywhere"
+            within=()
+            return
+        fi
+    fi
+    open=$(mktemp -d)
+    trap 'rm -rf "$open"' EXIT
+    chmod 755 "$open"
+    program=$open/example
+    cp "$out/example" "$program"
+    folder=$open/folder
+    image=$folder/disk.dsk
+    lay_disk "$folder"
+    chmod 666 "$image"
+    chmod 555 "$folder"
+    unwritten "Permission denied" "$image" delete ALPHA
+    step 2 "cannot write $folder/new: Permission denied" "$image" load ALPHA "$folder/new"
+    chmod 777 "$folder"
+    chmod 444 "$image"
+    unwritten "Permission denied" "$image" delete ALPHA
+    if [ ${#within[@]} -gt 0 ]; then
+        # The owner of the new file could not be that of the old one.
+        chmod 666 "$image"
+        unwritten "Operation not permitted" "$image" delete ALPHA
+        chmod 600 "$image"
+        step 2 "cannot read $image: Permission denied" "$image"
+        chown "$other:$other" "$image"
+        within=()
+    else
+        chmod 600 "$image"
+    fi
+    step 0 "" "$image" delete ALPHA
+    must_be_same "$deleted" "$image"
+    must_be "600 $other" "$(stat -c '%a %u' "$image")"
+    program=$out/example
+}
+
+# A disk on which the image has room once, and not twice; then one that may only be read. They are
+# mounted in a namespace of their own, in which this script is run again.
+small_disk() {
+    local small=$work/small private more
+    mkdir "$small"
+    for private in -rm -m; do
+        unshare "$private" mount -t tmpfs none "$small" 2>/dev/null || continue
+        more=$(unshare "$private" "$host/example.sh" on-small-disk) || exit
+        steps=$((steps + more))
+        return
+    done
+    echo "a full disk and a read-only one are not tried: none can be mounted here"
+}
+
+on_small_disk() {
+    local small=$work/small
+    mount -t tmpfs -o size=28k none "$small"
+    cp "$sample" "$small/disk.dsk"
+    unwritten "No space left on device" "$small/disk.dsk" delete ALPHA
+    step 2 "cannot write $small/new.dsk: No space left on device" "$disk" pack "$small/new.dsk"
+    must_hold "$small" disk.dsk
+    mount -o remount,bind,ro "$small"
+    unwritten "Read-only file system" "$small/disk.dsk" delete ALPHA
+    echo "$steps"
+}
+
 prepare_c
+if [ "${1:-}" = on-small-disk ]; then
+    on_small_disk
+    exit
+fi
 find_archive
 compile_example
-compile_as_cpp
-sample=$top/crates/catalogue/stdin
+rm -rf "$work"
+mkdir "$work"
+compile_header
+show_header
+show_wrapper
+install_library
+build_by_make
+host_by_pkg_config
+host_by_cmake
+host_in_cpp
 if [ ! -f "$sample" ]; then
     echo "the example host is not run: the repository has no crates/catalogue"
     exit
 fi
-rm -rf "$work"
-mkdir "$work"
 cp "$sample" "$disk"
 case_m
 store_a_program
@@ -219,4 +472,18 @@ be_refused
 delete_a_file
 pack_twice
 judge_others
+make_deleted
+keep_link_and_mode
+write_elsewhere
+full_output
+limited_file
+if [ ${#emulator[@]} -eq 0 ]; then
+    closed_output
+    killed
+else
+    echo "a closed output and a kill by a signal are not tried: an emulator has its own of both"
+fi
+faulty_calls
+forbidden_places
+small_disk
 echo "the example host: $steps steps as expected"

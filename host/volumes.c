@@ -3,10 +3,10 @@
  *
  *     volumes FOLDER
  *
- * writes for each volume NAME.dsk, NAME.dir (a line a file, in the order of names: name, bytes on the disk with
- * the descriptor, kind, R/O if protected; then the free bytes) and NAME.FILE.tif for each file, in the form in
- * which files are handed over between disk managers: 128 bytes of header, then the file's sectors. All of it
- * comes from what the calls were asked to do; nothing is read back from the volume.
+ * writes for each volume NAME.dsk, NAME.dir (a line a file, in the order of names: name, bytes on the disk
+ * with the descriptor, kind, R/O if protected; then the free bytes) and NAME.FILE.tif for each file, in the
+ * form in which files are handed over between disk managers: 128 bytes of header, then the file's sectors.
+ * All of it comes from what the calls were asked to do; nothing is read back from the volume.
  */
 #include <stdio.h>
 #include <stdlib.h>
@@ -14,8 +14,7 @@
 
 #include "pnoelithe.h"
 
-#define SECTOR 256
-#define MOST_SECTORS 1600
+#define SECTOR PNO_SECTOR_BYTES
 #define MOST_FILES 40
 #define PROTECTED 0x08
 #define PROGRAM 0x01
@@ -35,12 +34,12 @@ static const struct geometry geometries[] = {
 
 /* A file as the calls were asked to make it. */
 struct file {
-    uint8_t header[28];
+    uint8_t header[PNO_HEADER_BYTES];
     uint8_t *bytes;
     size_t sectors;
 };
 
-static uint8_t image[SECTOR * MOST_SECTORS];
+static uint8_t image[PNO_IMAGE_MOST];
 static size_t image_len;
 static struct file files[MOST_FILES];
 static size_t file_count;
@@ -108,8 +107,8 @@ static void grow(struct file *file, const uint8_t *bytes, size_t length, size_t 
 }
 
 static void store(void) {
-    static uint8_t bytes[32768];
-    static const size_t lengths[] = {0, 1, 255, 256, 257, 512, 8192, 32768};
+    static uint8_t bytes[PNO_PROGRAM_MOST];
+    static const size_t lengths[] = {0, 1, 255, 256, 257, 512, 8192, PNO_PROGRAM_MOST};
     size_t length = below(3) == 0 ? lengths[below(8)] : below(6000);
     size_t sectors = length / SECTOR + 1;
     uint8_t name[10];
@@ -141,7 +140,7 @@ static void create(void) {
 /* What protection and kind say of a call on data. */
 static uint32_t expected_of(const struct file *file) {
     uint8_t status = file->header[12];
-    return status & PROTECTED ? PNO_PROTECTED : status & PROGRAM ? PNO_NOT_PROGRAM : PNO_DONE;
+    return status & PROTECTED ? PNO_PROTECTED : status & PROGRAM ? PNO_KIND : PNO_DONE;
 }
 
 static void append(struct file *file) {
@@ -160,7 +159,7 @@ static void overwrite(struct file *file) {
     uint32_t expected = expected_of(file);
     fill(data, SECTOR);
     if (expected == PNO_DONE && offset >= file->sectors)
-        expected = PNO_SIZE;
+        expected = PNO_ARGUMENT;
     if (is_done(pno_overwrite(image, image_len, file->header, 10, offset, data, SECTOR), expected))
         memcpy(file->bytes + offset * SECTOR, data, SECTOR);
 }
@@ -207,8 +206,8 @@ static void format(const struct geometry *of) {
     image_len = SECTOR * n;
     file_count = 0;
     free_sectors = n - 2;
-    is_done(pno_format(image, image_len, n, (const uint8_t *)"WRITTEN   ", 10, of->sectors_per_track, of->tracks,
-                       of->sides, of->density),
+    is_done(pno_format(image, image_len, n, (const uint8_t *)"WRITTEN   ", 10, of->sectors_per_track,
+                       of->tracks, of->sides, of->density),
             PNO_DONE);
 }
 

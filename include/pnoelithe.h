@@ -1,21 +1,28 @@
 /*
  * Pnoelithe: volumes of TI-99/4A disks in lent memory.
  *
- * The functions are those of the static library libpnoelithe.a (rt staticlib pnoelithe), for x86-64 Linux, in
- * C or in any language that calls C. Each is proved to give, for every image and every argument, exactly the
- * number and the bytes that the rules define; none keeps state, allocates, or leaves anything for the caller
- * to have checked.
+ * The functions are those of the static library libpnoelithe.a (rt staticlib pnoelithe), for x86-64 Linux,
+ * in C or in any language that calls C. Each is proved to give, for every image and every argument, exactly
+ * the number and the bytes that the rules define; none keeps state, allocates, or leaves anything for the
+ * caller to have checked.
  *
  * Conventions of every call
  *   - The name begins with pno_.
- *   - A buffer is a pointer and, right after it, its length in bytes. An empty buffer may have any pointer
- *     that is not null.
+ *   - A buffer is a pointer and, right after it, its length in bytes.
+ *   - No pointer is null. For an empty buffer lend the address of any byte, and length 0. In C++ the data()
+ *     of an empty std::vector may be null:
+ *         const uint8_t none = 0;
+ *         pno_store(image, image_len, name, name_len, v.empty() ? &none : v.data(), v.size());
  *   - A buffer that a call writes, the image among them, overlaps no other buffer of that call.
- *   - Counts, places and offsets are size_t; a value goes back through a pointer.
+ *   - Counts, places and offsets are size_t. A value goes back through a pointer (size_t *, a name's ten
+ *     bytes), which is not null either, also where the host has no use for that value.
  *   - The result is one of the numbers below. With any number but 0 the call has written nothing: no byte of
  *     a buffer, and nothing behind a pointer.
- *   - Stack is what a call takes of it at most, in the archive as it is built: all below the call's arguments,
- *     so with the return address. memcpy and memset, which the host provides, count with theirs alone.
+ *   - Threads: the library has no state, so calls on different images may be made on any threads at the same
+ *     time. Of one image there may be several readers at a time, or one writer and no reader beside it.
+ *   - Stack is what a call takes of it at most, in the archive as it is built: all below the call's
+ *     arguments, so with the return address. memcpy and memset, which the host provides, count with theirs
+ *     alone.
  */
 #ifndef PNOELITHE_H
 #define PNOELITHE_H
@@ -27,27 +34,90 @@
 extern "C" {
 #endif
 
+/* The version. While the major number is 0, the interface may change with each minor one. */
+#define PNO_VERSION_MAJOR 0
+#define PNO_VERSION_MINOR 1
+#define PNO_VERSION_PATCH 0
+#define PNO_QUOTED(word) #word
+#define PNO_DOTTED(major, minor, patch) PNO_QUOTED(major) "." PNO_QUOTED(minor) "." PNO_QUOTED(patch)
+#define PNO_VERSION PNO_DOTTED(PNO_VERSION_MAJOR, PNO_VERSION_MINOR, PNO_VERSION_PATCH) /* as a text */
+
+#define PNO_SECTOR_BYTES 256   /* the bytes of a sector */
+#define PNO_NAME_BYTES 10      /* the bytes of a disk's or a file's name, with its padding */
+#define PNO_HEADER_BYTES 28    /* the bytes of a descriptor that pno_entry gives */
+#define PNO_SECTORS_LEAST 3    /* the fewest sectors of a volume */
+#define PNO_SECTORS_MOST 1600  /* the most sectors of a volume */
+#define PNO_IMAGE_MOST 409600  /* the most bytes of a volume's image */
+#define PNO_FILES_MOST 127     /* the most files of a volume */
+#define PNO_LISTING_MOST 4212  /* the most bytes of a listing: room for every one */
+#define PNO_PROGRAM_MOST 32768 /* the most bytes that a store takes */
+#define PNO_LOADED_MOST 408831 /* the most bytes that a load gives: 1,597 sectors, end offset 255 */
+
 /* The numbers a call gives back. Where several are due, the first in this order is given. */
 enum pno_number {
-    PNO_DONE = 0,         /* done; of an image: a sound volume */
-    PNO_LENGTH = 1,       /* the image's length is not 256 x n for n from 3 to 1,600 */
-    PNO_LABEL = 2,        /* sector 0: bad disk name, n or "DSK" */
-    PNO_INDEX = 3,        /* sector 1 breaks its range or end rule */
-    PNO_DESCRIPTOR = 4,   /* a descriptor breaks name, status, chain or kind rules, or names do not ascend */
-    PNO_TWO_HOLDERS = 5,  /* a sector has two holders */
-    PNO_MAP = 6,          /* the map is not that of the holders */
-    PNO_NAME = 7,         /* a name breaks its rule */
-    PNO_NOT_FOUND = 8,    /* no file of that name, or no file at that place of the catalogue */
-    PNO_PRESENT = 9,      /* there is a file of the new name already */
-    PNO_PROTECTED = 10,   /* the file is protected */
-    PNO_NOT_PROGRAM = 14, /* the file is not a program; append and overwrite: it is one */
-    PNO_SIZE = 15,        /* a buffer is too short, or data too long or not 256 bytes; the file has no sector
-                             at that offset; no file can be created with that status; the target of
-                             packing is not as long as its source */
-    PNO_INDEX_FULL = 11,  /* there are 127 files already */
-    PNO_DISK_FULL = 12,   /* fewer sectors are free than the call takes */
-    PNO_CHAIN_FULL = 13   /* the file's chain would need a 77th block */
+    PNO_DONE = 0,        /* done; of an image: a sound volume */
+    PNO_LENGTH = 1,      /* the image's length is not 256 x n for n from 3 to 1,600 */
+    PNO_LABEL = 2,       /* sector 0: bad disk name, n or "DSK" */
+    PNO_INDEX = 3,       /* sector 1 breaks its range or end rule */
+    PNO_DESCRIPTOR = 4,  /* a descriptor breaks name, status, chain or kind rules, or names do not ascend */
+    PNO_TWO_HOLDERS = 5, /* a sector has two holders */
+    PNO_MAP = 6,         /* the map is not that of the holders */
+    PNO_NAME = 7,        /* a name breaks its rule */
+    PNO_NOT_FOUND = 8,   /* no file of that name, or no file at that place of the catalogue */
+    PNO_PRESENT = 9,     /* there is a file of the new name already */
+    PNO_PROTECTED = 10,  /* the file is protected */
+    PNO_KIND = 14,       /* the file is not a program; append and overwrite: it is one */
+    PNO_ARGUMENT = 15,   /* a buffer is too short, or data too long or not 256 bytes; the file has no sector
+                            at that offset; no file can be created with that status; the target of packing
+                            is not as long as its source */
+    PNO_INDEX_FULL = 11, /* there are 127 files already */
+    PNO_DISK_FULL = 12,  /* fewer sectors are free than the call takes */
+    PNO_CHAIN_FULL = 13  /* the file's chain would need a 77th block */
 };
+
+/* The names that 14 and 15 had before. */
+#define PNO_NOT_PROGRAM PNO_KIND
+#define PNO_SIZE PNO_ARGUMENT
+
+/* A number's text, for a message; of 0 too, and of one that no call gives. */
+static inline const char *pno_text(uint32_t number) {
+    switch (number) {
+    case PNO_DONE:
+        return "done";
+    case PNO_LENGTH:
+        return "the image's length is not that of a volume";
+    case PNO_LABEL:
+        return "sector 0 is no label";
+    case PNO_INDEX:
+        return "sector 1 is no list of files";
+    case PNO_DESCRIPTOR:
+        return "a file's descriptor breaks a rule";
+    case PNO_TWO_HOLDERS:
+        return "a sector has two holders";
+    case PNO_MAP:
+        return "the map is not that of the files";
+    case PNO_NAME:
+        return "a name breaks its rule";
+    case PNO_NOT_FOUND:
+        return "there is no such file";
+    case PNO_PRESENT:
+        return "there is a file of that name already";
+    case PNO_PROTECTED:
+        return "the file is protected";
+    case PNO_KIND:
+        return "the file is of another kind";
+    case PNO_ARGUMENT:
+        return "a length, an offset or a status does not fit";
+    case PNO_INDEX_FULL:
+        return "there are 127 files already";
+    case PNO_DISK_FULL:
+        return "too few sectors are free";
+    case PNO_CHAIN_FULL:
+        return "the free sectors lie in too many pieces";
+    default:
+        return "no number of this library";
+    }
+}
 
 /*
  * Names
@@ -69,10 +139,10 @@ enum pno_number {
 uint32_t pno_judge(const uint8_t *image, size_t image_len);
 
 /*
- * Makes an empty volume of n sectors of the image, whatever its bytes were: the label with the name, n and the
- * drive's numbers, the map, an empty catalogue, and E5 hex in every byte from sector 2 on.
+ * Makes an empty volume of n sectors of the image, whatever its bytes were: the label with the name, n and
+ * the drive's numbers, the map, an empty catalogue, and E5 hex in every byte from sector 2 on.
  *
- * Numbers: 1 where image_len is not 256 x n, or n is not from 3 to 1,600; 7.
+ * Numbers: 1 where image_len is not 256 x n, or n is not from PNO_SECTORS_LEAST to PNO_SECTORS_MOST; 7.
  * Stack: at most 264 bytes.
  */
 uint32_t pno_format(uint8_t *image, size_t image_len, size_t n, const uint8_t *name, size_t name_len,
@@ -93,8 +163,8 @@ uint32_t pno_free_count(const uint8_t *image, size_t image_len, size_t *free_sec
  * Numbers: 1 to 6.
  * Stack: at most 1,832 bytes.
  */
-uint32_t pno_summary(const uint8_t *image, size_t image_len, uint8_t name[10], size_t *n, size_t *files,
-                     size_t *free_sectors);
+uint32_t pno_summary(const uint8_t *image, size_t image_len, uint8_t name[PNO_NAME_BYTES], size_t *n,
+                     size_t *files, size_t *free_sectors);
 
 /* The kinds of file that pno_entry gives. */
 enum pno_kind {
@@ -106,14 +176,15 @@ enum pno_kind {
 };
 
 /*
- * An entry of the catalogue: the file at a place, counted from 0 in the order of names. The first 28 bytes of
- * its descriptor go into the header buffer (bytes 0 to 9 are the name), and behind the pointers
+ * An entry of the catalogue: the file at a place, counted from 0 in the order of names. The first
+ * PNO_HEADER_BYTES of its descriptor go into the header buffer (bytes 0 to 9 are the name), and behind the
+ * pointers
  *   kind          one of enum pno_kind
  *   length        a program's length in bytes, which can pass 65,535; else the record length
  *   sectors       the number of its sectors, without the descriptor
  *   is_protected  1 or 0
  *
- * Numbers: 1 to 6; 8 past the last file; 15 where header_len is below 28.
+ * Numbers: 1 to 6; 8 past the last file; 15 where header_len is below PNO_HEADER_BYTES.
  * Stack: at most 1,832 bytes.
  */
 uint32_t pno_entry(const uint8_t *image, size_t image_len, size_t place, uint8_t *header, size_t header_len,
@@ -122,16 +193,17 @@ uint32_t pno_entry(const uint8_t *image, size_t image_len, size_t place, uint8_t
 /*
  * Reads a sector of a file of any kind, protected or not: its 256 bytes. Offsets count from 0.
  *
- * Numbers: 1 to 6; 7; 8; 15 for an offset past the last sector, or where out_len is below 256.
+ * Numbers: 1 to 6; 7; 8; 15 for an offset past the last sector, or where out_len is below PNO_SECTOR_BYTES.
  * Stack: at most 1,912 bytes.
  */
-uint32_t pno_read(const uint8_t *image, size_t image_len, const uint8_t *name, size_t name_len, size_t offset,
-                  uint8_t *out, size_t out_len);
+uint32_t pno_read(const uint8_t *image, size_t image_len, const uint8_t *name, size_t name_len,
+                  size_t offset, uint8_t *out, size_t out_len);
 
 /*
  * Loads a program: its bytes, and their number behind length.
  *
- * Numbers: 1 to 6; 7; 8; 14; 15 where out_len is below the program's length (below 409,600).
+ * Numbers: 1 to 6; 7; 8; 14; 15 where out_len is below the program's length, which is at most
+ * PNO_LOADED_MOST.
  * Stack: at most 1,992 bytes.
  */
 uint32_t pno_load(const uint8_t *image, size_t image_len, const uint8_t *name, size_t name_len, uint8_t *out,
@@ -143,28 +215,28 @@ uint32_t pno_load(const uint8_t *image, size_t image_len, const uint8_t *name, s
  * sectors, and P or U for protected or not. One space between fields, names without their padding, and one
  * newline at the end of each line; no byte of zero ends the text.
  *
- * Numbers: 1 to 6; 15 where out_len is below the length of the text, which has at most 4,212 bytes.
+ * Numbers: 1 to 6; 15 where out_len is below the text's length, which is at most PNO_LISTING_MOST.
  * Stack: at most 1,816 bytes.
  */
 uint32_t pno_listing(const uint8_t *image, size_t image_len, uint8_t *out, size_t out_len, size_t *length);
 
 /*
  * Calls that write
- *   Each judges the image first and gives back 1 to 6 where it is no sound volume. Then it tests what is named
- *   under it, in the order in which it is named, and gives back the first number that is due. With any number
- *   but 0 no byte of the image is changed; with 0 the bytes that are named are, no other, and the image is a
- *   sound volume again. Names and data are read and never changed.
+ *   Each judges the image first and gives back 1 to 6 where it is no sound volume. Then it tests what is
+ *   named under it, in the order in which it is named, and gives back the first number that is due. With any
+ *   number but 0 no byte of the image is changed; with 0 the bytes that are named are, no other, and the
+ *   image is a sound volume again. Names and data are read and never changed.
  *
  * Where things go
- *   A new descriptor goes to the lowest free sector. Data goes to the lowest free sector from 34 on and, when
- *   none is left there, to the lowest free one; several are taken one after another by this rule.
+ *   A new descriptor goes to the lowest free sector. Data goes to the lowest free sector from 34 on and,
+ *   when none is left there, to the lowest free one; several are taken one after another by this rule.
  */
 
 /*
- * Creates a data file without sectors: its descriptor, which is zero but for the name, the status, the records
- * per sector (byte 13) and the record length (byte 17); its bit in the map; its place in sector 1. The status
- * is 00 (display, fixed), 02 (internal, fixed), 80 (display, variable) or 82 hex (internal, variable); the
- * other two are any byte.
+ * Creates a data file without sectors: its descriptor, which is zero but for the name, the status, the
+ * records per sector (byte 13) and the record length (byte 17); its bit in the map; its place in sector 1.
+ * The status is 00 (display, fixed), 02 (internal, fixed), 80 (display, variable) or 82 hex (internal,
+ * variable); the other two are any byte.
  *
  * Numbers: 1 to 6; 7; 9; 15 for another status; 11; 12.
  * Stack: at most 2,792 bytes.
@@ -173,11 +245,12 @@ uint32_t pno_create(uint8_t *image, size_t image_len, const uint8_t *name, size_
                     uint8_t record_length, uint8_t records_per_sector);
 
 /*
- * Appends a sector to a data file: the sector's 256 bytes, its bit in the map, and in the descriptor the number
- * of sectors and the chain. The rest of the descriptor stays, the end offset and the record count among it.
+ * Appends a sector to a data file: the sector's 256 bytes, its bit in the map, and in the descriptor the
+ * number of sectors and the chain. The rest of the descriptor stays, the end offset and the record count
+ * among it.
  *
- * Numbers: 1 to 6; 7; 8; 10; 14 for a program; 15 where data_len is not 256; 12; 13, which is not due where
- * the sector that is taken follows the file's last one.
+ * Numbers: 1 to 6; 7; 8; 10; 14 for a program; 15 where data_len is not PNO_SECTOR_BYTES; 12; 13, which is
+ * not due where the sector that is taken follows the file's last one.
  * Stack: at most 2,520 bytes.
  */
 uint32_t pno_append(uint8_t *image, size_t image_len, const uint8_t *name, size_t name_len,
@@ -187,19 +260,19 @@ uint32_t pno_append(uint8_t *image, size_t image_len, const uint8_t *name, size_
  * Overwrites a sector of a data file: its 256 bytes and nothing else. Offsets count from 0.
  *
  * Numbers: 1 to 6; 7; 8; 10; 14 for a program; 15 for an offset past the last sector, or where data_len is
- * not 256.
+ * not PNO_SECTOR_BYTES.
  * Stack: at most 1,912 bytes.
  */
 uint32_t pno_overwrite(uint8_t *image, size_t image_len, const uint8_t *name, size_t name_len, size_t offset,
                        const uint8_t *data, size_t data_len);
 
 /*
- * Stores a program of 0 to 32,768 bytes as a new file: bytes_len / 256 + 1 sectors, the rest of the last one
- * zero; its descriptor, which is zero but for the name, status 01, the number of sectors, the end offset and
- * the chain; the bits of all these in the map; its place in sector 1.
+ * Stores a program of 0 to PNO_PROGRAM_MOST bytes as a new file: bytes_len / 256 + 1 sectors, the rest of
+ * the last one zero; its descriptor, which is zero but for the name, status 01, the number of sectors, the
+ * end offset and the chain; the bits of all these in the map; its place in sector 1.
  *
- * Numbers: 1 to 6; 7; 9; 15 where bytes_len is above 32,768; 11; 12, the descriptor's sector being counted;
- * 13.
+ * Numbers: 1 to 6; 7; 9; 15 where bytes_len is above PNO_PROGRAM_MOST; 11; 12, the descriptor's sector being
+ * counted; 13.
  * Stack: at most 3,352 bytes.
  */
 uint32_t pno_store(uint8_t *image, size_t image_len, const uint8_t *name, size_t name_len,
@@ -217,7 +290,8 @@ uint32_t pno_delete(uint8_t *image, size_t image_len, const uint8_t *name, size_
 /*
  * Renames a file: the ten bytes of its name, and its place in sector 1.
  *
- * Numbers: 1 to 6; 7 for either name; 8 for the old one; 9 for the new one, also where it is the old one; 10.
+ * Numbers: 1 to 6; 7 for either name; 8 for the old one; 9 for the new one, also where it is the old one;
+ * 10.
  * Stack: at most 2,456 bytes.
  */
 uint32_t pno_rename(uint8_t *image, size_t image_len, const uint8_t *old, size_t old_len,
@@ -234,11 +308,11 @@ uint32_t pno_unprotect(uint8_t *image, size_t image_len, const uint8_t *name, si
 
 /*
  * Packs a volume into another image of the same length, whatever bytes that had: the target is then a sound
- * volume with the source's label, files and contents, and has nothing else on it. Bytes 0 to 55 of sector 0 are
- * the source's. The descriptors lie from sector 2 on in the order of names, bytes 0 to 27 of each as they were;
- * the data of all files follows in that order without a gap, in one block a file; every free sector is E5 hex.
- * So volumes that differ only in where things lie, and in what is left in free sectors, pack to the same bytes,
- * and packing what was packed changes nothing. The source is read and never changed.
+ * volume with the source's label, files and contents, and has nothing else on it. Bytes 0 to 55 of sector 0
+ * are the source's. The descriptors lie from sector 2 on in the order of names, bytes 0 to 27 of each as
+ * they were; the data of all files follows in that order without a gap, in one block a file; every free
+ * sector is E5 hex. So volumes that differ only in where things lie, and in what is left in free sectors,
+ * pack to the same bytes, and packing what was packed changes nothing. The source is read and never changed.
  *
  * Numbers: 1 to 6 for the source; 15 where target_len is not source_len.
  * Stack: at most 2,392 bytes.

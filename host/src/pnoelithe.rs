@@ -12,13 +12,25 @@
 use std::fmt::{self, Display, Formatter};
 
 /// A disk's or a file's name, with its padding.
-pub type Name = [u8; 10];
+pub type Name = [u8; NAME_BYTES];
 
-/// Room for every listing.
-pub const LISTING_BYTES: usize = 4212;
+pub const SECTOR_BYTES: usize = 256;
+pub const NAME_BYTES: usize = 10;
 /// Bytes of a descriptor that an entry gives.
 pub const HEADER_BYTES: usize = 28;
-pub const SECTOR_BYTES: usize = 256;
+/// The fewest and the most sectors of a volume.
+pub const SECTORS_LEAST: usize = 3;
+pub const SECTORS_MOST: usize = 1600;
+/// The most bytes of a volume's image.
+pub const IMAGE_MOST: usize = 409_600;
+/// The most files of a volume.
+pub const FILES_MOST: usize = 127;
+/// Room for every listing.
+pub const LISTING_MOST: usize = 4212;
+/// The most bytes that a store takes.
+pub const PROGRAM_MOST: usize = 32_768;
+/// The most bytes that a load gives: 1,597 sectors, end offset 255.
+pub const LOADED_MOST: usize = 408_831;
 
 /// Why a call is refused, in the order of the tests; each case stands for its number.
 #[derive(Clone, Copy, Debug, PartialEq, Eq)]
@@ -33,8 +45,8 @@ pub enum Refusal {
     NotFound = 8,
     Present = 9,
     Protected = 10,
-    NotProgram = 14,
-    Size = 15,
+    Kind = 14,
+    Argument = 15,
     IndexFull = 11,
     DiskFull = 12,
     ChainFull = 13,
@@ -52,8 +64,8 @@ impl Refusal {
         Refusal::NotFound,
         Refusal::Present,
         Refusal::Protected,
-        Refusal::NotProgram,
-        Refusal::Size,
+        Refusal::Kind,
+        Refusal::Argument,
         Refusal::IndexFull,
         Refusal::DiskFull,
         Refusal::ChainFull,
@@ -77,8 +89,8 @@ impl Display for Refusal {
             Refusal::NotFound => "there is no such file",
             Refusal::Present => "there is a file of that name already",
             Refusal::Protected => "the file is protected",
-            Refusal::NotProgram => "the file is of another kind",
-            Refusal::Size => "a length, an offset or a status does not fit",
+            Refusal::Kind => "the file is of another kind",
+            Refusal::Argument => "a length, an offset or a status does not fit",
             Refusal::IndexFull => "there are 127 files already",
             Refusal::DiskFull => "too few sectors are free",
             Refusal::ChainFull => "the free sectors lie in too many pieces",
@@ -186,7 +198,7 @@ impl Display for Kind {
 
 /// The ten bytes of a name; one that is too long is left blank, which every call refuses.
 pub fn padded(name: &str) -> Name {
-    let mut padded = [b' '; 10];
+    let mut padded = [b' '; NAME_BYTES];
     if let Some(front) = padded.get_mut(..name.len()) {
         front.copy_from_slice(name.as_bytes());
     }
@@ -225,7 +237,7 @@ pub fn free_count(image: &[u8]) -> Result<usize, Refusal> {
 
 /// The volume's name, and its numbers of sectors, files and free sectors.
 pub fn summary(image: &[u8]) -> Result<Summary, Refusal> {
-    let mut summary = Summary { disk_name: [0; 10], sectors: 0, files: 0, free_sectors: 0 };
+    let mut summary = Summary { disk_name: [0; NAME_BYTES], sectors: 0, files: 0, free_sectors: 0 };
     done(unsafe {
         imported::pno_summary(
             image.as_ptr(),
@@ -298,7 +310,7 @@ pub fn load<'out>(image: &[u8], name: &[u8], out: &'out mut [u8]) -> Result<&'ou
     Ok(&out[..length])
 }
 
-/// Writes the catalogue into the front of `out`, for which `LISTING_BYTES` are always enough; the
+/// Writes the catalogue into the front of `out`, for which `LISTING_MOST` are always enough; the
 /// text is given back.
 pub fn listing<'out>(image: &[u8], out: &'out mut [u8]) -> Result<&'out str, Refusal> {
     let mut length = 0;
@@ -310,7 +322,7 @@ pub fn listing<'out>(image: &[u8], out: &'out mut [u8]) -> Result<&'out str, Ref
 
 /// The same text, with no buffer to lend.
 pub fn catalogue(image: &[u8]) -> Result<String, Refusal> {
-    let mut out = [0; LISTING_BYTES];
+    let mut out = [0; LISTING_MOST];
     listing(image, &mut out).map(str::to_string)
 }
 
