@@ -1,0 +1,318 @@
+#!/usr/bin/env bash
+# Runs the programs on files on disk, step by step, by ./run: what each writes to standard output and to
+# standard error, and the status that ./run gives. What must come stands here, written down from the
+# programs' pages and the paper. From any folder:
+#   host/programs.sh          the steps
+#   host/programs.sh shelf    measures masters on 5,000 images of 360 sectors, and its growth
+# PNO_ARCHIVE names another archive than the one that is built from the repository.
+set -euo pipefail
+
+host=$(cd "$(dirname "${BASH_SOURCE[0]}")" && pwd)
+. "$host/common.sh"
+work=$out/program-files
+steps=0
+
+fail() {
+    echo "the programs: $*" >&2
+    exit 1
+}
+
+# STATUS OUTPUT ERRORS WORD...: ./run, called with these words, must end so and write these two texts.
+step() {
+    local status=$1 ended=0
+    printf '%s' "${2:+$2
+}" >"$work/output"
+    printf '%s' "${3:+$3
+}" >"$work/errors"
+    shift 3
+    "$top/run" "$@" >"$work/written" 2>"$work/told" || ended=$?
+    [ "$ended" -eq "$status" ] || fail "status $ended, not $status: $*"
+    diff "$work/output" "$work/written" >&2 || fail "standard output is otherwise: $*"
+    diff "$work/errors" "$work/told" >&2 || fail "standard error is otherwise: $*"
+    steps=$((steps + 1))
+}
+
+must_be() {
+    [ "$1" = "$2" ] || fail "$3: $1, not $2"
+    steps=$((steps + 1))
+}
+
+# Case M's volume, one with a bit of the map cleared, and others of another disk manager's, in $work/images.
+lay_out() {
+    mkdir -p "$work/images"
+    cd "$work/images"
+    cp "$top/crates/catalogue/stdin" sound.dsk
+    { head -c 60 sound.dsk && printf '\0' && tail -c +62 sound.dsk; } >map.dsk
+    gzip -dc "$host/vectors/20-small-90-rawname.dsk.gz" >label.dsk
+    gzip -dc "$host/vectors/23-small-258-toolong.dsk.gz" >long.dsk
+    : >empty.dsk
+}
+
+missing='No such file or directory'
+listing='SHELF 64 57
+ALPHA PROGRAM 300 2 U
+NOTES DIS/VAR 80 1 U'
+
+# One image for each number, as crates/belt/README.md has them, with its ground.
+grounds=('0-carried a sound volume'
+    '1-empty the image'\''s length is not that of a volume'
+    '2-name-dot sector 0 is no label'
+    '3-too-low sector 1 is no list of files'
+    '4-order a file'\''s descriptor breaks a rule'
+    '5-twice a sector has two holders'
+    '6-set the map is not that of the files')
+
+try_belt() {
+    local ground image number=0 lines='' words=()
+    step 0 '0 sound.dsk' '1 image: 1 sound' belt sound.dsk
+    step 1 '0 sound.dsk
+6 map.dsk' '2 images: 1 sound, 1 of number 6' belt sound.dsk map.dsk
+    step 2 '6 map.dsk
+- missing.dsk
+0 sound.dsk
+1 empty.dsk' "missing.dsk: $missing
+4 images: 1 sound, 1 of number 1, 1 of number 6, 1 unread" belt map.dsk missing.dsk sound.dsk empty.dsk
+    step 2 '- .' '.: Is a directory
+1 image: 0 sound, 1 unread' belt .
+    step 0 '0' '1 image: 1 sound' belt <sound.dsk
+    step 1 '6' '1 image: 0 sound, 1 of number 6' belt <map.dsk
+    step 1 '6: the map is not that of the files' '1 image: 0 sound, 1 of number 6' belt -v <map.dsk
+    step 2 '- missing.dsk: not read' "missing.dsk: $missing
+1 image: 0 sound, 1 unread" belt -v missing.dsk
+    for ground in "${grounds[@]}"; do
+        image=$top/crates/belt/data/${ground%% *}.dsk
+        words+=("$image")
+        lines+=${lines:+$'\n'}"$number $image: ${ground#* }"
+        number=$((number + 1))
+    done
+    step 1 "$lines" '7 images: 1 sound, 1 of number 1, 1 of number 2, 1 of number 3, '\
+'1 of number 4, 1 of number 5, 1 of number 6' belt -v "${words[@]}"
+    # The count that the belt's page has as its example.
+    mapfile -t words < <(printf 'sound.dsk\n%.0s' {1..398} && printf 'map.dsk\n%.0s' {1..9} && printf 'missing.dsk\n%.0s' {1..5})
+    must_be "$("$top/run" belt "${words[@]}" 2>&1 >"$work/written" | tail -n 1)" \
+        '412 images: 398 sound, 9 of number 6, 5 unread' 'the last line of 412 images'
+    must_be "$(wc -l <"$work/written")" 412 'lines of 412 images'
+}
+
+# A newline would begin another line, on either output.
+try_names() {
+    cp sound.dsk $'two\nlines.dsk'
+    cp map.dsk ./-v
+    step 2 '0 two?lines.dsk
+- no?file.dsk' "no?file.dsk: $missing
+2 images: 1 sound, 1 unread" belt $'two\nlines.dsk' $'no\nfile.dsk'
+    step 0 "==> two?lines.dsk <==
+$listing" '1 image: 1 sound' listings $'two\nlines.dsk'
+    step 0 '0 1 two?lines.dsk' '1 image: 1 sound' masters $'two\nlines.dsk'
+    step 1 '6 -v' '1 image: 0 sound, 1 of number 6' belt -- -v
+    step 1 '6 -v: the map is not that of the files' '1 image: 0 sound, 1 of number 6' belt -v -- -v
+}
+
+try_listings() {
+    step 2 "==> sound.dsk <==
+$listing
+
+==> map.dsk <==
+REFUSED 6
+
+==> missing.dsk <==
+-
+
+==> long.dsk <==
+$(cat "$host/vectors/23-small-258-toolong.rows.txt")" "missing.dsk: $missing
+4 images: 2 sound, 1 of number 6, 1 unread" listings sound.dsk map.dsk missing.dsk long.dsk
+    step 1 '==> label.dsk <==
+REFUSED 2' '1 image: 0 sound, 1 of number 2' listings label.dsk
+}
+
+try_catalogue() {
+    step 0 "$listing" '' catalogue sound.dsk
+    step 0 "$listing" '' catalogue <sound.dsk
+    step 1 'REFUSED 6' '' catalogue map.dsk
+    step 1 'REFUSED 1' '' catalogue long.dsk
+    step 2 '' 'run: cannot read missing.dsk' catalogue missing.dsk
+    step 2 '' 'run: cannot read .' catalogue .
+    step 2 '' 'standard input: Is a directory' catalogue <.
+    # A sound disk may have the word as its name.
+    { printf 'REFUSED   ' && tail -c +11 sound.dsk; } >named.dsk
+    step 0 "REFUSED${listing#SHELF}" '' catalogue named.dsk
+}
+
+# FILE: the bytes as one number, high byte first and a one in front, modulo the largest prime below
+# 72,000,000,000,000,000, in sixteen hexadecimal digits.
+sum_of() {
+    python3 -c 'import sys
+prime = 71999999999999857
+print("%016x" % (int.from_bytes(b"\1" + open(sys.argv[1], "rb").read(), "big") % prime))' "$1"
+}
+
+try_masters() {
+    local data=$top/crates/masters/data sum other
+    step 2 "0 1 $data/shelf.dsk
+- - missing.dsk
+0 1 $data/shelf-worn.dsk
+6 - map.dsk
+0 5 $data/shelf-other.dsk
+0 1 $data/shelf-again.dsk
+0 5 $data/shelf-other.dsk" "missing.dsk: $missing
+7 images: 5 sound, 1 of number 6, 1 unread" masters "$data/shelf.dsk" missing.dsk "$data/shelf-worn.dsk" \
+        map.dsk "$data/shelf-other.dsk" "$data/shelf-again.dsk" "$data/shelf-other.dsk"
+    if ! command -v python3 >/dev/null; then
+        echo "sums of packed forms are not compared: there is no python3"
+        return
+    fi
+    "${emulator[@]}" "$out/example" "$data/shelf.dsk" pack "$work/packed"
+    sum=$(sum_of "$work/packed")
+    "${emulator[@]}" "$out/example" "$data/shelf-other.dsk" pack "$work/packed"
+    other=$(sum_of "$work/packed")
+    [ "$sum" != "$other" ] || fail "two disks have one sum"
+    step 2 "0 $sum $data/shelf.dsk
+0 $other $data/shelf-other.dsk
+0 $sum $data/shelf-worn.dsk
+- - missing.dsk
+6 - map.dsk" "missing.dsk: $missing
+5 images: 3 sound, 1 of number 6, 1 unread" masters --sums "$data/shelf.dsk" "$data/shelf-other.dsk" \
+        "$data/shelf-worn.dsk" missing.dsk map.dsk
+}
+
+# Every program has its usage, on standard output where it is asked for, and on standard error where its
+# words are not those.
+try_usage() {
+    local program usage
+    for program in belt 'belt [-v] [--] [IMAGE...]' listings 'listings [--] IMAGE...' \
+        masters 'masters [--sums] [--] IMAGE...' catalogue 'catalogue < IMAGE' bench bench; do
+        if [ -z "${usage:-}" ]; then
+            usage=$program
+            continue
+        fi
+        must_be "$("$top/run" "$usage" -h 2>&1 | head -n 1)" "usage: $program" "$usage -h"
+        "$top/run" "$usage" --help >"$work/usage" 2>"$work/told" || fail "$usage --help gives a status"
+        step 0 "$(cat "$work/usage")" '' "$usage" -h
+        step 2 '' "$(cat "$work/usage")" "$usage" --other
+        grep -q -- '-h, --help' "$work/usage" || fail "$usage --help does not tell its options"
+        usage=
+    done
+    step 2 '' "$("$top/run" masters -h)" masters -v sound.dsk
+    step 2 '' "$("$top/run" belt -h)" belt --sums sound.dsk
+    step 2 '' "$("$top/run" --help)" no_such_program
+}
+
+# Output that is full or closed is told, and is no 0.
+try_outputs() {
+    local program ended
+    for program in 'belt sound.dsk' 'belt -h' 'listings sound.dsk' 'masters sound.dsk' 'catalogue sound.dsk' bench; do
+        ended=0
+        # shellcheck disable=SC2086
+        "$top/run" $program >/dev/full 2>"$work/told" || ended=$?
+        must_be "$ended" 2 "status on a full output: $program"
+        grep -q 'standard output' "$work/told" || fail "a full output is not told: $program"
+        ended=0
+        # shellcheck disable=SC2086
+        "$top/run" $program >&- 2>"$work/told" || ended=$?
+        must_be "$ended" 2 "status on a closed output: $program"
+        must_be "$(cat "$work/told")" 'run: standard output is closed' "closed output: $program"
+    done
+    step 0 "$(cat "$top/crates/bench/stdout")" '' bench
+}
+
+# The commands of the README over a shelf: on all cores, by parallel, and duplicates across machines.
+try_shelf_commands() {
+    local belt=("${emulator[@]}" "$top/target/bin/belt") masters=("${emulator[@]}" "$top/target/bin/masters")
+    local expected
+    mkdir -p first second
+    cp sound.dsk first/a.dsk
+    cp map.dsk first/b.dsk
+    cp "$top/crates/masters/data/shelf-worn.dsk" second/c.dsk
+    cp "$top/crates/masters/data/shelf-other.dsk" second/d.dsk
+    : >second/e.dsk
+    expected='1 second/e.dsk
+6 first/b.dsk'
+    must_be "$(find first second -name '*.dsk' -print0 | xargs -0 -n 2 -P 2 "${belt[@]}" 2>"$work/told" |
+        grep -v '^0 ' | sort)" "$expected" 'a shelf by find and xargs'
+    must_be "$(awk '{ images += $1; sound += $3 } END { print NR, images, sound }' "$work/told")" '3 5 3' \
+        'the counts of three belts, added up'
+    if [ ${#emulator[@]} -eq 0 ] && need_parallel; then
+        must_be "$(find first second -name '*.dsk' -print0 |
+            parallel -0 -n 2 -S 2/: --workdir . "${belt[@]}" 2>/dev/null | grep -v '^0 ' | sort)" \
+            "$expected" 'a shelf by parallel'
+    else
+        echo "a shelf by parallel is not tried: there is no GNU parallel here"
+    fi
+    # Each machine has a folder of its own; equal sums in the joined lines are the duplicates.
+    must_be "$({ "${masters[@]}" --sums first/*.dsk && "${masters[@]}" --sums second/*.dsk; } 2>/dev/null |
+        grep '^0 ' | sort -k 2,2 -k 3 | uniq -f 1 -w 17 -D | cut -d ' ' -f 3)" 'first/a.dsk
+second/c.dsk' 'duplicates across machines'
+}
+
+need_parallel() {
+    command -v parallel >/dev/null || install parallel >/dev/null 2>&1 || return 1
+    parallel --version 2>/dev/null | grep -q '^GNU parallel'
+}
+
+# COUNT SECTORS: so many images in $work/shelf; the tenth of each ten is the fifth again, laid out otherwise.
+make_shelf() {
+    "${compiler[@]}" -std=c11 -O2 -Wall -Wextra -Werror -pedantic -I"$top/include" "$host/shelf.c" "$archive" \
+        -o "$out/shelf"
+    rm -rf "$work/shelf"
+    mkdir -p "$work/shelf"
+    (cd "$work/shelf" && "${emulator[@]}" "$out/shelf" "$1" "$2")
+}
+
+# COUNT: the first so many of them, by masters, which must find each of the pairs and no other.
+find_pairs() {
+    (cd "$work/shelf" && find . -name '*.dsk' | sort | head -n "$1" |
+        xargs -x -n "$1" "${one_core[@]}" "${emulator[@]}" "$top/target/bin/masters" 2>"$work/told" >"$work/written")
+    must_be "$(cat "$work/told")" "$1 images: $1 sound" "the count of $1 images"
+    awk '{ place = NR % 10 ? NR : NR - 5; if ($1 != 0 || $2 != place) wrong++ } END { exit wrong > 0 }' \
+        "$work/written" || fail "masters finds other pairs among $1 images"
+    steps=$((steps + 1))
+}
+
+# Seconds on one core, for a quarter, a half and all of 5,000 images: the limit is a minute.
+measure_shelf() {
+    local images began ended one_core=()
+    ! command -v taskset >/dev/null || one_core=(taskset -c 0)
+    make_shelf 5000 360
+    echo "masters, images of 360 sectors"
+    for images in 1250 2500 5000; do
+        began=$(date +%s%N)
+        find_pairs "$images"
+        ended=$(date +%s%N)
+        printf '%7d images %6d ms\n' "$images" $(((ended - began) / 1000000))
+    done
+    rm -rf "$work/shelf"
+    [ $((ended - began)) -lt 60000000000 ] || fail "5,000 images take more than a minute"
+}
+
+# Each program is proved before the first step, which says so.
+prove_programs() {
+    local program
+    for program in "$top"/crates/*/src/main.rt; do
+        program=${program%/src/main.rt}
+        "$top/run" "${program##*/}" -h >/dev/null
+    done
+}
+
+prepare_c
+find_archive
+prove_programs
+rm -rf "$work"
+mkdir -p "$work"
+if [ "${1:-}" = shelf ]; then
+    measure_shelf
+    exit
+fi
+compile_example
+lay_out
+try_belt
+try_names
+try_listings
+try_catalogue
+try_masters
+try_usage
+try_outputs
+try_shelf_commands
+one_core=()
+make_shelf 300 90
+find_pairs 300
+echo "the programs: $steps steps as expected"
