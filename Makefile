@@ -2,8 +2,8 @@
 #
 #     make                        target/staticlib/libpnoelithe.a, where it is missing or older than a source
 #     make install                header, archive and pnoelithe.pc below PREFIX, which is /usr/local
-#     make install PREFIX=/usr DESTDIR=/tmp/stage
-#                                 those for /usr, laid down below /tmp/stage
+#     make install PREFIX=/usr DESTDIR=stage
+#                                 those for /usr, laid down below stage
 #     make uninstall              removes the three; PREFIX and DESTDIR as they were installed with
 #
 # INCLUDEDIR and LIBDIR lie below PREFIX where they are not set. ARCHIVE names another archive to install:

@@ -175,6 +175,22 @@ try_masters() {
         "$data/shelf-worn.dsk" missing.dsk map.dsk
 }
 
+# The table has room for 131,071 images. What comes behind is compared with all that came behind.
+try_past_the_table() {
+    local words
+    gzip -dc "$host/vectors/25-small-3-empty.dsk.gz" >a
+    { printf 'B         ' && tail -c +11 a; } >b
+    { printf 'C         ' && tail -c +11 a; } >c
+    mapfile -t words < <(printf 'a\n%.0s' {1..131071})
+    must_be "$("$top/run" masters "${words[@]}" b c b a c 2>"$work/told" | tail -n 6)" '0 1 a
+0 131072 b
+0 131073 c
+0 131072 b
+0 1 a
+0 131073 c' 'images past the table'
+    must_be "$(cat "$work/told")" '131076 images: 131076 sound' 'the count of images past the table'
+}
+
 # Every program has its usage, on standard output where it is asked for, and on standard error where its
 # words are not those.
 try_usage() {
@@ -309,6 +325,7 @@ try_names
 try_listings
 try_catalogue
 try_masters
+try_past_the_table
 try_usage
 try_outputs
 try_shelf_commands

@@ -1,5 +1,6 @@
 // The options that stand in front of the images on a command line.
 ghost use mathlib.Core.Path.{_≡_};
+ghost use mathlib.Core.Bool.{true, cond};
 ghost use Prim.Native.Nat.{_≤_};
 ghost use Rattle.console.specs.Options.{wordOf};
 use libc::STDERR_FILENO;
@@ -98,7 +99,9 @@ pub fn read_options(count: usize, argument: &mut [u8; ARGUMENT_ROOM]) -> Options
 
 // Writes the usage where it is asked for, or, to standard error, where an option is none of the program's. The answer is
 // whether it did: then there is nothing else to do.
-pub fn usage(help: bool, wrong: bool, text: &[u8]) -> bool {
+pub fn usage(help: bool, wrong: bool, text: &[u8]) -> bool
+    ensures { λ r. ⌜ r ≡ cond help true wrong ⌝ }
+{
     if help {
         if !io::write_all(STDOUT_FILENO, text) {
             os::fail(b"standard output");

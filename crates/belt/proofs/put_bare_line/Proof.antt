@@ -9,7 +9,9 @@ use Rattle.belt.proofs.put_bare_line.Tie as tie
 returns : tie.Need-returns
 unfolding bareLine
 returns c =
-    let line = laid-then (c .before .before .before .before .before .before .before .before .before .before .before .put .ensures) (laid-then (c .before .before .before .before .before .before .before .put-reason .ensures) (c .before .before .put2 .ensures)) in
+    let after-put-reason = c .before .before .before .before .before .before .before in
+    let after-put = after-put-reason .before .before .before .before in
+    let line = laid-then (after-put .put .ensures) (laid-then (after-put-reason .put-reason .ensures) (c .before .before .put2 .ensures)) in
     (omega (arith, line .ends), line .left)
 
 pub put-bare-line-spec : {M : Type 1} → statement M

@@ -12,8 +12,10 @@ use Rattle.belt.proofs.put_reason.Tie as tie
 returns : tie.Need-returns
 unfolding reasonOf letters
 returns c =
-    let laid = laid-then (c .before .before .before .before .before .before .put .ensures) (c .before .before .put-ground .ensures) in
-    laid-as (rw (c .before .before .before .before .before .before .before .before .before .if1 .taken)) (laid .short) laid
+    let after-put = c .before .before .before .before .before .before in
+    let after-if1 = after-put .before .before .before in
+    let laid = laid-then (after-put .put .ensures) (c .before .before .put-ground .ensures) in
+    laid-as (rw (after-if1 .if1 .taken)) (laid .short) laid
 
 returns-2 : tie.Need-returns-2
 unfolding reasonOf

@@ -12,21 +12,26 @@ use Rattle.listings.proofs.put_page.Tie as tie
 
 -- the text is no longer than what was lent
 few : (c : tie.After-part) → length (c .part .result .now) ≤ 4212
-few c = rw (c .part .ensures, length-take) (omega (arith, c .before .before .before .before .before .before .before .before .before .before .before .before .before .before .before .before .before .before .before .before .before .before .before .pre))
+few c =
+    let start = c .before .before .before .before .before .before .before .before .before .before .before .before .before .before .before .before .before .before .before .before .before .before .before in
+    rw (c .part .ensures, length-take) (omega (arith, start .pre))
 
 put-requires-4 : tie.Need-put-requires-4
 put-requires-4 c κs =
-    let parted = c .before .before .before .before .before .before .before .before .before .before .before .before .before .before .before .before .before .before .put-parting .ensures in
-    let begun = c .before .before .before .before .before .before .before .before .before .before .before .before .before .put .ensures in
-    let named = c .before .before .before .before .before .before .before .before .before .put2 .ensures in
     let headed = c .before .before .before .before .put3 .ensures in
-    omega (arith, few c, parted .ends, parted .short, begun .ends, named .ends, headed .ends)
+    let named = c .before .before .before .before .before .before .before .before .before .put2 .ensures in
+    omega (arith, few c, c .before .before .before .before .before .before .before .before .before .before .before .before .before .before .before .before .before .before .put-parting .ensures .ends, c .before .before .before .before .before .before .before .before .before .before .before .before .before .before .before .before .before .before .put-parting .ensures .short, c .before .before .before .before .before .before .before .before .before .before .before .before .before .put .ensures .ends, named .ends, headed .ends)
 
 returns : tie.Need-returns
 unfolding pageOf letters
 returns c =
-    let text = laid-as (c .before .before .before .part .ensures) (few (c .before .before .before)) (c .before .before .put4 .ensures) in
-    let page = laid-then (c .before .before .before .before .before .before .before .before .before .before .before .before .before .before .before .before .before .before .before .before .before .put-parting .ensures) (laid-then (c .before .before .before .before .before .before .before .before .before .before .before .before .before .before .before .before .put .ensures) (laid-then (c .before .before .before .before .before .before .before .before .before .before .before .before .put2 .ensures) (laid-then (c .before .before .before .before .before .before .before .put3 .ensures) text))) in
+    let after-part = c .before .before .before in
+    let after-put3 = after-part .before .before .before .before in
+    let after-put2 = after-put3 .before .before .before .before .before in
+    let after-put = after-put2 .before .before .before .before in
+    let after-put-parting = after-put .before .before .before .before .before in
+    let text = laid-as (after-part .part .ensures) (few (c .before .before .before)) (c .before .before .put4 .ensures) in
+    let page = laid-then (after-put-parting .put-parting .ensures) (laid-then (after-put .put .ensures) (laid-then (after-put2 .put2 .ensures) (laid-then (after-put3 .put3 .ensures) text))) in
     (omega (arith, page .ends), page .left)
 
 pub put-page-spec : {M : Type 1} → statement M

@@ -6,10 +6,14 @@ use Rattle.masters.proofs.find_one.Statement.{statement}
 use Rattle.masters.proofs.find_one.Tie as tie
 
 returns : tie.Need-returns
-returns c = table-later _ (c .before .before .before .before .before .before .before .before .before .before .before .before .pre) (omega arith)
+returns c =
+    let start = c .before .before .before .before .before .before .before .before .before .before .before .before in
+    table-later _ (start .pre) (omega arith)
 
 returns-2 : tie.Need-returns-2
-returns-2 c = c .before .before .before .middle-of .ensures
+returns-2 c =
+    let after-middle-of = c .before .before .before in
+    after-middle-of .middle-of .ensures
 
 pub find-one-spec : {M : Type 1} → statement M
 find-one-spec =

@@ -9,7 +9,10 @@ use Rattle.masters.proofs.put_line.Tie as tie
 returns : tie.Need-returns
 unfolding lineOf
 returns c =
-    let line = laid-then (c .before .before .before .before .before .before .before .before .before .before .before .before .before .before .before .put .ensures) (laid-then (c .before .before .before .before .before .before .before .before .before .before .before .put-middle .ensures) (laid-then (c .before .before .before .before .before .before .before .put2 .ensures) (c .before .before .put3 .ensures))) in
+    let after-put2 = c .before .before .before .before .before .before .before in
+    let after-put-middle = after-put2 .before .before .before .before in
+    let after-put = after-put-middle .before .before .before .before in
+    let line = laid-then (after-put .put .ensures) (laid-then (after-put-middle .put-middle .ensures) (laid-then (after-put2 .put2 .ensures) (c .before .before .put3 .ensures))) in
     (omega (arith, line .ends), line .left)
 
 pub put-line-spec : {M : Type 1} → statement M

@@ -13,31 +13,104 @@ returns c = rw (sym (c .before .same .ensures) ∙ c .if1 .taken) refl
 
 returns-2 : tie.Need-returns-2
 unfolding imageOr wordOf letters
-returns-2 c = rw (sym (c .before .before .before .before .same .ensures) ∙ c .before .before .before .if1 .left, sym (c .before .same2 .ensures) ∙ c .if2 .taken) refl
+returns-2 c =
+    let e1 = c .before .before .before in
+    rw (
+      sym (e1 .before .same .ensures) ∙ e1 .if1 .left,
+      sym (c .before .same2 .ensures) ∙ c .if2 .taken,
+    ) refl
 
 returns-3 : tie.Need-returns-3
 unfolding imageOr wordOf letters
-returns-3 c = rw (sym (c .before .before .before .before .before .before .before .same .ensures) ∙ c .before .before .before .before .before .before .if1 .left, sym (c .before .before .before .before .same2 .ensures) ∙ c .before .before .before .if2 .left, sym (c .before .same3 .ensures) ∙ c .if3 .taken) refl
+returns-3 c =
+    let e2 = c .before .before .before in
+    let e1 = e2 .before .before .before in
+    rw (
+      sym (e1 .before .same .ensures) ∙ e1 .if1 .left,
+      sym (e2 .before .same2 .ensures) ∙ e2 .if2 .left,
+      sym (c .before .same3 .ensures) ∙ c .if3 .taken,
+    ) refl
 
 returns-4 : tie.Need-returns-4
 unfolding imageOr wordOf letters
-returns-4 c = rw (sym (c .before .before .before .before .before .before .before .before .before .before .same .ensures) ∙ c .before .before .before .before .before .before .before .before .before .if1 .left, sym (c .before .before .before .before .before .before .before .same2 .ensures) ∙ c .before .before .before .before .before .before .if2 .left, sym (c .before .before .before .before .same3 .ensures) ∙ c .before .before .before .if3 .left, sym (c .before .same4 .ensures) ∙ c .if4 .taken) refl
+returns-4 c =
+    let e3 = c .before .before .before in
+    let e2 = e3 .before .before .before in
+    let e1 = e2 .before .before .before in
+    rw (
+      sym (e1 .before .same .ensures) ∙ e1 .if1 .left,
+      sym (e2 .before .same2 .ensures) ∙ e2 .if2 .left,
+      sym (e3 .before .same3 .ensures) ∙ e3 .if3 .left,
+      sym (c .before .same4 .ensures) ∙ c .if4 .taken,
+    ) refl
 
 returns-5 : tie.Need-returns-5
 unfolding imageOr wordOf letters
-returns-5 c = rw (sym (c .before .before .before .before .before .before .before .before .before .before .before .before .before .same .ensures) ∙ c .before .before .before .before .before .before .before .before .before .before .before .before .if1 .left, sym (c .before .before .before .before .before .before .before .before .before .before .same2 .ensures) ∙ c .before .before .before .before .before .before .before .before .before .if2 .left, sym (c .before .before .before .before .before .before .before .same3 .ensures) ∙ c .before .before .before .before .before .before .if3 .left, sym (c .before .before .before .before .same4 .ensures) ∙ c .before .before .before .if4 .left, sym (c .before .same5 .ensures) ∙ c .if5 .taken) refl
+returns-5 c =
+    let e4 = c .before .before .before in
+    let e3 = e4 .before .before .before in
+    let e2 = e3 .before .before .before in
+    let e1 = e2 .before .before .before in
+    rw (
+      sym (e1 .before .same .ensures) ∙ e1 .if1 .left,
+      sym (e2 .before .same2 .ensures) ∙ e2 .if2 .left,
+      sym (e3 .before .same3 .ensures) ∙ e3 .if3 .left,
+      sym (e4 .before .same4 .ensures) ∙ e4 .if4 .left,
+      sym (c .before .same5 .ensures) ∙ c .if5 .taken,
+    ) refl
 
 returns-6 : tie.Need-returns-6
 unfolding imageOr wordOf letters
-returns-6 c = rw (sym (c .before .before .before .before .before .before .before .before .before .before .before .before .before .before .before .same .ensures) ∙ c .before .before .before .before .before .before .before .before .before .before .before .before .before .before .if1 .left, sym (c .before .before .before .before .before .before .before .before .before .before .before .before .same2 .ensures) ∙ c .before .before .before .before .before .before .before .before .before .before .before .if2 .left, sym (c .before .before .before .before .before .before .before .before .before .same3 .ensures) ∙ c .before .before .before .before .before .before .before .before .if3 .left, sym (c .before .before .before .before .before .before .same4 .ensures) ∙ c .before .before .before .before .before .if4 .left, sym (c .before .before .before .same5 .ensures) ∙ c .before .before .if5 .left, ne-eqb _ 0x2D (λ e. c .if6 .taken (c .before .byte .ensures .0 ∙ e))) refl
+returns-6 c =
+    let e5 = c .before .before in
+    let e4 = e5 .before .before .before in
+    let e3 = e4 .before .before .before in
+    let e2 = e3 .before .before .before in
+    let e1 = e2 .before .before .before in
+    rw (
+      sym (e1 .before .same .ensures) ∙ e1 .if1 .left,
+      sym (e2 .before .same2 .ensures) ∙ e2 .if2 .left,
+      sym (e3 .before .same3 .ensures) ∙ e3 .if3 .left,
+      sym (e4 .before .same4 .ensures) ∙ e4 .if4 .left,
+      sym (e5 .before .same5 .ensures) ∙ e5 .if5 .left,
+      ne-eqb _ 0x2D (λ e. c .if6 .taken (c .before .byte .ensures .0 ∙ e)),
+    ) refl
 
 returns-7 : tie.Need-returns-7
 unfolding imageOr wordOf letters
-returns-7 c = rw (sym (c .before .before .before .before .before .before .before .before .before .before .before .before .before .before .before .before .same .ensures) ∙ c .before .before .before .before .before .before .before .before .before .before .before .before .before .before .before .if1 .left, sym (c .before .before .before .before .before .before .before .before .before .before .before .before .before .same2 .ensures) ∙ c .before .before .before .before .before .before .before .before .before .before .before .before .if2 .left, sym (c .before .before .before .before .before .before .before .before .before .before .same3 .ensures) ∙ c .before .before .before .before .before .before .before .before .before .if3 .left, sym (c .before .before .before .before .before .before .before .same4 .ensures) ∙ c .before .before .before .before .before .before .if4 .left, sym (c .before .before .before .before .same5 .ensures) ∙ c .before .before .before .if5 .left, eq-eqb _ 0x2D (sym (c .before .before .byte .ensures .0) ∙ c .before .if6 .left), lt-ltb 1 _ (c .if7 .taken)) refl
+returns-7 c =
+    let e5 = c .before .before .before in
+    let e4 = e5 .before .before .before in
+    let e3 = e4 .before .before .before in
+    let e2 = e3 .before .before .before in
+    let e1 = e2 .before .before .before in
+    rw (
+      sym (e1 .before .same .ensures) ∙ e1 .if1 .left,
+      sym (e2 .before .same2 .ensures) ∙ e2 .if2 .left,
+      sym (e3 .before .same3 .ensures) ∙ e3 .if3 .left,
+      sym (e4 .before .same4 .ensures) ∙ e4 .if4 .left,
+      sym (e5 .before .same5 .ensures) ∙ e5 .if5 .left,
+      eq-eqb _ 0x2D (sym (c .before .before .byte .ensures .0) ∙ c .before .if6 .left),
+      lt-ltb 1 _ (c .if7 .taken),
+    ) refl
 
 returns-8 : tie.Need-returns-8
 unfolding imageOr wordOf letters
-returns-8 c = rw (sym (c .before .before .before .before .before .before .before .before .before .before .before .before .before .before .before .before .same .ensures) ∙ c .before .before .before .before .before .before .before .before .before .before .before .before .before .before .before .if1 .left, sym (c .before .before .before .before .before .before .before .before .before .before .before .before .before .same2 .ensures) ∙ c .before .before .before .before .before .before .before .before .before .before .before .before .if2 .left, sym (c .before .before .before .before .before .before .before .before .before .before .same3 .ensures) ∙ c .before .before .before .before .before .before .before .before .before .if3 .left, sym (c .before .before .before .before .before .before .before .same4 .ensures) ∙ c .before .before .before .before .before .before .if4 .left, sym (c .before .before .before .before .same5 .ensures) ∙ c .before .before .before .if5 .left, eq-eqb _ 0x2D (sym (c .before .before .byte .ensures .0) ∙ c .before .if6 .left), le-ltb 1 _ (c .if7 .left)) refl
+returns-8 c =
+    let e5 = c .before .before .before in
+    let e4 = e5 .before .before .before in
+    let e3 = e4 .before .before .before in
+    let e2 = e3 .before .before .before in
+    let e1 = e2 .before .before .before in
+    rw (
+      sym (e1 .before .same .ensures) ∙ e1 .if1 .left,
+      sym (e2 .before .same2 .ensures) ∙ e2 .if2 .left,
+      sym (e3 .before .same3 .ensures) ∙ e3 .if3 .left,
+      sym (e4 .before .same4 .ensures) ∙ e4 .if4 .left,
+      sym (e5 .before .same5 .ensures) ∙ e5 .if5 .left,
+      eq-eqb _ 0x2D (sym (c .before .before .byte .ensures .0) ∙ c .before .if6 .left),
+      le-ltb 1 _ (c .if7 .left),
+    ) refl
 
 pub word-of-spec : {M : Type 1} → statement M
 word-of-spec =

@@ -17,9 +17,13 @@ returns c = rw (eq-eqb _ _ (c .if1 .taken)) (record { left = sym (splice-none _ 
 returns-2 : tie.Need-returns-2
 unfolding countText letters
 returns-2 c =
+    let after-put-number = c .before .before .before .before .before .before in
+    let after-put = after-put-number .before .before .before .before in
+    let after-if1 = after-put .before .before .before in
+    let start = after-if1 .before .before .before in
     let third = c .before .before in
-    let laid = laid-then (c .before .before .before .before .before .before .before .before .before .before .put .ensures) (laid-then (c .before .before .before .before .before .before .put-number .ensures) (third .put2 .ensures)) in
-    laid-as (rw (ne-eqb _ _ (c .before .before .before .before .before .before .before .before .before .before .before .before .before .if1 .left))) (omega (arith, laid .short, c .before .before .before .before .before .before .before .before .before .before .before .before .before .before .before .before .pre .1)) laid
+    let laid = laid-then (after-put .put .ensures) (laid-then (after-put-number .put-number .ensures) (third .put2 .ensures)) in
+    laid-as (rw (ne-eqb _ _ (after-if1 .if1 .left))) (omega (arith, laid .short, start .pre .1)) laid
 
 pub put-count-spec : {M : Type 1} → statement M
 put-count-spec =

@@ -9,21 +9,32 @@ use Rattle.console.proofs.tally.put_numbers.Tie as tie
 
 put-count-requires-6 : tie.Need-put-count-requires-6
 put-count-requires-6 c κs =
-    let first = c .before .before .before .before .before .before .before .before .before .before .before .before .before .before .before .before .before .before .before .before .before .before .before .before .before .before .before .before .before .put-count .ensures in
-    let second = c .before .before .before .before .before .before .before .before .before .before .before .before .before .before .before .before .before .before .before .before .before .before .before .put-count2 .ensures in
-    let third = c .before .before .before .before .before .before .before .before .before .before .before .before .before .before .before .before .before .put-count3 .ensures in
-    let fourth = c .before .before .before .before .before .before .before .before .before .before .before .put-count4 .ensures in
-    let fifth = c .before .before .before .before .before .put-count5 .ensures in
-    (omega (arith, c .before .before .before .before .before .before .before .before .before .before .before .before .before .before .before .before .before .before .before .before .before .before .before .before .before .before .before .before .before .before .before .before .before .before .pre, first .ends, first .short, second .ends, second .short, third .ends, third .short, fourth .ends, fourth .short, fifth .ends, fifth .short), omega arith)
+    let after-put-count5 = c .before .before .before .before .before in
+    let after-put-count4 = after-put-count5 .before .before .before .before .before .before in
+    let after-put-count3 = after-put-count4 .before .before .before .before .before .before in
+    let after-put-count2 = after-put-count3 .before .before .before .before .before .before in
+    let after-put-count = after-put-count2 .before .before .before .before .before .before in
+    let start = after-put-count .before .before .before .before .before in
+    let first = after-put-count .put-count .ensures in
+    let second = after-put-count2 .put-count2 .ensures in
+    let third = after-put-count3 .put-count3 .ensures in
+    let fourth = after-put-count4 .put-count4 .ensures in
+    let fifth = after-put-count5 .put-count5 .ensures in
+    (omega (arith, start .pre, first .ends, first .short, second .ends, second .short, third .ends, third .short, fourth .ends, fourth .short, fifth .ends, fifth .short), omega arith)
 
 returns : tie.Need-returns
 unfolding numbersText letters
 returns c =
-    laid-then (c .before .before .before .before .before .before .before .before .before .before .before .before .before .before .before .before .before .before .before .before .before .before .before .before .before .before .before .before .before .before .before .before .put-count .ensures)
-    (laid-then (c .before .before .before .before .before .before .before .before .before .before .before .before .before .before .before .before .before .before .before .before .before .before .before .before .before .before .put-count2 .ensures)
-    (laid-then (c .before .before .before .before .before .before .before .before .before .before .before .before .before .before .before .before .before .before .before .before .put-count3 .ensures)
-    (laid-then (c .before .before .before .before .before .before .before .before .before .before .before .before .before .before .put-count4 .ensures)
-    (laid-then (c .before .before .before .before .before .before .before .before .put-count5 .ensures) (c .before .before .put-count6 .ensures)))))
+    let after-put-count5 = c .before .before .before .before .before .before .before .before in
+    let after-put-count4 = after-put-count5 .before .before .before .before .before .before in
+    let after-put-count3 = after-put-count4 .before .before .before .before .before .before in
+    let after-put-count2 = after-put-count3 .before .before .before .before .before .before in
+    let after-put-count = after-put-count2 .before .before .before .before .before .before in
+    laid-then (after-put-count .put-count .ensures)
+    (laid-then (after-put-count2 .put-count2 .ensures)
+    (laid-then (after-put-count3 .put-count3 .ensures)
+    (laid-then (after-put-count4 .put-count4 .ensures)
+    (laid-then (after-put-count5 .put-count5 .ensures) (c .before .before .put-count6 .ensures)))))
 
 pub put-numbers-spec : {M : Type 1} → statement M
 put-numbers-spec =

@@ -10,7 +10,10 @@ use Rattle.console.proofs.tally.put_sound.Tie as tie
 returns : tie.Need-returns
 unfolding soundText letters
 returns c =
-    laid-then (c .before .before .before .before .before .before .before .before .before .before .before .before .before .before .before .put-number .ensures) (laid-then (c .before .before .before .before .before .before .before .before .before .before .before .put-images .ensures) (laid-then (c .before .before .before .before .before .before .before .put-number2 .ensures) (c .before .before .put .ensures)))
+    let after-put-number2 = c .before .before .before .before .before .before .before in
+    let after-put-images = after-put-number2 .before .before .before .before in
+    let after-put-number = after-put-images .before .before .before .before in
+    laid-then (after-put-number .put-number .ensures) (laid-then (after-put-images .put-images .ensures) (laid-then (after-put-number2 .put-number2 .ensures) (c .before .before .put .ensures)))
 
 pub put-sound-spec : {M : Type 1} → statement M
 put-sound-spec =

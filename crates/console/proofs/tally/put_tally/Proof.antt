@@ -10,8 +10,11 @@ use Rattle.console.proofs.tally.put_tally.Tie as tie
 returns : tie.Need-returns
 unfolding tallyText letters
 returns c =
-    laid-then (c .before .before .before .before .before .before .before .before .before .before .before .before .before .before .before .before .before .put-sound .ensures)
-    (laid-then (c .before .before .before .before .before .before .before .before .before .before .before .before .before .put-numbers .ensures) (laid-then (c .before .before .before .before .before .before .before .put-count .ensures) (c .before .before .put .ensures)))
+    let after-put-count = c .before .before .before .before .before .before .before in
+    let after-put-numbers = after-put-count .before .before .before .before .before .before in
+    let after-put-sound = after-put-numbers .before .before .before .before in
+    laid-then (after-put-sound .put-sound .ensures)
+    (laid-then (after-put-numbers .put-numbers .ensures) (laid-then (after-put-count .put-count .ensures) (c .before .before .put .ensures)))
 
 pub put-tally-spec : {M : Type 1} → statement M
 put-tally-spec =
