@@ -25,7 +25,6 @@ use input::Received;
 use input::read_file;
 use libc::STDOUT_FILENO;
 use line::put;
-use listing::Shown;
 use listing::show;
 use sector::buffer::lay;
 use sector::bytes::part;
@@ -96,7 +95,8 @@ fn put_received(received: Received, buffer: &[u8], text: &mut [u8]) -> Listed
 }
 
 // The page is put together where the image was, and written at once, so that the pages of several
-// processes on one output do not mix. The answer, here and below, is whether it could be written.
+// processes on one output do not mix; on a pipe this holds for 4,096 bytes. The answer, here and below,
+// is whether it could be written.
 fn write_page(first: bool, path: &[u8], size: usize, buffer: &mut [u8], text: &[u8]) -> bool
     requires { ⌜ length (now text) ≡ 4212 ⌝ }
 {

@@ -1,5 +1,4 @@
 -- `listings::put_page` meets its contract: five pieces laid one behind the other. Assumes nothing.
-use mathlib.Core.Path.{_≡_, ap}
 use Prim.Native.Nat.{_≤_}
 use native.Mathlib.Omega.{arith}
 use lib.ListN.{length, length-take}

@@ -1,5 +1,4 @@
 -- `listings::put_received` meets its contract: by what was received. Assumes nothing.
-use mathlib.Core.Path.{refl}
 use Rattle.line.specs.Letters.{letters}
 use Rattle.listings.specs.Page.{textOf}
 use borrow.Author.Needs.{needs}

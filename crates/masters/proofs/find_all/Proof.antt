@@ -1,6 +1,5 @@
 -- `masters::find_all` is safe and ends. The loop's invariant: every place in the table is before the next one. The measure is the number of images that are left. Assumes nothing.
 use Prim.Native.Nat.{_-_}
-use native.Mathlib.Omega.{arith}
 use Rattle.sums.specs.Table.{Table}
 use borrow.Author.Needs.{needs}
 use Rattle.masters.proofs.find_all.Statement.{statement}

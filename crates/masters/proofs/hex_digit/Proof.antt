@@ -1,6 +1,5 @@
 -- `masters::hex_digit` meets its contract: the test is the definition's. Assumes nothing.
 use mathlib.Core.Path.{refl}
-use native.Mathlib.Omega.{arith}
 use borrow.Author.Tests.{lt-ltb, le-ltb}
 use Rattle.masters.specs.Line.{hexDigit}
 use borrow.Author.Needs.{needs}

@@ -1,5 +1,4 @@
 -- `masters::put_middle` meets its contract: in each case the piece laid is its text. Assumes nothing.
-use mathlib.Core.Path.{refl}
 use native.Mathlib.Omega.{arith}
 use Rattle.line.specs.Letters.{letters}
 use Rattle.line.proofs.LaidLaws.{laid-as}

@@ -1,5 +1,5 @@
 -- `masters::put_sum` meets its contract: one piece of seventeen bytes. Assumes nothing.
-use mathlib.Core.Path.{_≡_, refl}
+use mathlib.Core.Path.{refl}
 use native.Mathlib.Omega.{arith}
 use Rattle.line.proofs.LaidLaws.{laid-as}
 use Rattle.masters.specs.Line.{sumText}

@@ -2,7 +2,6 @@
 use mathlib.Core.Path.{refl}
 use borrow.Author.Tests.{eq-eqb, ne-eqb}
 use Rattle.console.specs.Name.{inLine}
-use borrow.Author.Needs.{needs}
 use Rattle.console.proofs.name.in_line.Statement.{statement}
 use Rattle.console.proofs.name.in_line.Tie as tie
 

@@ -1,6 +1,5 @@
 -- `console::options::read_options` meets its contract and ends: the measure is the number of arguments that are left. Assumes nothing.
 use Prim.Native.Nat.{_-_}
-use native.Mathlib.Omega.{arith}
 use borrow.Author.Needs.{needs}
 use Rattle.console.proofs.options.read_options.Statement.{statement}
 use Rattle.console.proofs.options.read_options.Tie as tie

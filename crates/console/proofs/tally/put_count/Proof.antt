@@ -1,5 +1,5 @@
 -- `console::tally::put_count` meets its contract: nothing, or three pieces laid one behind the other. Assumes nothing.
-use mathlib.Core.Path.{refl, sym}
+use mathlib.Core.Path.{sym}
 use native.Mathlib.Omega.{arith}
 use borrow.Author.Tests.{eq-eqb, ne-eqb}
 use Rattle.rules.proofs.Splice.{splice-none}

@@ -1,5 +1,4 @@
 -- `console::tally::put_images` meets its contract: one image, or any other number of them. Assumes nothing.
-use mathlib.Core.Path.{sym}
 use native.Mathlib.Omega.{arith}
 use borrow.Author.Tests.{eq-eqb, ne-eqb}
 use Rattle.line.specs.Letters.{letters}

@@ -1,7 +1,7 @@
 -- `console::tally::put_numbers` meets its contract: six counts laid one behind the other. Assumes nothing.
 use native.Mathlib.Omega.{arith}
 use Rattle.line.specs.Letters.{letters}
-use Rattle.line.proofs.LaidLaws.{laid-as, laid-then}
+use Rattle.line.proofs.LaidLaws.{laid-then}
 use Rattle.console.specs.Tally.{numbersText}
 use borrow.Author.Needs.{needs}
 use Rattle.console.proofs.tally.put_numbers.Statement.{statement}

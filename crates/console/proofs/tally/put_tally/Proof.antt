@@ -1,7 +1,6 @@
 -- `console::tally::put_tally` meets its contract: four pieces laid one behind the other. Assumes nothing.
-use native.Mathlib.Omega.{arith}
 use Rattle.line.specs.Letters.{letters}
-use Rattle.line.proofs.LaidLaws.{laid-as, laid-then}
+use Rattle.line.proofs.LaidLaws.{laid-then}
 use Rattle.console.specs.Tally.{tallyText}
 use borrow.Author.Needs.{needs}
 use Rattle.console.proofs.tally.put_tally.Statement.{statement}
