@@ -229,6 +229,12 @@ try_outputs() {
         must_be "$(cat "$work/told")" 'run: standard output is closed' "closed output: $program"
     done
     step 0 "$(cat "$top/crates/bench/stdout")" '' bench
+    # One that the system ends, here for want of stack, has told nothing, and that is no 0 either.
+    if [ ${#emulator[@]} -eq 0 ]; then
+        ended=0
+        (ulimit -s 2048 && "$top/run" masters sound.dsk) >/dev/null 2>&1 || ended=$?
+        must_be "$ended" 2 "status of a program that is killed"
+    fi
 }
 
 # The commands of the README over a shelf: on all cores, by parallel, and duplicates across machines.
