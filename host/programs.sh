@@ -282,7 +282,7 @@ make_shelf() {
 
 # COUNT: the first so many of them, by masters, which must find each of the pairs and no other.
 find_pairs() {
-    (cd "$work/shelf" && find . -name '*.dsk' | sort | head -n "$1" |
+    (cd "$work/shelf" && seq -f '%06.0f.dsk' 1 "$1" |
         xargs -x -n "$1" "${one_core[@]}" "${emulator[@]}" "$top/target/bin/masters" 2>"$work/told" >"$work/written")
     must_be "$(cat "$work/told")" "$1 images: $1 sound" "the count of $1 images"
     awk '{ place = NR % 10 ? NR : NR - 5; if ($1 != 0 || $2 != place) wrong++ } END { exit wrong > 0 }' \
