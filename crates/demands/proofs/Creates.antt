@@ -69,9 +69,9 @@ status-rules =
     (record { others = refl; excludes = λ e. absurd (omega (arith, e)) })
     (record { others = refl; excludes = λ e. absurd (omega (arith, e)) })
 
-kind-rules : (c endOffset recordLength status : ℕ) → CreateStatus status → IsKind (kindOf status c endOffset recordLength) c
+kind-rules : (c endOffset recordLength status : ℕ) → CreateStatus status → IsKind (kindOf status c endOffset recordLength) c endOffset
 unfolding kindOf IsKind
-kind-rules c endOffset recordLength = by-status (λ (status : ℕ). IsKind (kindOf status c endOffset recordLength) c) tt tt tt tt
+kind-rules c endOffset recordLength = by-status (λ (status : ℕ). IsKind (kindOf status c endOffset recordLength) c endOffset) tt tt tt tt
 
 module _ (image name : List ℕ) (status recordLength recordsPerSector : ℕ) where
   abbrev k : ℕ

@@ -206,7 +206,7 @@ module _ (image name bytes : List ℕ) (k : ℕ) (ks descriptor : List ℕ) (abs
 -- with the descriptor of a new file, its blocks those of ks
 module _ (image name bytes : List ℕ) (k : ℕ) (ks : List ℕ) (status recordsPerSector endOffset recordLength : ℕ) (absent : IsAbsent image name) (few : length (files image) < 127)
     (once : (j : ℕ) → count j (k ∷ ks) ≤ 1) (free : (j : ℕ) → 1 ≤ count j (k ∷ ks) → Chosen (sectorCount image) (sectorOf image 0) j) (short : length (extendedAll [] ks) ≤ 76)
-    (many : length ks ≤ 4096) (is-status : IsStatus status) (kind : IsKind (kindOf status (length ks) endOffset recordLength) (length ks)) where
+    (many : length ks ≤ 4096) (is-status : IsStatus status) (kind : IsKind (kindOf status (length ks) endOffset recordLength) (length ks) endOffset) where
   abbrev ten : length name ≡ 10
   ten = name-is name (absent .rule) .ten
 

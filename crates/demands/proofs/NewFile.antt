@@ -107,11 +107,11 @@ module _ (name : List ℕ) (status recordsPerSector endOffset recordLength : ℕ
       unfolding places
       made-places = ap (placesFrom 0) (ap blocks made-chain ∙ blocks-back)
 
-      pub made-rules : nameRule name ≡ true → IsStatus status → IsKind (kindOf status c endOffset recordLength) c → IsDescriptor n descriptorWith
+      pub made-rules : nameRule name ≡ true → IsStatus status → IsKind (kindOf status c endOffset recordLength) c endOffset → IsDescriptor n descriptorWith
       made-rules rule is kind =
           record {
             name = rw made-name (name-is name rule);
             status = rw made-status is;
-            kind = rw (made-kind, made-sectors) kind;
+            kind = rw (made-kind, made-sectors, made-byte 6) kind;
             chain = rw (made-sectors, made-chain) (record { linked = rw blocks-back linked; rest = λ i h. chain-with-past bs i (omega (arith, h, ap length blocks-back)) });
           }

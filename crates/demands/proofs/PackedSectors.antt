@@ -71,7 +71,7 @@ pub record IsListed (file : File) : Type 0 where
   pub whole : Whole file
   pub name : IsName (part (file .header) 0 10)
   pub status : IsStatus (byteAt (file .header) 12)
-  pub kind : IsKind (kindOf (byteAt (file .header) 12) (wordAt (file .header) 14) (byteAt (file .header) 16) (byteAt (file .header) 17)) (wordAt (file .header) 14)
+  pub kind : IsKind (kindOf (byteAt (file .header) 12) (wordAt (file .header) 14) (byteAt (file .header) 16) (byteAt (file .header) 17)) (wordAt (file .header) 14) (byteAt (file .header) 16)
   pub sectors : wordAt (file .header) 14 ≡ length (file .contents)
 
 unfoldable pub Each : List File → Type 0
@@ -152,7 +152,7 @@ module _ (n s : ℕ) (file : File) (listed : IsListed file) (small : n ≤ 1600)
       record {
         name = rw (behind-name (file .header) (chainWith bs) long size) (listed .name);
         status = rw (behind-byte (file .header) (chainWith bs) long size 12 (omega arith)) (listed .status);
-        kind = rw (behind-kind (file .header) (chainWith bs) long size, behind-sectors (file .header) (chainWith bs) long size) (listed .kind);
+        kind = rw (behind-kind (file .header) (chainWith bs) long size, behind-sectors (file .header) (chainWith bs) long size, behind-byte (file .header) (chainWith bs) long size 16 (omega arith)) (listed .kind);
         chain = rw (behind-sectors (file .header) (chainWith bs) long size, behind-chain (file .header) (chainWith bs) long size, listed .sectors)
             (record {
               linked = rw chain-blocks (one-linked n s (length (file .contents)) low high);

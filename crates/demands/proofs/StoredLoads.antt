@@ -15,6 +15,7 @@ use Rattle.rules.specs.Descriptor.{sectorsOf, IsDescriptor}
 use Rattle.rules.specs.Volume.{File, files, nameIn, fileIn, catalogue}
 use Rattle.rules.specs.Sound.{Sound, fileAt}
 use Rattle.rules.proofs.Map.{count-at}
+use Rattle.rules.proofs.Length.{length-stored}
 use Rattle.rules.proofs.Volume.{contents-count, header-at}
 use Rattle.rules.proofs.Listed.{listed-name, listed-descriptor}
 use Rattle.demands.specs.Call as call
@@ -118,8 +119,7 @@ module _ (version : Version) (all : Demand2 version) (name bytes buffer image : 
     named-now = named-file after name k (changed .sound) there (sym (enters .gains .lies .named)) ∙ file-now
 
     long : lengthIs file ≡ length bytes
-    unfolding programLength
-    long = rw (pieces-length (sectorsFor (length bytes)) bytes, header-end name 0x01 0 (length bytes % 256) 0 ten (sectorsFor (length bytes))) (omega arith)
+    long = rw (pieces-length (sectorsFor (length bytes)) bytes, header-end name 0x01 0 (length bytes % 256) 0 ten (sectorsFor (length bytes))) (length-stored (length bytes))
 
     -- what the grounds speak of
     this : Has after name (λ j. Unit {0})

@@ -1,5 +1,5 @@
 -- Store, where its number is 0: a new program was entered, with a free sector for each 256 of its bytes and for the rest.
-use mathlib.Core.Path.{_≡_, refl}
+use mathlib.Core.Path.{_≡_, refl, sym, _∙_}
 use mathlib.Core.List.{List, [], _∷_, _++_}
 use Prim.Native.Nat.{ℕ, _+_, _%_, _≤_, _<_}
 use native.Mathlib.Omega.{arith}
@@ -35,23 +35,23 @@ use Rattle.demands.proofs.Entering.{new-file-done}
 program-status : IsStatus 0x01
 program-status = record { others = refl; excludes = λ e. (refl, refl) }
 
-program-kind : (c endOffset : ℕ) → 1 ≤ c → IsKind (kindOf 0x01 c endOffset 0) c
+program-kind : (c endOffset : ℕ) → (c ≡ 0 → endOffset ≡ 0) → IsKind (kindOf 0x01 c endOffset 0) c endOffset
 unfolding kindOf IsKind
-program-kind c endOffset some = some
+program-kind c endOffset rule = rule
 
 -- the new program, with c sectors ks
-program-done : (image name bytes : List ℕ) (k : ℕ) (ks : List ℕ) (c : ℕ) → length ks ≡ c → 1 ≤ c → c ≤ 4096 → IsAbsent image name → length (files image) < 127
+program-done : (image name bytes : List ℕ) (k : ℕ) (ks : List ℕ) (c : ℕ) → length ks ≡ c → (c ≡ 0 → length bytes % 256 ≡ 0) → c ≤ 4096 → IsAbsent image name → length (files image) < 127
     → ((j : ℕ) → count j (k ∷ ks) ≤ 1) → ((j : ℕ) → 1 ≤ count j (k ∷ ks) → Chosen (sectorCount image) (sectorOf image 0) j) → length (extendedAll [] ks) ≤ 76
     → ForDescriptor image k → Takes image (k ∷ []) [] [] ks (extendedAll [] ks)
     → let endOffset = length bytes % 256 in
     let descriptor = withChain (newDescriptor name 0x01 0 endOffset 0) c (extendedAll [] ks) in
     let after = written image (dataWrites bytes ks ++ entered image name k descriptor (markedAll 1 (sectorOf image 0) (k ∷ ks))) in
     Done image after name (effect (putIn (record { header = newHeader name 0x01 0 c endOffset 0; contents = pieces c bytes }) (catalogue image)) (1 + c) 0) × Enters image after name c
-program-done image name bytes k ks c many some small absent few once free short chosen takes =
+program-done image name bytes k ks c many empty small absent few once free short chosen takes =
     let endOffset = length bytes % 256 in
     let made = with-chain-made name 0x01 0 endOffset 0 (name-is name (absent .rule) .ten) c (extendedAll [] ks) in
     rw many at
-    (new-file-done image name bytes k ks 0x01 0 endOffset 0 absent few once free short (omega (arith, many, small)) program-status (program-kind (length ks) endOffset (omega (arith, many, some)))
+    (new-file-done image name bytes k ks 0x01 0 endOffset 0 absent few once free short (omega (arith, many, small)) program-status (program-kind (length ks) endOffset (λ none. empty (sym many ∙ none)))
     (withChain (newDescriptor name 0x01 0 endOffset 0) c (extendedAll [] ks)) (rw many made) chosen takes)
 
 -- what is stored, with the sectors chosen for it
@@ -77,7 +77,7 @@ module _ (image name bytes : List ℕ) where
   stored-done absent passed =
       let fence = sound-fenced image (absent .whole) in
       let free = ltb-false (freeCount sector0) (1 + c) (passed .1 .1 .0) in
-      program-done image name bytes k ks c (choices-length c (marked 1 sector0 k)) (omega arith) (omega (arith, ltb-false 32768 (length bytes) (passed .0))) absent
+      program-done image name bytes k ks c (choices-length c (marked 1 sector0 k)) (λ none. omega (arith, none)) (omega (arith, ltb-false 32768 (length bytes) (passed .0))) absent
       (leb-false 127 (length (files image)) (passed .1 .0)) (new-once (sectorCount image) sector0 c (label-long image (absent .whole)) fence free) (new-free (sectorCount image) sector0 c (label-long image (absent .whole)) fence free)
       (ltb-false 76 (length (extendedAll [] ks)) (passed .1 .1 .1 .0)) (descriptor-lowest image (absent .whole) (omega (arith, free))) (new-takes image c (absent .whole) free)
 

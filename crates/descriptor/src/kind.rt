@@ -25,10 +25,14 @@ pub fn status_rule(status: usize) -> bool
     true
 }
 
+// Past the full sectors the last is used up to the end offset; end offset 0 means that it is full too.
 fn program_length(c: usize, end_offset: usize) -> usize
     requires { ⌜ (c < 65536) × («end_offset» < 256) ⌝ }
     ensures { λ r. ⌜ r ≡ programLength c «end_offset» ⌝ }
 {
+    if end_offset == 0 {
+        return 256 * c;
+    }
     if c == 0 {
         return end_offset;
     }

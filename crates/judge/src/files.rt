@@ -47,11 +47,11 @@ fn chain_rule(n: usize, c: usize, chain: &[u8]) -> bool
     all_are(0, chain, at)
 }
 
-fn kind_rule(kind: Kind, c: usize) -> bool
-    ensures { λ r. ⌜ r ≡ kindRule kind c ⌝ }
+fn kind_rule(kind: Kind, c: usize, end_offset: usize) -> bool
+    ensures { λ r. ⌜ r ≡ kindRule kind c «end_offset» ⌝ }
 {
     match kind {
-        Kind::Program { length: _ } => c >= 1,
+        Kind::Program { length: _ } => c != 0 || end_offset == 0,
         Kind::Fixed {
             record_length: _,
             internal: _,
@@ -74,8 +74,9 @@ fn descriptor_rule(n: usize, descriptor: &[u8]) -> bool
         return false;
     }
     let c = word(descriptor, 14);
-    let kind = kind_of(status, c, byte(descriptor, 16), byte(descriptor, 17));
-    if !kind_rule(kind, c) {
+    let end_offset = byte(descriptor, 16);
+    let kind = kind_of(status, c, end_offset, byte(descriptor, 17));
+    if !kind_rule(kind, c, end_offset) {
         return false;
     }
     chain_rule(n, c, part(descriptor, 28, 228))

@@ -21,7 +21,7 @@ use Rattle.rules.proofs.Status.{status-is, is-status, kind-is, is-kind}
 pub descriptor-is : (n : ℕ) (d : List ℕ) → descriptorRule n d ≡ true → IsDescriptor n d
 unfolding descriptorRule
 descriptor-is n d e =
-    let kind = kindRule (fileKind d) (sectorsOf d) in
+    let kind = kindRule (fileKind d) (sectorsOf d) (byteAt d 16) in
     let chain = chainRule n (sectorsOf d) (chainOf d) in
     let named = both (nameRule (nameOf d)) (statusRule (statusOf d) && (kind && chain)) e in
     let marked = both (statusRule (statusOf d)) (kind && chain) (named .1) in
@@ -29,14 +29,14 @@ descriptor-is n d e =
     record {
       name = name-is (nameOf d) (named .0);
       status = status-is (statusOf d) (marked .0);
-      kind = kind-is (fileKind d) (sectorsOf d) (last .0);
+      kind = kind-is (fileKind d) (sectorsOf d) (byteAt d 16) (last .0);
       chain = chain-is n (sectorsOf d) (chainOf d) (last .1);
     }
 
 pub is-descriptor : (n : ℕ) (d : List ℕ) → IsDescriptor n d → descriptorRule n d ≡ true
 unfolding descriptorRule
 is-descriptor n d is =
-    rw (is-name (nameOf d) (is .name), is-status (statusOf d) (is .status), is-kind (fileKind d) (sectorsOf d) (is .kind), is-chain n (sectorsOf d) (chainOf d) (is .chain))
+    rw (is-name (nameOf d) (is .name), is-status (statusOf d) (is .status), is-kind (fileKind d) (sectorsOf d) (byteAt d 16) (is .kind), is-chain n (sectorsOf d) (chainOf d) (is .chain))
 
 -- the record count: a number whose low byte is byte 18 and whose high byte is byte 19; so one that is laid there low byte first is read back
 pub record-count-back : (d : List ℕ) (number : ℕ) → byteAt d 18 ≡ number % 256 → byteAt d 19 ≡ number / 256 → recordCountOf d ≡ number
@@ -72,7 +72,7 @@ module _ (d d′ : List ℕ) (long : length d′ ≡ length d) where
       record {
         name = name;
         status = status;
-        kind = rw (kind, c) (is .kind);
+        kind = rw (kind, c, same 16 (omega arith)) (is .kind);
         chain = rw (chain-same (λ i low. same i (omega arith)), c) (is .chain);
       }
 

@@ -1,4 +1,4 @@
--- The laws of the definitions, a file for each file of specs/ and in its order (Status has those of Kind), and beside it what is built on it: Replaced, of the image after a change, and
+-- The laws of the definitions, a file for each file of specs/ and in its order (Status and Length have those of Kind), and beside it what is built on it: Replaced, of the image after a change, and
 -- Altered, Longer, Listed, which lead there.
 pub mod Tests
 pub mod Bytes
@@ -10,6 +10,7 @@ pub mod Label
 pub mod Map
 pub mod Chain
 pub mod Status
+pub mod Length
 pub mod Descriptor
 pub mod Fields
 pub mod Index

@@ -22,6 +22,7 @@ use Rattle.rules.specs.declared.Kind.{Kind}
 use Rattle.rules.specs.declared.Kind.the-variants.{Program, Fixed, Variable}
 use Rattle.rules.proofs.Bytes.{part-short}
 use Rattle.rules.proofs.Sectors.{sector-below}
+use Rattle.rules.proofs.Length.{length-most}
 use Rattle.rules.proofs.Verdict.{sound, unsound-first, sound-first}
 use Rattle.rules.proofs.Extended.{sectors-few}
 use Rattle.rules.proofs.Outcome.{reported-refused, reported-given}
@@ -107,12 +108,12 @@ kind-word-long (Variable recordLength true) = refl
 kind-word-long (Variable recordLength false) = refl
 
 kind-length-below : (status c endOffset recordLength : ℕ) → c ≤ 1600 → endOffset < 256 → recordLength < 256 → kindLength (kindOf status c endOffset recordLength) < 10 ^ 6
-unfolding kindOf kindLength programLength
+unfolding kindOf kindLength
 kind-length-below status c endOffset recordLength hc he hr = test (isProgram status) (isVariable status)
   where
     test : (program variable : Bool)
         → kindLength (cond program (Program (programLength c endOffset)) (cond variable (Variable recordLength (isInternal status)) (Fixed recordLength (isInternal status)))) < 10 ^ 6
-    test true variable = omega arith
+    test true variable = omega (arith, length-most c endOffset he)
     test false true = omega arith
     test false false = omega arith
 

@@ -5,8 +5,9 @@ use mathlib.Core.List.{List}
 use Prim.Native.Nat.{ℕ, _/_, _%_}
 use native.Mathlib.Nat.{div-one}
 use native.Mathlib.Omega.{arith}
+use native.Mathlib.Decide.{ℕ-discrete}
 use lib.Dec.{eqb}
-use borrow.Author.Tests.{eq-eqb, ne-eqb, eqb-true, eqb-false, le-leb, leb-true, not-true}
+use borrow.Author.Tests.{eq-eqb, ne-eqb, eqb-true, eqb-false, not-true}
 use Rattle.rules.specs.Bytes.{bitOf}
 use Rattle.rules.specs.Kind.{isProgram, isInternal, isVariable, isProtected, allowed, statusRule, kindOf, kindRule, IsStatus, IsKind}
 use Rattle.rules.specs.Descriptor.{statusOf}
@@ -44,17 +45,21 @@ is-status status is = rw (eq-eqb status (allowed status) (is .others)) (alone (e
         rw (zero-bit status 1 (out .0), zero-bit status 7 (out .1))
     alone false e = refl
 
-pub kind-is : (kind : Kind) (c : ℕ) → kindRule kind c ≡ true → IsKind kind c
+pub kind-is : (kind : Kind) (c endOffset : ℕ) → kindRule kind c endOffset ≡ true → IsKind kind c endOffset
 unfolding kindRule IsKind
-kind-is (Program length) c e = leb-true 1 c e
-kind-is (Fixed recordLength internal) c e = tt
-kind-is (Variable recordLength internal) c e = tt
+kind-is (Program length) c endOffset e = λ none. eqb-true endOffset 0 (rw (eq-eqb c 0 none) at e)
+kind-is (Fixed recordLength internal) c endOffset e = tt
+kind-is (Variable recordLength internal) c endOffset e = tt
 
-pub is-kind : (kind : Kind) (c : ℕ) → IsKind kind c → kindRule kind c ≡ true
+pub is-kind : (kind : Kind) (c endOffset : ℕ) → IsKind kind c endOffset → kindRule kind c endOffset ≡ true
 unfolding kindRule IsKind
-is-kind (Program length) c is = le-leb 1 c is
-is-kind (Fixed recordLength internal) c is = refl
-is-kind (Variable recordLength internal) c is = refl
+is-kind (Program length) c endOffset is =
+    elim (ℕ-discrete c 0) [
+      | yes none ↦ rw (eq-eqb c 0 none) (eq-eqb endOffset 0 (is none))
+      | no some ↦ rw (ne-eqb c 0 some)
+    ]
+is-kind (Fixed recordLength internal) c endOffset is = refl
+is-kind (Variable recordLength internal) c endOffset is = refl
 
 -- the tests of a status, by the bits that the code takes out of it
 module _ (descriptor : List ℕ) (status : ℕ) (is : status ≡ statusOf descriptor) where
@@ -71,10 +76,10 @@ module _ (descriptor : List ℕ) (status : ℕ) (is : status ≡ statusOf descri
   no-program clear = rw (← is, div-one status) (ne-eqb (status % 2) 1 clear)
 
 -- a file that is no program may have any number of sectors
-pub any-kind : (status c endOffset recordLength : ℕ) → isProgram status ≡ false → IsKind (kindOf status c endOffset recordLength) c
+pub any-kind : (status c endOffset recordLength : ℕ) → isProgram status ≡ false → IsKind (kindOf status c endOffset recordLength) c endOffset
 unfolding kindOf IsKind
 any-kind status c endOffset recordLength e = rw e (go (isVariable status))
   where
-    go : (t : Bool) → IsKind (cond t (Variable recordLength (isInternal status)) (Fixed recordLength (isInternal status))) c
+    go : (t : Bool) → IsKind (cond t (Variable recordLength (isInternal status)) (Fixed recordLength (isInternal status))) c endOffset
     go true = tt
     go false = tt

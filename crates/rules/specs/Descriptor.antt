@@ -1,4 +1,4 @@
--- A descriptor: bytes 0-9 name, 12 status, 13 records per sector, 14-15 the number of sectors c, 16 end offset, 17 record length, 18-19 record count, 28-255 the chain. 10-11, 13 and 16-27 are carried and not judged.
+-- A descriptor: bytes 0-9 name, 12 status, 13 records per sector, 14-15 the number of sectors c, 16 end offset, 17 record length, 18-19 record count, 28-255 the chain. 10-11, 13 and 16-27 are carried and not judged, but for 16 where a program has no sectors.
 use mathlib.Core.Bool.{Bool, _&&_}
 use mathlib.Core.List.{List, _∷_, _++_}
 use Prim.Native.Nat.{ℕ, _+_, _*_}
@@ -34,7 +34,7 @@ unfoldable pub descriptorRule : ℕ → List ℕ → Bool
 descriptorRule n descriptor =
     nameRule (nameOf descriptor)
     && (statusRule (statusOf descriptor)
-    && (kindRule (fileKind descriptor) (sectorsOf descriptor) && chainRule n (sectorsOf descriptor) (chainOf descriptor)))
+    && (kindRule (fileKind descriptor) (sectorsOf descriptor) (byteAt descriptor 16) && chainRule n (sectorsOf descriptor) (chainOf descriptor)))
 
 -- a new descriptor, of a file without sectors: these fields are given, all other bytes are zero
 unfoldable pub newDescriptor : List ℕ → ℕ → ℕ → ℕ → ℕ → List ℕ
@@ -49,5 +49,5 @@ withChain descriptor c bs = splice (splice descriptor 14 (wordBytes c)) 28 (bloc
 pub record IsDescriptor (n : ℕ) (descriptor : List ℕ) : Type 0 where
   pub name : IsName (nameOf descriptor)
   pub status : IsStatus (statusOf descriptor)
-  pub kind : IsKind (fileKind descriptor) (sectorsOf descriptor)
+  pub kind : IsKind (fileKind descriptor) (sectorsOf descriptor) (byteAt descriptor 16)
   pub chain : IsChain n (sectorsOf descriptor) (chainOf descriptor)

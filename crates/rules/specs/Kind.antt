@@ -1,8 +1,8 @@
 -- Status and kind. Status: 01 hex program, 02 internal, 08 protected, 80 variable; other bits zero; 01 excludes 02 and 80.
 use mathlib.Core.Path.{_≡_}
 use mathlib.Core.Bool.{Bool, true, cond, not, _&&_}
-use Prim.Native.Nat.{ℕ, _+_, _-_, _*_, _/_, _≤_}
-use lib.Dec.{eqb, leb}
+use Prim.Native.Nat.{ℕ, _+_, _-_, _*_, _/_}
+use lib.Dec.{eqb}
 use Rattle.rules.specs.Bytes.{bitOf}
 use Rattle.rules.specs.declared.Kind.{Kind}
 use Rattle.rules.specs.declared.Kind.the-variants.{Program, Fixed, Variable}
@@ -26,13 +26,13 @@ allowed status = bitOf status 0 + 2 * bitOf status 1 + 8 * bitOf status 3 + 128 
 unfoldable pub statusRule : ℕ → Bool
 statusRule status = eqb status (allowed status) && cond (isProgram status) (not (isInternal status) && not (isVariable status)) true
 
--- a program's length in bytes: c sectors, the last used up to the end offset
+-- a program's length in bytes, of its c sectors: end offset 0 means a full last sector
 unfoldable pub programLength : ℕ → ℕ → ℕ
-programLength c endOffset = 256 * (c - 1) + endOffset
+programLength c endOffset = cond (eqb endOffset 0) (256 * c) (256 * (c - 1) + endOffset)
 
--- how many sectors a program of so many bytes takes
+-- how many sectors a program of so many bytes takes: bytes/256 rounded up
 abbrev pub sectorsFor : ℕ → ℕ
-sectorsFor bytes = bytes / 256 + 1
+sectorsFor bytes = (bytes + 255) / 256
 
 -- the kind of a file of that status, with its c, end offset and record length
 unfoldable pub kindOf : ℕ → ℕ → ℕ → ℕ → Kind
@@ -40,18 +40,18 @@ kindOf status c endOffset recordLength =
     cond (isProgram status) (Program (programLength c endOffset))
     (cond (isVariable status) (Variable recordLength (isInternal status)) (Fixed recordLength (isInternal status)))
 
--- a program has c of at least 1
-unfoldable pub kindRule : Kind → ℕ → Bool
-kindRule (Program length) c = leb 1 c
-kindRule (Fixed recordLength internal) c = true
-kindRule (Variable recordLength internal) c = true
+-- a program with c = 0 has end offset 0
+unfoldable pub kindRule : Kind → (c endOffset : ℕ) → Bool
+kindRule (Program length) c endOffset = cond (eqb c 0) (eqb endOffset 0) true
+kindRule (Fixed recordLength internal) c endOffset = true
+kindRule (Variable recordLength internal) c endOffset = true
 
 -- The same as facts.
 pub record IsStatus (status : ℕ) : Type 0 where
   pub others : status ≡ allowed status
   pub excludes : bitOf status 0 ≡ 1 → (bitOf status 1 ≡ 0) × (bitOf status 7 ≡ 0)
 
-unfoldable pub IsKind : Kind → ℕ → Type 0
-IsKind (Program length) c = 1 ≤ c
-IsKind (Fixed recordLength internal) c = Unit {0}
-IsKind (Variable recordLength internal) c = Unit {0}
+unfoldable pub IsKind : Kind → (c endOffset : ℕ) → Type 0
+IsKind (Program length) c endOffset = c ≡ 0 → endOffset ≡ 0
+IsKind (Fixed recordLength internal) c endOffset = Unit {0}
+IsKind (Variable recordLength internal) c endOffset = Unit {0}

@@ -73,7 +73,7 @@ module _ {many : ℕ} {sector0₀ sector0 chain : List ℕ} {search : Search} {t
           taken = λ z. absurd-test (sym z);
         }
 
-    pub room-for : many ≤ 129 → {longer : Tip} → longer ≡ tipWith tip k → longer .used ≤ 76 → Extendable chain tip k
+    pub room-for : many ≤ 128 → {longer : Tip} → longer ≡ tipWith tip k → longer .used ≤ 76 → Extendable chain tip k
     room-for few e fits =
         let range = data-choice-range sector0 in
         record {

@@ -36,7 +36,7 @@ use sector::bytes::word;
 
 // Takes `many` sectors for data in the map and puts them into the chain, one after another; false where a 77th block would be needed.
 fn spread(sector0: &mut [u8], chain: &mut [u8], many: usize) -> bool
-    requires { ⌜ (length (now sector0) ≡ 256) × (now chain ≡ replicate 228 0) × (many ≤ 129) ⌝ }
+    requires { ⌜ (length (now sector0) ≡ 256) × (now chain ≡ replicate 228 0) × (many ≤ 128) ⌝ }
     ensures { λ r. ⌜ Spread many (now (sector0 .entry)) r (now (sector0 .exit)) (now (chain .exit)) ⌝ }
 {
     let mut search = Search::first();
@@ -64,7 +64,7 @@ fn spread(sector0: &mut [u8], chain: &mut [u8], many: usize) -> bool
 
 // The bytes go to the sectors of the chain, in file order; what the last of them does not fill is zeros.
 fn write_data(image: &mut [u8], chain: &[u8], bytes: &[u8])
-    requires { ⌜ length (places (now chain)) ≤ 129 ⌝ }
+    requires { ⌜ length (places (now chain)) ≤ 128 ⌝ }
     ensures { λ _. ⌜ now (image .exit) ≡ written (now (image .entry)) (dataWrites (now (bytes .entry)) (places (now (chain .entry)))) ⌝ }
 {
     let mut cursor = Cursor::first();
@@ -109,7 +109,7 @@ fn store_new(image: &mut [u8], name: &[u8], bytes: &[u8]) -> Answer
     if word(sector_of(image, 1), 252) != 0 {
         return Answer::Refused(11);
     }
-    let many = bytes.len() / 256 + 1;
+    let many = (bytes.len() + 255) / 256;
     if free_count_of(sector_of(image, 0)) < 1 + many {
         return Answer::Refused(12);
     }

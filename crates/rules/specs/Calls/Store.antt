@@ -1,4 +1,4 @@
--- Storing takes a name and the program's bytes, and writes status 01, c, byte 16 and the chain; the descriptor's other bytes are zero. L bytes take L/256 rounded down, + 1, sectors; the rest of the last sector is zero.
+-- Storing takes a name and the program's bytes, and writes status 01, c, byte 16 and the chain; the descriptor's other bytes are zero. L bytes take L/256 sectors rounded up, and byte 16 is L mod 256; the rest of the last sector is zero.
 use mathlib.Core.List.{List, [], _∷_, _++_}
 use Prim.Native.Nat.{ℕ, _+_, _%_}
 use lib.Dec.{leb, ltb}

@@ -131,7 +131,7 @@ returns-4 c =
 all-spread : (c : tie.Else4) → SpreadAt (at-spread c) true
 all-spread c = spread-was (at-spread c) true (not-false _ (c .if4 .left))
 
-few-places : (c : tie.Else4) → length (places (at-spread c .spread .last .1 .0)) ≤ 129
+few-places : (c : tie.Else4) → length (places (at-spread c .spread .last .1 .0)) ≤ 128
 few-places c =
     let choosing = at-choice (at-spread c) in
     let a = at-start choosing .args in

@@ -4,6 +4,7 @@ use mathlib.Core.Bool.{true}
 use mathlib.Core.List.{List}
 use Prim.Native.Nat.{ℕ}
 use borrow.Author.Tests.{not-true, not-false}
+use Rattle.rules.specs.Bytes.{byteAt}
 use Rattle.rules.specs.Name.{nameRule}
 use Rattle.rules.specs.Kind.{statusRule, kindRule}
 use Rattle.rules.specs.Descriptor.{nameOf, statusOf, sectorsOf, chainOf, fileKind, descriptorRule}
@@ -44,7 +45,7 @@ status-is c = rw (← c .before .byte .ensures .0) (sym (c .status-rule .ensures
 good-status : (c : tie.Else2) → statusRule (statusOf (d₂ (c .before))) ≡ true
 good-status c = status-is (c .before) ∙ not-false (c .before .status-rule .result) (c .if2 .left)
 
-kind-is : (c : tie.After-kind-rule) → kindRule (fileKind (d₃ c)) (sectorsOf (d₃ c)) ≡ c .kind-rule .result
+kind-is : (c : tie.After-kind-rule) → kindRule (fileKind (d₃ c)) (sectorsOf (d₃ c)) (byteAt (d₃ c) 16) ≡ c .kind-rule .result
 unfolding fileKind
 kind-is c =
     let k = c .before in
