@@ -33,5 +33,6 @@ mod PackedOne
 pub mod Demand3
 pub mod Complete
 pub mod StoredLoads
+pub mod Lengths
 pub mod Wrong
 pub mod WrongPacking

@@ -98,7 +98,7 @@ module _ (version : Version) (all : Demand2 version) (name bytes buffer image : 
     unfolding nameIn
     is-name = rw (enters .gains .lies .named) at (rules .name)
 
-    abbrev ten : length name ≡ 10
+    pub ten : length name ≡ 10
     ten = is-name .ten
 
     -- the file of that name is the program
@@ -115,7 +115,7 @@ module _ (version : Version) (all : Demand2 version) (name bytes buffer image : 
         in
         rw same at found
 
-    named-now : named name (catalogue after) ≡ file
+    pub named-now : named name (catalogue after) ≡ file
     named-now = named-file after name k (changed .sound) there (sym (enters .gains .lies .named)) ∙ file-now
 
     long : lengthIs file ≡ length bytes

@@ -13,6 +13,7 @@ pub mod Formatting
 pub mod Does
 pub mod Packing
 pub mod Demand2
+pub mod Lengths
 pub mod Wrong
 pub mod Unique
 pub mod Demand3

@@ -83,3 +83,8 @@ any-kind status c endOffset recordLength e = rw e (go (isVariable status))
     go : (t : Bool) → IsKind (cond t (Variable recordLength (isInternal status)) (Fixed recordLength (isInternal status))) c endOffset
     go true = tt
     go false = tt
+
+-- and one that is a program has end offset 0 where it has no sector
+pub program-kind : (status c endOffset recordLength : ℕ) → bitOf status 0 ≡ 1 → IsKind (kindOf status c endOffset recordLength) c endOffset → c ≡ 0 → endOffset ≡ 0
+unfolding kindOf IsKind
+program-kind status c endOffset recordLength set is = rw (eq-eqb (bitOf status 0) 1 set) at is
