@@ -1,6 +1,7 @@
 // The bench cases of document 01 that are run and compared: a line for each, with the case's number in
 // the document, what is done, and what came of it: the number that the library gives, a sector, or yes or
-// no. `stdout` has the lines that the document wants, and case M's catalogue.
+// no. `stdout` has the lines that the document wants, and case M's catalogue; then a case for a request of
+// document 02, named by it.
 //
 // A case is a function that makes its volume in an array of its own, so no case leans on another. Its
 // answer is whether its lines could be written.
@@ -209,6 +210,24 @@ fn case_m() -> bool {
         && write_listing(&image)
 }
 
+// Programs that end on a full sector, and one of no bytes: their sectors and lengths in the listing, and again of the packed volume.
+fn ask_2() -> bool {
+    let mut image = [0u8; 51200];
+    let formatted = format(&mut image, 200, b"BENCH     ", one_side(10, 20));
+    let bytes = [0x45u8; 32768];
+    let full = store(&mut image, b"FULL      ", &bytes[0..512]);
+    let none = store(&mut image, b"NONE      ", &bytes[0..0]);
+    let long = store(&mut image, b"LONG      ", &bytes);
+    let mut target = [0u8; 51200];
+    let packed = pack(&image, &mut target);
+    write_number(b"Ask 2 200 sectors, formatted", number_of(formatted))
+        && write_number(b"Ask 2 512 bytes stored", number_of(full))
+        && write_number(b"Ask 2 no bytes stored", number_of(none))
+        && write_number(b"Ask 2 32768 bytes stored", number_after(long, &image))
+        && write_number(b"Ask 2 packed", number_after(packed, &target))
+        && write_listing(&target)
+}
+
 fn write_cases() -> bool {
     case_10_two_sectors()
         && case_10_three_sectors()
@@ -217,6 +236,7 @@ fn write_cases() -> bool {
         && case_13()
         && case_14()
         && case_m()
+        && ask_2()
 }
 
 // Whether the cases are to be run: no argument is one.
