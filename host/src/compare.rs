@@ -1,12 +1,13 @@
 //! Compares the library with what this folder has beside it: its judge on many thousand images,
-//! then its other calls, then sequences of calls that write, then packing. All of it is done for a
-//! seed, and then for as many more as are asked for.
+//! then its other calls, then sequences of calls that write, then programs length by length, then
+//! packing. All of it is done for a seed, and then for as many more as are asked for.
 //!
 //! `compare [--images N] [--calls N] [--sequences N] [--packs N] [--seed S] [--seeds N] [IMAGE...]`
 
 use host::calls::Calls;
 use host::comparison::{Comparison, Part};
 use host::images::Images;
+use host::lengths;
 use host::outside::Outside;
 use host::packing::Packs;
 use host::sequences::Sequences;
@@ -76,6 +77,7 @@ fn run(arguments: &Arguments) -> Result<(), String> {
         images += compared::<Images>(seed, arguments.images, &outside)?;
         calls += compared::<Calls>(seed, arguments.calls, &outside)?;
         calls += compared::<Sequences>(seed, arguments.sequences, &outside)?;
+        calls += lengths::compared(seed)?;
         packs += compared::<Packs>(seed, arguments.packs, &outside)?;
     }
     let seeds = match arguments.seeds {

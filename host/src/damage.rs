@@ -66,6 +66,7 @@ impl<'disk> Damage<'disk> {
         if let Some(file) = self.some_file(random) {
             self.file_name(file, random);
             self.status(file, random);
+            self.end_offset(file, random);
             self.count(file);
             self.block_bytes(file, random);
             self.chain_end(file, random);
@@ -91,6 +92,14 @@ impl<'disk> Damage<'disk> {
 
     fn put(&mut self, what: &'static str, number: u32, at: usize, bytes: &[u8]) {
         self.keep(what, Some(number), vec![edit(at, bytes)]);
+    }
+
+    /// The same in a file's header, without its name and its count: then the kind decides.
+    fn put_in_header(&mut self, what: &'static str, file: &File, byte: usize, bytes: &[u8]) {
+        let mut changed = file.clone();
+        changed.header[byte..][..bytes.len()].copy_from_slice(bytes);
+        let number = if changed.is_of_a_kind() { 0 } else { 4 };
+        self.put(what, number, in_descriptor(file, byte), bytes);
     }
 
     fn some_file(&self, random: &mut Random) -> Option<&'disk File> {

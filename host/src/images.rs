@@ -29,11 +29,15 @@ const OF_DISKS: [(&str, fn(&Disk) -> bool); 3] = [
 ];
 
 /// The same of each file on them.
-const OF_FILES: [(&str, fn(&File) -> bool); 6] = [
+const OF_FILES: [(&str, fn(&File) -> bool); 8] = [
     ("files on them", |_| true),
     ("  of 76 blocks", |file| file.runs.len() == MOST_BLOCKS),
     ("  without a sector", |file| file.runs.is_empty()),
-    ("  programs", |file| file.status() & 0x01 != 0),
+    ("  programs", File::is_program),
+    ("  programs without a sector", |file| file.is_program() && file.runs.is_empty()),
+    ("  programs that end on a full sector", |file| {
+        file.is_program() && !file.runs.is_empty() && file.header[16] == 0
+    }),
     ("  with blocks that could be one", |file| {
         file.runs.windows(2).any(|pair| pair[0].sectors().end == pair[1].start)
     }),
@@ -176,12 +180,12 @@ fn reads_back(disk: &Disk) -> Option<()> {
 }
 
 fn kind(file: &File) -> Kind {
-    let (end_offset, record_length) = (usize::from(file.header[16]), file.header[17]);
+    let record_length = file.header[17];
     match file.status() & !0x08 {
         0x00 => Kind::Fixed { record_length, form: Form::Display },
         0x02 => Kind::Fixed { record_length, form: Form::Internal },
         0x80 => Kind::Variable { record_length, form: Form::Display },
         0x82 => Kind::Variable { record_length, form: Form::Internal },
-        _ => Kind::Program { length: 256 * (file.count() - 1) + end_offset },
+        _ => Kind::Program { length: file.program_length() },
     }
 }

@@ -29,8 +29,8 @@ pub const FILES_MOST: usize = 127;
 pub const LISTING_MOST: usize = 4212;
 /// The most bytes that a store takes.
 pub const PROGRAM_MOST: usize = 32_768;
-/// The most bytes that a load gives: 1,597 sectors, end offset 255.
-pub const LOADED_MOST: usize = 408_831;
+/// The most bytes that a load gives: 1,597 full sectors.
+pub const LOADED_MOST: usize = 408_832;
 
 /// Why a call is refused, in the order of the tests; each case stands for its number.
 #[derive(Clone, Copy, Debug, PartialEq, Eq)]

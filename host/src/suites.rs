@@ -5,7 +5,7 @@ use crate::damage::{Change, Damage};
 use crate::outside::Outside;
 use crate::random::Random;
 use crate::volumes::{is_name, names, Disk, File, Order, Run, Shape, SECTOR_BYTES};
-use crate::volumes::{DATA_STATUS, MOST_BLOCKS, MOST_FILES, MOST_SECTORS, PROGRAM_STATUS};
+use crate::volumes::{MOST_BLOCKS, MOST_FILES, MOST_SECTORS};
 
 /// A disk, the paper's number for it, and changes of it.
 pub struct Batch {
@@ -114,6 +114,9 @@ impl Batch {
             if random.once_in(8) {
                 file.set_count(random.below(8));
             }
+            if random.once_in(8) {
+                file.header[16] = random.byte();
+            }
             file
         });
         Batch::of_plan(sectors, files.collect(), random)
@@ -148,10 +151,9 @@ fn number_of_plan(disk: &Disk) -> u32 {
     let sound = |file: &File| {
         let placed =
             |run: &Run| run.start >= 2 && run.length >= 1 && run.sectors().end <= disk.sectors;
-        let program = PROGRAM_STATUS.contains(&file.status()) && file.count() >= 1;
         file.runs.iter().all(placed)
             && file.count() == file.sectors().count()
-            && (program || DATA_STATUS.contains(&file.status()))
+            && file.is_of_a_kind()
     };
     if !disk.files.iter().all(sound) {
         return 4;
@@ -173,10 +175,11 @@ pub fn of_every_value(random: &mut Random) -> Vec<Batch> {
 }
 
 /// One file in the middle of a small disk, with so many sectors in one block or none.
-fn one_file(count: usize, random: &mut Random) -> Disk {
+fn one_file(status: u8, count: usize, random: &mut Random) -> Disk {
     let run = Run { start: 20, length: count };
     let runs = if count == 0 { vec![] } else { vec![run] };
-    let file = File::new(names(1, random)[0], 10, runs, random);
+    let mut file = File::new(names(1, random)[0], 10, runs, random);
+    file.set_status(status);
     Disk::of_files(35, vec![file], random)
 }
 
@@ -211,13 +214,19 @@ fn every_label_byte(random: &mut Random) -> Batch {
     })
 }
 
-/// A descriptor's header, and every bit of chains of no, one and 76 blocks.
+/// A descriptor's header, and every bit of chains of no, one and 76 blocks; a program and another
+/// file have none.
 fn every_descriptor_byte(random: &mut Random) -> Vec<Batch> {
     let blocks = MOST_BLOCKS..=MOST_BLOCKS;
     let order = Order::Ascending;
     let (files, scattered, runs, even) = (1, false, MOST_BLOCKS, false);
     let filled = Shape { sectors: 200, files, scattered, runs, even, order, blocks };
-    let disks = [one_file(0, random), one_file(3, random), filled.build(random)];
+    let disks = [
+        one_file(0x00, 0, random),
+        one_file(0x01, 0, random),
+        one_file(0x01, 3, random),
+        filled.build(random),
+    ];
     let batch = |disk: Disk| {
         let file = disk.files[0].clone();
         Batch::of_sound(disk, |damage| {
@@ -232,7 +241,7 @@ fn every_descriptor_byte(random: &mut Random) -> Vec<Batch> {
 fn every_index_bit(random: &mut Random) -> Vec<Batch> {
     let full = Shape::full(MOST_FILES + 50, MOST_FILES, 1, Order::Ascending).build(random);
     let batch = |disk| Batch::of_sound(disk, |damage| damage.every_index_bit());
-    [one_file(1, random), full].into_iter().map(batch).collect()
+    [one_file(0x00, 1, random), full].into_iter().map(batch).collect()
 }
 
 /// Single blocks at the edges of the disk, of the fields and of what they may cover: for each the

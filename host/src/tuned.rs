@@ -71,7 +71,7 @@ fn claim_files(image: &[u8], listed: &[u8], marks: &mut Marks) -> Option<()> {
         let descriptor = &image[number * SECTOR_BYTES..][..SECTOR_BYTES];
         let name = name(descriptor);
         let count = be_word(&descriptor[14..16]);
-        if name <= previous || !is_name(name) || !is_status(descriptor[12], count) {
+        if name <= previous || !is_name(name) || !is_kind(descriptor, count) {
             return None;
         }
         previous = name;
@@ -127,11 +127,12 @@ impl Marks {
     }
 }
 
-/// Any kind may be protected, so that bit is left aside.
-fn is_status(status: u8, count: usize) -> bool {
-    match status & !0x08 {
+/// Any kind may be protected, so that bit is left aside. A program without sectors has no end
+/// offset.
+fn is_kind(descriptor: &[u8], count: usize) -> bool {
+    match descriptor[12] & !0x08 {
         0x00 | 0x02 | 0x80 | 0x82 => true,
-        0x01 => count > 0,
+        0x01 => count > 0 || descriptor[16] == 0,
         _ => false,
     }
 }

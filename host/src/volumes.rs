@@ -53,10 +53,10 @@ impl File {
             header[17] = EDGES[usize::from(header[25]) % EDGES.len()];
         }
         header[..10].copy_from_slice(&name);
-        let program = !runs.is_empty() && random.once_in(3);
-        header[12] = random.pick(if program { &PROGRAM_STATUS } else { &DATA_STATUS });
         let mut file = File { descriptor, header, runs };
         file.set_count(file.sectors().count());
+        let is_program = random.once_in(3);
+        file.set_status(random.pick(if is_program { &PROGRAM_STATUS } else { &DATA_STATUS }));
         file
     }
 
@@ -66,6 +66,32 @@ impl File {
 
     pub fn status(&self) -> u8 {
         self.header[12]
+    }
+
+    /// A program that has no sector gets the end offset that it must have.
+    pub fn set_status(&mut self, status: u8) {
+        self.header[12] = status;
+        if !self.is_of_a_kind() {
+            self.header[16] = 0;
+        }
+    }
+
+    pub fn is_program(&self) -> bool {
+        self.status() & 0x01 != 0
+    }
+
+    /// Whether the rules of status and kind allow the header: a program without sectors has end
+    /// offset 0.
+    pub fn is_of_a_kind(&self) -> bool {
+        DATA_STATUS.contains(&self.status())
+            || PROGRAM_STATUS.contains(&self.status()) && (self.count() > 0 || self.header[16] == 0)
+    }
+
+    /// The bytes of a program: those of its sectors less what is left over of the last one. Of one
+    /// that is of no kind any number will do.
+    pub fn program_length(&self) -> usize {
+        let left_over = (SECTOR_BYTES - usize::from(self.header[16])) % SECTOR_BYTES;
+        (SECTOR_BYTES * self.count()).saturating_sub(left_over)
     }
 
     pub fn count(&self) -> usize {

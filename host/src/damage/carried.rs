@@ -1,4 +1,5 @@
-//! Number 0: bytes that are carried and not judged, and protection, which any file may have.
+//! Number 0: bytes that are carried and not judged, and protection, which any file may have. Of a
+//! program without sectors the end offset is judged all the same.
 
 use super::{in_descriptor, Damage};
 use crate::random::Random;
@@ -22,8 +23,7 @@ impl Damage<'_> {
 
     fn carried_of_file(&mut self, file: &File, random: &mut Random) {
         for (byte, bytes) in [(10, 2), (13, 1), (16, 1), (17, 1), (18, 2), (20, 8), (16, 12)] {
-            let at = in_descriptor(file, byte);
-            self.put("descriptor's carried bytes", 0, at, &random.bytes(bytes));
+            self.put_in_header("descriptor's carried bytes", file, byte, &random.bytes(bytes));
         }
         let protection = [file.status() ^ 0x08];
         self.put("protection", 0, in_descriptor(file, 12), &protection);

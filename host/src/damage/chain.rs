@@ -2,7 +2,7 @@
 
 use super::{edit, in_chain, in_descriptor, Damage};
 use crate::random::Random;
-use crate::volumes::{block, word, File, MOST_BLOCKS, PROGRAM_STATUS, SECTOR_BYTES};
+use crate::volumes::{block, word, File, MOST_BLOCKS, SECTOR_BYTES};
 
 impl Damage<'_> {
     pub(super) fn block_bytes(&mut self, file: &File, random: &mut Random) {
@@ -57,9 +57,20 @@ impl Damage<'_> {
         }
         let chain = random.bytes(3 * MOST_BLOCKS);
         self.keep("random chain", None, vec![edit(in_chain(file, 0), &chain)]);
-        let mut none = vec![edit(in_chain(file, 0), &[0; 3 * MOST_BLOCKS])];
-        none.push(edit(in_descriptor(file, 14), &[0, 0]));
-        let number = if PROGRAM_STATUS.contains(&file.status()) { 4 } else { 6 };
-        self.keep("file without its sectors", Some(number), none);
+        if !file.runs.is_empty() {
+            self.no_sectors(file);
+        }
+    }
+
+    /// The map still has the sectors; but a program that has none ends nowhere.
+    fn no_sectors(&mut self, file: &File) {
+        for end_offset in [file.header[16], 0, 1] {
+            let mut none = file.clone();
+            none.runs.clear();
+            none.set_count(0);
+            none.header[16] = end_offset;
+            let number = if none.is_of_a_kind() { 6 } else { 4 };
+            self.put("file without its sectors", number, in_descriptor(file, 0), &none.described());
+        }
     }
 }

@@ -1,8 +1,9 @@
-//! Number 4 but for the chain: names and their order, status, the number of sectors.
+//! Number 4 but for the chain: names and their order, status, the end offset of a program without
+//! sectors, the number of sectors.
 
 use super::{changed_names, edit, in_descriptor, Damage, INDEX};
 use crate::random::Random;
-use crate::volumes::{is_name, word, File, Name, DATA_STATUS, PROGRAM_STATUS};
+use crate::volumes::{is_name, word, File, Name, DATA_STATUS};
 
 impl Damage<'_> {
     pub(super) fn file_name(&mut self, file: &File, random: &mut Random) {
@@ -21,14 +22,14 @@ impl Damage<'_> {
     pub(super) fn status(&mut self, file: &File, random: &mut Random) {
         let wrong = [0x03, 0x04, 0x0B, 0x10, 0x20, 0x40, 0x81, 0x83, 0x89, 0x8B, 0xFF];
         for status in wrong.into_iter().chain([random.byte()]).chain(DATA_STATUS).chain([1, 9]) {
-            self.status_of(file, status);
+            self.put_in_header("status", file, 12, &[status]);
         }
     }
 
-    pub fn status_of(&mut self, file: &File, status: u8) {
-        let program = PROGRAM_STATUS.contains(&status) && file.count() > 0;
-        let number = if program || DATA_STATUS.contains(&status) { 0 } else { 4 };
-        self.put("status", number, in_descriptor(file, 12), &[status]);
+    pub(super) fn end_offset(&mut self, file: &File, random: &mut Random) {
+        for end_offset in [0, 1, 128, 255, random.byte()] {
+            self.put_in_header("end offset", file, 16, &[end_offset]);
+        }
     }
 
     pub(super) fn count(&mut self, file: &File) {

@@ -3,27 +3,30 @@
 use super::{edit, in_chain, in_descriptor, Damage, INDEX};
 use crate::volumes::{is_name, File, HEADER_BYTES, MOST_BLOCKS, SECTOR_BYTES};
 
+const VALUE: &str = "value of a byte";
+
 impl Damage<'_> {
     /// All values of one byte, `number` saying what the paper gives for the changed image.
     pub fn every_value(&mut self, at: usize, number: impl Fn(&[u8]) -> Option<u32>) {
         let mut image = self.disk.image.clone();
         for value in 0..=255 {
             image[at] = value;
-            self.keep("value of a byte", number(&image), vec![edit(at, &[value])]);
+            self.keep(VALUE, number(&image), vec![edit(at, &[value])]);
         }
     }
 
     pub fn every_header_byte(&mut self, file: &File) {
-        (0..=255).for_each(|status| self.status_of(file, status));
         let start = in_descriptor(file, 0);
-        for byte in (0..HEADER_BYTES).filter(|byte| *byte != 12) {
+        for byte in (0..10).chain([14, 15]) {
             self.every_value(start + byte, |image| match byte {
                 0..=9 if is_name(&image[start..start + 10].try_into().expect("ten bytes")) => {
                     Some(0)
                 }
-                0..=9 | 14 | 15 => Some(4),
-                _ => Some(0),
+                _ => Some(4),
             });
+        }
+        for byte in (10..14).chain(16..HEADER_BYTES) {
+            (0..=255).for_each(|value| self.put_in_header(VALUE, file, byte, &[value]));
         }
     }
 

@@ -44,7 +44,7 @@ fn case_14(random: &mut Random) -> Result<bool, String> {
     let mut shown = true;
     for sectors in [4, 35, 36, 64, 360, 1600] {
         let empty = formatted(sectors).map_err(told)?;
-        let length = (SECTOR_BYTES * (sectors - 3) - 1).min(32_768);
+        let length = (SECTOR_BYTES * (sectors - 3)).min(32_768);
         let image = with_remains(&empty, &random.bytes(length)).map_err(told)?;
         let packed = packed(&image, random)?;
         shown &= image != empty && packed == empty;

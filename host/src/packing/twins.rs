@@ -165,17 +165,12 @@ fn change_header(
         let name = file.name();
         let is_free = disk.files.iter().all(|other| other.name() != name);
         let is_new = value != disk.files[place].header[at];
-        if is_new && is_name(&name) && (at > 9 || is_free) && has_status(&file) {
+        if is_new && is_name(&name) && (at > 9 || is_free) && file.is_of_a_kind() {
             disk.files[place] = file;
             return Some(());
         }
     }
     None
-}
-
-fn has_status(file: &File) -> bool {
-    let is_program = PROGRAM_STATUS.contains(&file.status()) && file.count() > 0;
-    is_program || DATA_STATUS.contains(&file.status())
 }
 
 fn any_carried(random: &mut Random) -> (usize, u8) {

@@ -128,18 +128,26 @@ impl<'image> Descriptor<'image> {
         word(self.0[14], self.0[15])
     }
 
-    /// The file's kind; none where it is a program without a sector, which has no length.
+    /// The file's kind; none where it is a program that breaks the rule of its length.
     pub fn kind(self) -> Option<Kind> {
         let record_length = self.0[17];
         let form = if self.has(Self::INTERNAL) { Form::Internal } else { Form::Display };
         if self.has(Self::PROGRAM) {
-            let whole_sectors = self.sectors().checked_sub(1)?;
-            let length = SECTOR_BYTES * whole_sectors + usize::from(self.0[16]);
-            Some(Kind::Program { length })
+            Some(Kind::Program { length: self.program_length()? })
         } else if self.has(Self::VARIABLE) {
             Some(Kind::Variable { record_length, form })
         } else {
             Some(Kind::Fixed { record_length, form })
+        }
+    }
+
+    /// The bytes of a program. End offset 0 means that the last sector is full; with no sector at
+    /// all nothing else is allowed.
+    fn program_length(self) -> Option<usize> {
+        match (self.sectors(), usize::from(self.0[16])) {
+            (sectors, 0) => Some(SECTOR_BYTES * sectors),
+            (0, _) => None,
+            (sectors, end_offset) => Some(SECTOR_BYTES * (sectors - 1) + end_offset),
         }
     }
 

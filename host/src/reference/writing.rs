@@ -38,7 +38,7 @@ pub fn store(image: &mut [u8], name: &[u8], bytes: &[u8]) -> Result<(), Refusal>
     let name = new_name(volume, name)?;
     holds(bytes.len() <= MOST_PROGRAM_BYTES, Refusal::Argument)?;
     has_a_place(volume)?;
-    let sectors = bytes.len() / SECTOR_BYTES + 1;
+    let sectors = bytes.chunks(SECTOR_BYTES).len();
     let mut free = Free::of(volume);
     holds(free.count() > sectors, Refusal::DiskFull)?;
     let number = free.take_for_descriptor().ok_or(Refusal::DiskFull)?;

@@ -45,7 +45,7 @@ pub(crate) struct Extent {
 pub(crate) enum Before {
     /// A data file that is not protected.
     Data,
-    /// A program of whole sectors and an empty last one, as the longest is.
+    /// A program of whole sectors, as the longest is.
     Program,
     Absent,
     /// A data file without the sector that the call is to add.
@@ -86,9 +86,9 @@ impl Full {
         Given::whole(&Random::new(2).bytes(SECTOR_BYTES))
     }
 
-    /// A program that takes as many sectors as the volume has for it.
+    /// A program that fills the sectors which the volume has for it.
     pub(crate) fn program(&self) -> Given {
-        Given::whole(&Random::new(2).bytes(SECTOR_BYTES * self.room.saturating_sub(1)))
+        Given::whole(&Random::new(2).bytes(SECTOR_BYTES * self.room))
     }
 
     /// A buffer that everything fits into.

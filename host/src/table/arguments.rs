@@ -1,7 +1,7 @@
 //! Arguments of any call, and how those that several calls have are made by chance: good ones, ones
 //! at the edges, and ones that are wrong in every way that the paper knows.
 
-use super::plan::{is_program, is_protected};
+use super::plan::is_protected;
 use crate::damage::changed_names;
 use crate::random::Random;
 use crate::volumes::{names, Disk, File, Name, SECTOR_BYTES};
@@ -122,7 +122,7 @@ pub(super) fn some_file<'disk>(
 
 /// Whether a sector of the file can be written.
 pub(super) fn is_open_data(file: &File) -> bool {
-    file.count() > 0 && !is_protected(file) && !is_program(file)
+    file.count() > 0 && !is_protected(file) && !file.is_program()
 }
 
 /// The name of a file, or any at all, mostly as it is.

@@ -36,7 +36,7 @@ pub(crate) static DELETE: Call = Call {
     },
 };
 
-const LARGE: Volume = volume("129 sectors in 74 blocks; 126 files of 9", (126, 9), (129, 74));
+const LARGE: Volume = volume("128 sectors in 74 blocks; 126 files of 9", (126, 9), (128, 74));
 
 pub(crate) static RENAME: Call = Call {
     title: "rename",

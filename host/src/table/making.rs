@@ -99,18 +99,20 @@ pub(crate) static STORE: Call = Call {
     often: Often::writing(20, 18, 50, 6),
     any: |desk, random| {
         let free = desk.disk.free();
-        // As many bytes as just fit on the disk, and one more.
-        let fitting = (SECTOR_BYTES * free.len()).saturating_sub(SECTOR_BYTES + 1);
+        // As many bytes as just fit on the disk: the descriptor has a sector of its own.
+        let fitting = SECTOR_BYTES * free.len().saturating_sub(1);
         let holes = free.windows(2).filter(|pair| pair[0] + 1 < pair[1]).count();
         let is_in_pieces = holes > MOST_BLOCKS - 5;
+        // What a chain holds whose blocks have a sector each.
+        let chain = SECTOR_BYTES * MOST_BLOCKS;
         let length = match random.below(12) {
             0..=7 if is_in_pieces => {
-                random.pick(&[75 * 256, 76 * 256 - 1, 76 * 256, 80 * 256, 32_768, 32_769, 32_769])
+                random.pick(&[chain - 255, chain, chain + 1, chain + 1024, 32_768, 32_769, 32_769])
             }
             0 => random.pick(&[0, 1, 255, 256, 257, 511, 512]),
             1 => random.pick(&[32_767, 32_768, 32_769]),
             2 => random.pick(&[fitting, fitting + 1]).min(33_000),
-            3 => random.pick(&[75 * 256 - 1, 75 * 256, 76 * 256 - 1, 76 * 256, 77 * 256]),
+            3 => random.pick(&[chain - 256, chain - 255, chain, chain + 1, chain + 256]),
             4 => random.pick(&[33_000, 65_536, 65_536 + 300, 100_000]),
             5 => random.below(33_000),
             6 | 7 => random.below(8 * SECTOR_BYTES),
@@ -137,8 +139,9 @@ pub(crate) static STORE: Call = Call {
             file.header[12] = 0x01;
             file.bytes = asked.other.lent().to_vec();
             file.header[16] = file.bytes.len() as u8;
-            file.bytes.push(0);
-            file.bytes.resize((file.bytes.len() + 255) / SECTOR_BYTES * SECTOR_BYTES, 0);
+            while file.bytes.len() % SECTOR_BYTES != 0 {
+                file.bytes.push(0);
+            }
             Some(file)
         },
         look: Some(("program loaded that was just stored", |_, asked| {
@@ -166,17 +169,18 @@ pub(crate) static STORE: Call = Call {
         arguments: |full| Arguments { name: full.name(), other: full.program(), ..NONE },
         on: &[
             (" of 32,768 bytes", Before::Absent, &FOR_A_PROGRAM),
-            (" of no byte", Before::Absent, &FOR_BOTH),
+            (" of 256 bytes", Before::Absent, &FOR_BOTH),
+            (" of no byte", Before::Absent, &FOR_A_DESCRIPTOR),
         ],
     },
 };
 
-/// A program of 32,768 bytes has 129 sectors. Some of the 74 blocks lie side by side.
+/// A program of 32,768 bytes has 128 sectors. Some of the 74 blocks lie side by side.
 const FOR_A_PROGRAM: [Volume; 4] = [
-    volume("126 files, a block each; end free", (126, 1), (129, 1)),
-    volume("126 files of 9 blocks; end free", (126, 9), (129, 1)),
-    volume("126 files of 9 blocks; free in about 70 pieces", (126, 9), (129, 74)),
-    volume("one file of 76 blocks; end free", (1, 76), (129, 1)),
+    volume("126 files, a block each; end free", (126, 1), (128, 1)),
+    volume("126 files of 9 blocks; end free", (126, 9), (128, 1)),
+    volume("126 files of 9 blocks; free in about 70 pieces", (126, 9), (128, 74)),
+    volume("one file of 76 blocks; end free", (1, 76), (128, 1)),
 ];
 
 const FOR_BOTH: [Volume; 3] = [
@@ -185,9 +189,9 @@ const FOR_BOTH: [Volume; 3] = [
     volume("one file of 76 blocks; last two free", (1, 76), (1, 1)),
 ];
 
-/// The sectors of a program.
+/// The sectors of a program, the last of which it may fill in part.
 fn sectors(asked: &Arguments) -> usize {
-    asked.other.lent().len() / SECTOR_BYTES + 1
+    (asked.other.lent().len() + SECTOR_BYTES - 1) / SECTOR_BYTES
 }
 
 /// The runs that a program would have; none where there are too few sectors.

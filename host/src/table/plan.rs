@@ -107,7 +107,7 @@ pub(super) fn protected(asked: &Asked) -> bool {
 }
 
 pub(super) fn program(asked: &Asked) -> bool {
-    asked.on_file(is_program)
+    asked.on_file(File::is_program)
 }
 
 /// Data that is to be one sector is not.
@@ -128,22 +128,16 @@ pub(crate) fn is_good(name: &Given) -> bool {
     name.lent().try_into().map_or(false, is_name)
 }
 
-pub(crate) fn is_program(file: &File) -> bool {
-    file.status() & 0x01 != 0
-}
-
 pub(crate) fn is_protected(file: &File) -> bool {
     file.status() & 0x08 != 0
 }
 
-/// A program's bytes or else the record length; of a program without a sector, on no sound disk,
-/// any number will do.
+/// A program's bytes or else the record length.
 pub(super) fn length_of(file: &File) -> usize {
-    let [end_offset, record_length] = [16, 17].map(|byte| usize::from(file.header[byte]));
-    if is_program(file) {
-        SECTOR_BYTES * file.count().saturating_sub(1) + end_offset
+    if file.is_program() {
+        file.program_length()
     } else {
-        record_length
+        usize::from(file.header[17])
     }
 }
 
@@ -172,11 +166,9 @@ pub(super) fn grown(mut runs: Vec<Run>, free: &[usize], more: usize) -> Option<V
     Some(runs)
 }
 
-/// Fills sectors with the bytes, and what is left of them with zeros: the last sector of a program
-/// may have no byte of it.
+/// Fills sectors with the bytes, and what is left of the last one with zeros.
 pub(super) fn fill(disk: &mut Disk, places: impl Iterator<Item = usize>, bytes: &[u8]) {
-    let parts = bytes.chunks(SECTOR_BYTES).chain([&[][..]]);
-    for (place, part) in places.zip(parts) {
+    for (place, part) in places.zip(bytes.chunks(SECTOR_BYTES)) {
         let sector = &mut disk.image[SECTOR_BYTES * place..][..SECTOR_BYTES];
         sector[..part.len()].copy_from_slice(part);
         sector[part.len()..].fill(0);

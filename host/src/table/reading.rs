@@ -1,7 +1,7 @@
 //! Calls that read what a file holds: read and load.
 
 use super::arguments::{around, name_for, room_for, some_file};
-use super::plan::{absent, bad_name, find, is_program, is_protected, length_of};
+use super::plan::{absent, bad_name, find, is_protected, length_of};
 use super::{Answer, Arguments, Call, Case, Given, Listed, Often, Plan, Reading, Written, NONE};
 use crate::library::ask;
 use crate::speed::{volume, Before, Measured, Volume, ALL, SECTORS};
@@ -55,7 +55,7 @@ pub(crate) static READ: Call = Call {
             let Arguments { room, .. } = case.asked.arguments;
             case.number == 15 && *room >= SECTOR_BYTES && case.asked.past() == Some(0)
         }),
-        ("sector of a program", |case| case.is_done() && case.asked.on_file(is_program)),
+        ("sector of a program", |case| case.is_done() && case.asked.on_file(File::is_program)),
         ("sector of a protected file", |case| case.is_done() && case.asked.on_file(is_protected)),
         ("sector not in the first block", |case| {
             let at = case.asked.at;
@@ -73,14 +73,14 @@ pub(crate) static LOAD: Call = Call {
     tests: &[
         (7, bad_name),
         (8, absent),
-        (14, |asked| asked.on_file(|file| !is_program(file))),
+        (14, |asked| asked.on_file(|file| !file.is_program())),
         (15, |asked| asked.on_file(|file| asked.room < length_of(file))),
     ],
     together: &[],
     often: Often::single(4),
     any: |desk, random| {
         let any = random.once_in(4);
-        let file = some_file(desk.disk, |file| any || is_program(file), random);
+        let file = some_file(desk.disk, |file| any || file.is_program(), random);
         let name = name_for(file, random);
         let (length, sectors) = file.map_or((300, 2), |file| (length_of(file), file.count()));
         let is_whole = random.once_in(8);
@@ -116,6 +116,9 @@ pub(crate) static LOAD: Call = Call {
     met: &[
         ("not a program and no buffer", |case| case.number == 14 && case.asked.room == 0),
         ("program of no bytes", |case| loads(case, |length| length == 0)),
+        ("program that ends on a full sector", |case| {
+            loads(case, |length| length > 0 && length % SECTOR_BYTES == 0)
+        }),
         ("program of more than 65,535 bytes", |case| loads(case, |length| length > 65_535)),
     ],
     measured: Measured {
@@ -128,9 +131,9 @@ pub(crate) static LOAD: Call = Call {
 const NO_FILES: [Listed; 2] = [(*b"~~~~~~~~~~", 0), ([b' '; 10], 0)];
 
 const PROGRAMS: [Volume; 3] = [
-    volume("126 files, a block each; 32,768 bytes in one", (126, 1), (129, 1)),
-    volume("126 files of 9 blocks; 32,768 bytes in 74", (126, 9), (129, 74)),
-    volume("one program of 367,616 bytes in 76 blocks", (0, 0), (SECTORS - 3, 76)),
+    volume("126 files, a block each; 32,768 bytes in one", (126, 1), (128, 1)),
+    volume("126 files of 9 blocks; 32,768 bytes in 74", (126, 9), (128, 74)),
+    volume("one program of 367,872 bytes in 76 blocks", (0, 0), (SECTORS - 3, 76)),
 ];
 
 /// The bytes of all sectors of a file.

@@ -2,7 +2,7 @@
 
 use super::arguments::{around, data, given_name, is_open_data, some_file};
 use super::making::fills;
-use super::plan::{absent, bad_name, called, fill, find, grown, is_program, is_protected};
+use super::plan::{absent, bad_name, called, fill, find, grown, is_protected};
 use super::plan::{is_too_long, not_a_sector, program, protected};
 use super::{Answer, Arguments, Asked, Call, Case, Often, Plan, Writing, NONE, READ};
 use crate::library::ask;
@@ -34,7 +34,7 @@ pub(crate) static APPEND: Call = Call {
         let name = match random.below(5) {
             0 | 1 if desk.disk.files.iter().any(is_long) => desk.present(is_long, random),
             2 => desk.present(|_| true, random),
-            _ => desk.present(|file| !is_protected(file) && !is_program(file), random),
+            _ => desk.present(|file| !is_protected(file) && !file.is_program(), random),
         };
         Arguments { name, other: data(random), ..NONE }
     },
