@@ -117,6 +117,42 @@ NOTES DIS/VAR 80 1 U" "$disk"
     must_be_same "$work/beta" "$work/beta-again"
 }
 
+# On case M's volume, which has 57 sectors free: 512 bytes take the descriptor's sector 4 and just 37 and
+# 38, their end offset is 0, and they are 512 again. No byte takes the descriptor's sector 5 alone. A file
+# of 52 sectors and its descriptor's leave none for that.
+store_whole_sectors() {
+    local image=$work/whole.dsk
+    cp "$sample" "$image"
+    content 512 >"$work/pages"
+    : >"$work/none"
+    step 0 "" "$image" store PAGES "$work/pages"
+    step 0 "" "$image" store EMPTY "$work/none"
+    step 0 "SHELF 64 53
+ALPHA PROGRAM 300 2 U
+EMPTY PROGRAM 0 0 U
+NOTES DIS/VAR 80 1 U
+PAGES PROGRAM 512 2 U" "$image"
+    bytes_at "$image" 56 3f 00 00 00 7c 00
+    bytes_at "$image" 256 00 02 00 05 00 03 00 04 00 00
+    bytes_at "$image" $((256 * 4)) 50 41 47 45 53 20 20 20 20 20 00 00 01 00 00 02 00 00
+    bytes_at "$image" $((256 * 4 + 28)) 25 10 00 00 00 00
+    bytes_at "$image" $((256 * 5)) 45 4d 50 54 59 20 20 20 20 20 00 00 01 00 00 00 00 00
+    bytes_at "$image" $((256 * 5 + 28)) 00 00 00
+    from_sector "$image" 37 512 >"$work/found"
+    must_be_same "$work/pages" "$work/found"
+    step 0 "" "$image" load PAGES "$work/found"
+    must_be_same "$work/pages" "$work/found"
+    step 0 "" "$image" load EMPTY "$work/found"
+    must_be_same "$work/none" "$work/found"
+    content $((256 * 52)) >"$work/52-sectors"
+    step 0 "" "$image" append FILL "$work/52-sectors"
+    refusal "number 12: too few sectors are free" "$image" store NONE "$work/none"
+    step 0 "" "$image" delete FILL
+    # A program without sectors has no end offset.
+    put_at "$image" $((256 * 5 + 16)) '\x01'
+    refusal "number 4: a file's descriptor breaks a rule" "$image" judge
+}
+
 # A new data file of 300 bytes takes sectors 5, 41 and 42; NOTES, which has sector 36, goes on in 43.
 append_to_files() {
     content 300 >"$work/text"
@@ -467,6 +503,7 @@ fi
 cp "$sample" "$disk"
 case_m
 store_a_program
+store_whole_sectors
 append_to_files
 be_refused
 delete_a_file

@@ -23,14 +23,19 @@
 struct geometry {
     const char *title;
     uint8_t sectors_per_track, tracks, sides, density;
-    unsigned steps; /* how many calls are made on it */
+    unsigned steps; /* how many calls are made on it by chance; where none, each of the lengths is stored */
 };
 
 static const struct geometry geometries[] = {
-    {"sssd-360", 9, 40, 1, 1, 60},         {"dssd-720", 9, 40, 2, 1, 400},
-    {"sssd-360-worn", 9, 40, 1, 1, 3000},  {"dsdd-1440", 18, 40, 2, 2, 1000},
-    {"dsdd-1440-worn", 18, 40, 2, 2, 6000},
+    {"sssd-360", 9, 40, 1, 1, 60},          {"dssd-720", 9, 40, 2, 1, 400},
+    {"sssd-360-worn", 9, 40, 1, 1, 3000},   {"dsdd-1440", 18, 40, 2, 2, 1000},
+    {"dsdd-1440-worn", 18, 40, 2, 2, 6000}, {"sssd-360-lengths", 9, 40, 1, 1, 0},
 };
+
+/* The lengths of programs that matter: of no byte, around whole sectors, and the longest. */
+static const size_t lengths[] = {0, 1, 255, 256, 257, 512, 8192, PNO_PROGRAM_MOST};
+
+#define LENGTHS (sizeof lengths / sizeof lengths[0])
 
 /* A file as the calls were asked to make it. */
 struct file {
@@ -106,11 +111,9 @@ static void grow(struct file *file, const uint8_t *bytes, size_t length, size_t 
     free_sectors -= sectors;
 }
 
-static void store(void) {
+static void store_length(size_t length) {
     static uint8_t bytes[PNO_PROGRAM_MOST];
-    static const size_t lengths[] = {0, 1, 255, 256, 257, 512, 8192, PNO_PROGRAM_MOST};
-    size_t length = below(3) == 0 ? lengths[below(8)] : below(6000);
-    size_t sectors = length / SECTOR + 1;
+    size_t sectors = (length + SECTOR - 1) / SECTOR;
     uint8_t name[10];
     any_name(name);
     fill(bytes, length);
@@ -119,8 +122,20 @@ static void store(void) {
         struct file *file = add(name, PROGRAM);
         file->header[16] = (uint8_t)(length % SECTOR);
         free_sectors -= 1;
-        grow(file, bytes, length, sectors);
+        if (sectors > 0)
+            grow(file, bytes, length, sectors);
     }
+}
+
+static void store(void) {
+    store_length(below(3) == 0 ? lengths[below(LENGTHS)] : below(6000));
+}
+
+static void store_each_length(void) {
+    for (size_t i = 0; i < LENGTHS; i++)
+        store_length(lengths[i]);
+    if (file_count != LENGTHS)
+        fail("a length is not stored");
 }
 
 static void create(void) {
@@ -286,6 +301,8 @@ int main(int argc, char **argv) {
         format(geometry);
         for (unsigned steps = 0; steps < geometry->steps; steps++)
             step();
+        if (geometry->steps == 0)
+            store_each_length();
         write_volume(argv[1], geometry->title);
     }
     return 0;

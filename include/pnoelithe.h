@@ -36,7 +36,7 @@ extern "C" {
 
 /* The version. While the major number is 0, the interface may change with each minor one. */
 #define PNO_VERSION_MAJOR 0
-#define PNO_VERSION_MINOR 1
+#define PNO_VERSION_MINOR 2
 #define PNO_VERSION_PATCH 0
 #define PNO_QUOTED(word) #word
 #define PNO_DOTTED(major, minor, patch) PNO_QUOTED(major) "." PNO_QUOTED(minor) "." PNO_QUOTED(patch)
@@ -51,7 +51,7 @@ extern "C" {
 #define PNO_FILES_MOST 127     /* the most files of a volume */
 #define PNO_LISTING_MOST 4212  /* the most bytes of a listing: room for every one */
 #define PNO_PROGRAM_MOST 32768 /* the most bytes that a store takes */
-#define PNO_LOADED_MOST 408831 /* the most bytes that a load gives: 1,597 sectors, end offset 255 */
+#define PNO_LOADED_MOST 408832 /* the most bytes that a load gives: 1,597 full sectors */
 
 /* The numbers a call gives back. Where several are due, the first in this order is given. */
 enum pno_number {
@@ -59,7 +59,8 @@ enum pno_number {
     PNO_LENGTH = 1,      /* the image's length is not 256 x n for n from 3 to 1,600 */
     PNO_LABEL = 2,       /* sector 0: bad disk name, n or "DSK" */
     PNO_INDEX = 3,       /* sector 1 breaks its range or end rule */
-    PNO_DESCRIPTOR = 4,  /* a descriptor breaks name, status, chain or kind rules, or names do not ascend */
+    PNO_DESCRIPTOR = 4,  /* a descriptor breaks name, status, chain or kind rules, or names do not ascend;
+                            by the kind rule a program without sectors has no end offset */
     PNO_TWO_HOLDERS = 5, /* a sector has two holders */
     PNO_MAP = 6,         /* the map is not that of the holders */
     PNO_NAME = 7,        /* a name breaks its rule */
@@ -181,8 +182,10 @@ enum pno_kind {
  * pointers
  *   kind          one of enum pno_kind
  *   length        a program's length in bytes, which can pass 65,535; else the record length
- *   sectors       the number of its sectors, without the descriptor
+ *   sectors       the number of its sectors, without the descriptor; 0 of a program of no bytes
  *   is_protected  1 or 0
+ * A program's length is 256 x sectors where the end offset, byte 16 of the header, is 0: its last sector is
+ * full. Else it is 256 x (sectors - 1) and the end offset.
  *
  * Numbers: 1 to 6; 8 past the last file; 15 where header_len is below PNO_HEADER_BYTES.
  * Stack: at most 1,832 bytes.
@@ -200,7 +203,7 @@ uint32_t pno_read(const uint8_t *image, size_t image_len, const uint8_t *name, s
                   size_t offset, uint8_t *out, size_t out_len);
 
 /*
- * Loads a program: its bytes, and their number behind length.
+ * Loads a program: its bytes, and their number behind length. Those of a program without sectors are none.
  *
  * Numbers: 1 to 6; 7; 8; 14; 15 where out_len is below the program's length, which is at most
  * PNO_LOADED_MOST.
@@ -267,9 +270,10 @@ uint32_t pno_overwrite(uint8_t *image, size_t image_len, const uint8_t *name, si
                        const uint8_t *data, size_t data_len);
 
 /*
- * Stores a program of 0 to PNO_PROGRAM_MOST bytes as a new file: bytes_len / 256 + 1 sectors, the rest of
- * the last one zero; its descriptor, which is zero but for the name, status 01, the number of sectors, the
- * end offset and the chain; the bits of all these in the map; its place in sector 1.
+ * Stores a program of 0 to PNO_PROGRAM_MOST bytes as a new file: bytes_len / 256 sectors, rounded up, the
+ * rest of the last one zero; its descriptor, which is zero but for the name, status 01, the number of
+ * sectors, the end offset, which is bytes_len mod 256, and the chain; the bits of all these in the map; its
+ * place in sector 1. So 256 bytes take one sector, and no byte takes none but the descriptor's.
  *
  * Numbers: 1 to 6; 7; 9; 15 where bytes_len is above PNO_PROGRAM_MOST; 11; 12, the descriptor's sector being
  * counted; 13.

@@ -376,7 +376,8 @@ pub fn overwrite(image: &mut [u8], name: &[u8], offset: usize, data: &[u8]) -> R
     })
 }
 
-/// Stores a program of at most 32,768 bytes as a new file.
+/// Stores a program of at most 32,768 bytes as a new file; one of no bytes takes no sector but the
+/// descriptor's.
 pub fn store(image: &mut [u8], name: &[u8], bytes: &[u8]) -> Result<(), Refusal> {
     done(unsafe {
         imported::pno_store(
