@@ -60,7 +60,7 @@ enum pno_number {
     PNO_LABEL = 2,       /* sector 0: bad disk name, n or "DSK" */
     PNO_INDEX = 3,       /* sector 1 breaks its range or end rule */
     PNO_DESCRIPTOR = 4,  /* a descriptor breaks name, status, chain or kind rules, or names do not ascend;
-                            by the kind rule a program without sectors has no end offset */
+                            by the kind rule a program without sectors has end offset 0 */
     PNO_TWO_HOLDERS = 5, /* a sector has two holders */
     PNO_MAP = 6,         /* the map is not that of the holders */
     PNO_NAME = 7,        /* a name breaks its rule */

@@ -127,8 +127,8 @@ impl Marks {
     }
 }
 
-/// Any kind may be protected, so that bit is left aside. A program without sectors has no end
-/// offset.
+/// Any kind may be protected, so that bit is left aside. A program without sectors has end offset
+/// 0.
 fn is_kind(descriptor: &[u8], count: usize) -> bool {
     match descriptor[12] & !0x08 {
         0x00 | 0x02 | 0x80 | 0x82 => true,
