@@ -90,7 +90,7 @@ pub record Demand2 (version : Version) : Type 0 where
   -- progress: the number is that of the first ground that is there, and 0 exactly where none is
   pub progress : (c : Call) (image : List ℕ) → First (numberOf version c image) (grounds c image)
 
--- So what was stored is what a load gives, in every version that meets it.
+-- So what was stored is what a load gives, its bytes and their number, whatever the length, in every version that meets it.
 unfoldable pub StoredLoads : Type 0
 StoredLoads = (version : Version) → Demand2 version → (name bytes buffer image : List ℕ) → Sound image → length bytes ≤ length buffer →
     let c = call.change name (call.store bytes) in
