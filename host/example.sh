@@ -148,7 +148,7 @@ PAGES PROGRAM 512 2 U" "$image"
     step 0 "" "$image" append FILL "$work/52-sectors"
     refusal "number 12: too few sectors are free" "$image" store NONE "$work/none"
     step 0 "" "$image" delete FILL
-    # A program without sectors has no end offset.
+    # A program without sectors has end offset 0.
     put_at "$image" $((256 * 5 + 16)) '\x01'
     refusal "number 4: a file's descriptor breaks a rule" "$image" judge
 }

@@ -210,7 +210,7 @@ fn case_m() -> bool {
         && write_listing(&image)
 }
 
-// Programs that end on a full sector, and one of no bytes: their sectors and lengths in the listing, and again of the packed volume.
+// Programs that end on a full sector, and one of no bytes; their sectors and lengths are in the listing of the volume packed.
 fn ask_2() -> bool {
     let mut image = [0u8; 51200];
     let formatted = format(&mut image, 200, b"BENCH     ", one_side(10, 20));

@@ -1,4 +1,4 @@
--- The lengths of programs: what a store puts into the catalogue, and what the kind rule leaves of a descriptor.
+-- The lengths of programs: sectors and end offset make a length, the kind rule leaves no others, and the length has them back. What was stored is in StoredLoads.
 use mathlib.Core.Path.{_≡_, sym, ap, _∙_}
 use Prim.Native.Nat.{ℕ, _%_, _<_}
 use native.Mathlib.Omega.{arith}
@@ -10,28 +10,16 @@ use Rattle.rules.specs.Descriptor.{sectorsOf, fileKind}
 use Rattle.rules.specs.Volume.{File, files, fileIn, catalogue}
 use Rattle.rules.specs.Sound.{fileAt}
 use Rattle.rules.proofs.Sectors.{sector-below}
-use Rattle.rules.proofs.Status.{program-kind}
+use Rattle.rules.proofs.Status.{program-end}
 use Rattle.rules.proofs.Length.{length-stored, stored-sectors, stored-end}
 use Rattle.rules.proofs.Volume.{contents-count, header-at}
-use Rattle.demands.specs.Effects.{newProgram}
-use Rattle.demands.specs.Lengths.{OfLength, StoredLength, EveryLength, LengthAlone}
+use Rattle.demands.specs.Lengths.{OfLength, EveryLength, LengthAlone}
 use Rattle.demands.proofs.Filed.{file-of}
-use Rattle.demands.proofs.NewFile.{header-end}
-use Rattle.demands.proofs.Pieces.{pieces-length}
-use Rattle.demands.proofs.StoredLoads.{ten, named-now}
 
 -- a file with so many sectors and that end offset
-of-length : (file : File) (size : ℕ) → length (file .contents) ≡ sectorsFor size → byteAt (file .header) 16 ≡ size % 256 → OfLength file size
+pub of-length : (file : File) (size : ℕ) → length (file .contents) ≡ sectorsFor size → byteAt (file .header) 16 ≡ size % 256 → OfLength file size
 of-length file size sectors end =
     record { enough = omega (arith, sectors); needed = omega (arith, sectors); end-offset = end; long = rw (sectors, end) (length-stored size) }
-
-pub stored-length : StoredLength
-unfolding StoredLength
-stored-length version all name bytes image is zero =
-    let c = sectorsFor (length bytes) in
-    let ten-bytes = ten version all name bytes bytes image is (omega arith) zero in
-    rw (named-now version all name bytes bytes image is (omega arith) zero)
-    (of-length (newProgram name bytes) (length bytes) (pieces-length c bytes) (header-end name 0x01 0 (length bytes % 256) 0 ten-bytes c))
 
 pub every-length : EveryLength
 unfolding EveryLength catalogue fileIn fileKind
@@ -45,7 +33,7 @@ every-length image is small p listed program =
     let end : byteAt (file .header) 16 ≡ byteAt d 16 = header-at image k 16 (omega arith) in
     let status : byteAt (file .header) 12 ≡ byteAt d 12 = header-at image k 12 (omega arith) in
     let below = sector-below image k 256 (omega arith) small 16 in
-    let kind = program-kind (byteAt d 12) (sectorsOf d) (byteAt d 16) (byteAt d 17) (rw (file-of image p inside, status) at program) (rules .kind) in
+    let kind = program-end (byteAt d 12) (sectorsOf d) (byteAt d 16) (byteAt d 17) (rw (file-of image p inside, status) at program) (rules .kind) in
     rw (file-of image p inside, end, c)
     (of-length file (programLength (sectorsOf d) (byteAt d 16)) (c ∙ sym (stored-sectors (sectorsOf d) (byteAt d 16) below kind)) (end ∙ sym (stored-end (sectorsOf d) (byteAt d 16) below kind)))
 

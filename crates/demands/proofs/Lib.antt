@@ -32,7 +32,7 @@ mod PackedSound
 mod PackedOne
 pub mod Demand3
 pub mod Complete
-pub mod StoredLoads
 pub mod Lengths
+pub mod StoredLoads
 pub mod Wrong
 pub mod WrongPacking

@@ -1,5 +1,5 @@
 -- What was stored loads, in every version that meets demand 2: the file of that name is the program put into the catalogue, so no ground for a refusal of the load is there, and its contents cut at
--- its length are the bytes that were lent.
+-- its length are the bytes that were lent; and that program is one of as many bytes.
 use mathlib.Core.Path.{_≡_, sym, ap, _∙_}
 use mathlib.Core.Logic.{inl, inr}
 use mathlib.Core.List.{List, [], _∷_, _++_}
@@ -15,17 +15,18 @@ use Rattle.rules.specs.Descriptor.{sectorsOf, IsDescriptor}
 use Rattle.rules.specs.Volume.{File, files, nameIn, fileIn, catalogue}
 use Rattle.rules.specs.Sound.{Sound, fileAt}
 use Rattle.rules.proofs.Map.{count-at}
-use Rattle.rules.proofs.Length.{length-stored}
 use Rattle.rules.proofs.Volume.{contents-count, header-at}
 use Rattle.rules.proofs.Listed.{listed-name, listed-descriptor}
 use Rattle.demands.specs.Call as call
 use Rattle.demands.specs.Call.{Call, Version, numberOf}
-use Rattle.demands.specs.Catalogue.{fileName, noFile, lengthIs, named}
+use Rattle.demands.specs.Catalogue.{fileName, noFile, named}
 use Rattle.demands.specs.Effects.{Changed, newProgram}
 use Rattle.demands.specs.Grounds.{Ground, First, faults, lookGrounds, grounds, Has}
 use Rattle.demands.specs.Touches.{Enters, Touches}
 use Rattle.demands.specs.Demand2.{Shows, Means, Demand2, StoredLoads}
+use Rattle.demands.specs.Lengths.{OfLength, StoredLength}
 use Rattle.demands.proofs.Filed.{file-of, file-name, named-file}
+use Rattle.demands.proofs.Lengths.{of-length}
 use Rattle.demands.proofs.NewFile.{header-name, header-status, header-end}
 use Rattle.demands.proofs.Pieces.{pieces-length, joined-pieces, put-stands}
 use Rattle.demands.proofs.Touched.{of-first}
@@ -63,12 +64,9 @@ faultless image is = (
   ),
 )
 
-module _ (version : Version) (all : Demand2 version) (name bytes buffer image : List ℕ) (is : Sound image) (room : length bytes ≤ length buffer) where
+module _ (version : Version) (all : Demand2 version) (name bytes image : List ℕ) (is : Sound image) where
   abbrev storing : Call
   storing = call.change name (call.store bytes)
-
-  abbrev loading : Call
-  loading = call.look (call.load name) buffer
 
   abbrev after : List ℕ
   after = version storing image .image
@@ -98,7 +96,7 @@ module _ (version : Version) (all : Demand2 version) (name bytes buffer image : 
     unfolding nameIn
     is-name = rw (enters .gains .lies .named) at (rules .name)
 
-    pub ten : length name ≡ 10
+    abbrev ten : length name ≡ 10
     ten = is-name .ten
 
     -- the file of that name is the program
@@ -115,11 +113,12 @@ module _ (version : Version) (all : Demand2 version) (name bytes buffer image : 
         in
         rw same at found
 
-    pub named-now : named name (catalogue after) ≡ file
+    named-now : named name (catalogue after) ≡ file
     named-now = named-file after name k (changed .sound) there (sym (enters .gains .lies .named)) ∙ file-now
 
-    long : lengthIs file ≡ length bytes
-    long = rw (pieces-length (sectorsFor (length bytes)) bytes, header-end name 0x01 0 (length bytes % 256) 0 ten (sectorsFor (length bytes))) (length-stored (length bytes))
+    -- it is one of as many bytes as were lent
+    sized : OfLength file (length bytes)
+    sized = let c = sectorsFor (length bytes) in of-length file (length bytes) (pieces-length c bytes) (header-end name 0x01 0 (length bytes % 256) 0 ten c)
 
     -- what the grounds speak of
     this : Has after name (λ j. Unit {0})
@@ -131,28 +130,37 @@ module _ (version : Version) (all : Demand2 version) (name bytes buffer image : 
 
     length-now : programLength (sectorsOf (sectorOf after k)) (byteAt (sectorOf after k) 16) ≡ length bytes
     unfolding fileIn
-    length-now = rw (← contents-count (sectorCount after) after k rules, at-header 16 (omega arith)) (ap (λ (f : File). programLength (length (f .contents)) (byteAt (file .header) 16)) file-now ∙ long)
+    length-now = rw (← contents-count (sectorCount after) after k rules, at-header 16 (omega arith)) (ap (λ (f : File). programLength (length (f .contents)) (byteAt (file .header) 16)) file-now ∙ sized .long)
 
-    loads : numberOf version loading after ≡ 0
-    unfolding grounds lookGrounds None this
-    loads =
-        first-none (numberOf version loading after) (grounds loading after)
-        (none-both (faults after) _ (faultless after (changed .sound)) (
-          (λ none. none is-name),
-          (
-            (λ none. none this),
+    module _ (buffer : List ℕ) (room : length bytes ≤ length buffer) where
+      abbrev loading : Call
+      loading = call.look (call.load name) buffer
+
+      loads : numberOf version loading after ≡ 0
+      unfolding grounds lookGrounds None this
+      loads =
+          first-none (numberOf version loading after) (grounds loading after)
+          (none-both (faults after) _ (faultless after (changed .sound)) (
+            (λ none. none is-name),
             (
-              (λ other. of-first after name (changed .sound) this other (ap (λ (b : ℕ). bitOf b 0) (at-header 12 (omega arith) ∙ header-status name 0x01 0 (length bytes % 256) 0 ten (sectorsFor (length bytes))))),
-              ((λ short. omega (arith, room, length-now, of-first after name (changed .sound) this short)), tt),
+              (λ none. none this),
+              (
+                (λ other. of-first after name (changed .sound) this other (ap (λ (b : ℕ). bitOf b 0) (at-header 12 (omega arith) ∙ header-status name 0x01 0 (length bytes % 256) 0 ten (sectorsFor (length bytes))))),
+                ((λ short. omega (arith, room, length-now, of-first after name (changed .sound) this short)), tt),
+              ),
             ),
-          ),
-        ))
-        (all .progress loading after)
+          ))
+          (all .progress loading after)
+
+pub stored-length : StoredLength
+unfolding StoredLength
+stored-length version all name bytes image is zero = rw (named-now version all name bytes image is zero) (sized version all name bytes image is zero)
 
 pub stored-loads : StoredLoads
 unfolding StoredLoads Means Shows
 stored-loads version all name bytes buffer image is room zero =
-    let loaded = all .means (loading version all name bytes buffer image is room) (after version all name bytes buffer image is room) (changed version all name bytes buffer image is room zero .sound) (loads version all name bytes buffer image is room zero) in
-    let file-is = named-now version all name bytes buffer image is room zero in
-    let size = long version all name bytes buffer image is room zero in
-    rw (file-is, size, joined-pieces (sectorsFor (length bytes)) bytes (omega arith)) at loaded
+    let loaded =
+    all .means (loading version all name bytes image is zero buffer room) (after version all name bytes image is) (changed version all name bytes image is zero .sound)
+    (loads version all name bytes image is zero buffer room)
+    in
+    rw (named-now version all name bytes image is zero, sized version all name bytes image is zero .long, joined-pieces (sectorsFor (length bytes)) bytes (omega arith)) at loaded

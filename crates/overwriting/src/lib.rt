@@ -1,6 +1,5 @@
 // Overwriting: one data sector of a file, by its offset in the file. The call takes any image and any arguments, answers with its number,
 // and leaves the image with the writes of the rules' definition laid over it; a refusal has none.
-ghost use mathlib.Core.Path.{_≡_};
 ghost use Rattle.rules.specs.Sound.{IsFile};
 ghost use Rattle.rules.specs.Outcome.{Meets};
 ghost use Rattle.rules.specs.Calls.Overwrite.{overwriting, overwriteOf};

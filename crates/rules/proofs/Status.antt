@@ -85,6 +85,6 @@ any-kind status c endOffset recordLength e = rw e (go (isVariable status))
     go false = tt
 
 -- and one that is a program has end offset 0 where it has no sector
-pub program-kind : (status c endOffset recordLength : ℕ) → bitOf status 0 ≡ 1 → IsKind (kindOf status c endOffset recordLength) c endOffset → c ≡ 0 → endOffset ≡ 0
+pub program-end : (status c endOffset recordLength : ℕ) → bitOf status 0 ≡ 1 → IsKind (kindOf status c endOffset recordLength) c endOffset → c ≡ 0 → endOffset ≡ 0
 unfolding kindOf IsKind
-program-kind status c endOffset recordLength set is = rw (eq-eqb (bitOf status 0) 1 set) at is
+program-end status c endOffset recordLength set is = rw (eq-eqb (bitOf status 0) 1 set) at is
