@@ -8,7 +8,7 @@ ghost use Rattle.rules.specs.Outcome.{AnswerSays};
 ghost use Rattle.rules.specs.Calls.Format.{newLabel, formatted, formatNumber, afterFormat};
 ghost use Rattle.formatting.specs.Geometry.{geometryOf};
 use descriptor::name::name_rule;
-use map::laid::new_map;
+use map::laid::lay_map;
 use rules::Answer;
 use sector::buffer::fill;
 use sector::buffer::lay;
@@ -52,10 +52,9 @@ fn new_sector0(n: usize, name: &[u8], geometry: Geometry) -> [u8; 256]
     ensures { λ r. ⌜ r ≡ newLabel n (now (name .entry)) (geometryOf geometry) ++ mapOf n (0 ∷ (1 ∷ [])) ⌝ }
 {
     let label = new_label(n, name, geometry);
-    let map = new_map(n, 2);
     let mut sector0 = [0u8; 256];
     lay(&mut sector0, 0, &label);
-    lay(&mut sector0, 56, &map);
+    lay_map(&mut sector0[56..256], n, 2);
     sector0
 }
 

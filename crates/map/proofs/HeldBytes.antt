@@ -1,4 +1,5 @@
--- The bytes of a map: 255 shifted up has the bits past an end, and the sectors below `used` are those that are not past it.
+-- The bytes of a map: 255 shifted up has the bits past an end, and the sectors below `used` are those that are not past it. A byte in which neither `used`
+-- nor the end lies has eight bits alike.
 use mathlib.Core.Path.{_≡_, refl, sym, _∙_}
 use mathlib.Core.Bool.{Bool, true, cond, _&&_}
 use mathlib.Core.List.{[]}
@@ -50,6 +51,13 @@ past-byte n k m few below past =
           | no l ↦ rw (taken-past n [] (k + j) (past j h (omega arith)), le-ltb j m (omega arith))
         ]
 
+-- all eight past the end, or none
+pub all-past : (n k : ℕ) → n ≤ k → 255 ≡ byteOf (taken n []) k
+all-past n k h = past-byte n k 0 (omega arith) (λ j l. absurd (omega arith)) (λ j l m. omega arith)
+
+pub none-past : (n k : ℕ) → k + 8 ≤ n → 0 ≡ byteOf (taken n []) k
+none-past n k h = past-byte n k 8 (omega arith) (λ j l. omega arith) (λ j l m. absurd (omega arith))
+
 -- a run counts each of its sectors once and no other
 run-outside : (k s many : ℕ) → (s ≤ k → s + many ≤ k) → count k (run s many) ≡ 0
 run-outside k s many out =
@@ -96,3 +104,14 @@ byte-beside n used k few =
       omega (arith, bit k .0, bit (k + 1) .0, bit (k + 2) .0, bit (k + 3) .0, bit (k + 4) .0, bit (k + 5) .0, bit (k + 6) .0, bit (k + 7) .0),
       omega (arith, bit k .1, bit (k + 1) .1, bit (k + 2) .1, bit (k + 3) .1, bit (k + 4) .1, bit (k + 5) .1, bit (k + 6) .1, bit (k + 7) .1),
     )
+
+-- a byte with all eight below `used`, with all from there to the end, and with all past the end
+module _ (n used k : ℕ) (few : used ≤ n) where
+  pub byte-held : k + 8 ≤ used → 255 ≡ byteOf (taken n (run 0 used)) k
+  byte-held below = omega (arith, byte-beside n used k few .0, none-past used k below, none-past n k (omega arith))
+
+  pub byte-free : used ≤ k → k + 8 ≤ n → 0 ≡ byteOf (taken n (run 0 used)) k
+  byte-free from below = omega (arith, byte-beside n used k few .0, all-past used k from, none-past n k below)
+
+  pub byte-past : n ≤ k → 255 ≡ byteOf (taken n (run 0 used)) k
+  byte-past past = omega (arith, byte-beside n used k few .0, all-past used k (omega arith), all-past n k past)

@@ -2,6 +2,7 @@
 ghost use mathlib.Core.Path.{_≡_};
 ghost use mathlib.Core.List.{[]};
 ghost use Prim.Native.Nat.{_≤_};
+ghost use lib.ListN.{length};
 ghost use Rattle.rules.specs.Map.{taken, byteOf, mapOf};
 ghost use Rattle.rules.specs.Chain.{run};
 
@@ -26,16 +27,33 @@ fn map_byte(n: usize, used: usize, k: usize) -> u8
     0xFF - past_end(used, k) + past_end(n, k)
 }
 
-// Bytes 56 to 255 of sector 0.
-pub fn new_map(n: usize, used: usize) -> [u8; 200]
-    requires { ⌜ used ≤ n ⌝ }
-    ensures { λ r. ⌜ r ≡ mapOf n (run 0 used) ⌝ }
+// Bytes 56 to 255 of sector 0, whatever they were: the sectors of the whole bytes below `used` are held, those of the whole bytes from there to the end
+// are free, and the rest are past the end. Only the two bytes in which `used` and the end lie are computed.
+pub fn lay_map(map: &mut [u8], n: usize, used: usize)
+    requires { ⌜ (length (now map) ≡ 200) × (used ≤ n) × (n ≤ 1600) ⌝ }
+    ensures { λ _. ⌜ now (map .exit) ≡ mapOf n (run 0 used) ⌝ }
 {
-    let mut map = [0u8; 200];
+    let held = used / 8;
+    let end = n / 8;
     let mut i = 0;
-    while i < 200 {
+    while i < held {
+        map[i] = 0xFF;
+        i += 1;
+    }
+    if i < 200 {
         map[i] = map_byte(n, used, 8 * i);
         i += 1;
     }
-    map
+    while i < end {
+        map[i] = 0;
+        i += 1;
+    }
+    if i < 200 {
+        map[i] = map_byte(n, used, 8 * i);
+        i += 1;
+    }
+    while i < 200 {
+        map[i] = 0xFF;
+        i += 1;
+    }
 }

@@ -19,8 +19,8 @@ use Rattle.rules.specs.Verdict.{verdict}
 use Rattle.rules.specs.Sound.{Sound}
 use Rattle.rules.specs.Calls.Pack.{labelArea, packed, packedDescriptors, packedData, packedSectors, packTests, packNumber}
 use Rattle.rules.proofs.Bytes.{part-length}
-use Rattle.rules.proofs.Splice.{splice-length, splice-whole, put-back}
-use Rattle.rules.proofs.Formatted.{laid-next, map-length}
+use Rattle.rules.proofs.Splice.{splice-length, splice-whole}
+use Rattle.rules.proofs.Formatted.{laid-next, put-next, map-length}
 use Rattle.rules.proofs.Indexed.{index-length}
 use Rattle.rules.proofs.Verdict.{unsound-first, sound-first}
 use Rattle.rules.proofs.Pack.{label-length, descriptors-length, catalogue-whole, used-inside}
@@ -74,8 +74,7 @@ module _ (image : List ℕ) (is : Sound image) {many used : ℕ} (many-is : many
       let rest-same : rest ≡ replicate (256 * (n - used)) 0xE5 = rest-is ∙ ap (λ (m : ℕ). replicate m 0xE5) (room ∙ left) in
       let rest-long : length rest ≡ length third - 256 * used = ap length rest-same ∙ length-replicate {A = ℕ} (256 * (n - used)) 0xE5 ∙ sym left in
       let all : length (((front ++ descriptors) ++ bytes) ++ rest) ≡ length target = length-append ((front ++ descriptors) ++ bytes) rest ∙ omega (arith, three-long, rest-long, third-long, inside, same, is .whole) in
-      put-back third rest (256 * used) (length third - 256 * used) rest-long (omega arith)
-      ∙ rw three (laid-next target ((front ++ descriptors) ++ bytes) rest (256 * used) three-long)
+      put-next target third ((front ++ descriptors) ++ bytes) rest (256 * used) (length third - 256 * used) three three-long rest-long (omega arith)
       ∙ splice-whole target (((front ++ descriptors) ++ bytes) ++ rest) all
       ∙ parts rest rest-same
 

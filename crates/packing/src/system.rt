@@ -9,34 +9,32 @@ ghost use Rattle.rules.specs.Map.{mapOf};
 ghost use Rattle.rules.specs.Chain.{run};
 ghost use Rattle.rules.specs.Index.{indexOf};
 ghost use Rattle.rules.specs.Calls.Pack.{labelArea};
-use map::laid::new_map;
+use map::laid::lay_map;
+use sector::buffer::fill;
 use sector::buffer::lay;
 use sector::bytes::part;
 use sector::bytes::sector_of;
 
-// Sector 1: the numbers 2, 3 and so on, as many as there are files. All are below 256, so each high byte is zero.
-fn new_index(files: usize) -> [u8; 256]
-    requires { ⌜ files ≤ 127 ⌝ }
-    ensures { λ r. ⌜ r ≡ indexOf (run 2 files) ⌝ }
+// Sector 1: the numbers 2, 3 and so on, as many as there are files, and zeros. All are below 256, so each high byte is zero.
+fn lay_index(index: &mut [u8], files: usize)
+    requires { ⌜ (length (now index) ≡ 256) × (files ≤ 127) ⌝ }
+    ensures { λ _. ⌜ now (index .exit) ≡ indexOf (run 2 files) ⌝ }
 {
-    let mut index = [0u8; 256];
+    fill(index, 0);
     let mut p = 0;
     while p < files {
         let number = [0u8, (p + 2) as u8];
-        lay(&mut index, 2 * p, &number);
+        lay(index, 2 * p, &number);
         p += 1;
     }
-    index
 }
 
 // Both sectors, over the front of the target.
 pub(crate) fn lay_system(source: &[u8], target: &mut [u8], files: usize, used: usize)
-    requires { ⌜ (files ≤ 127) × (length (labelArea (now source)) ≡ 56) × (used ≤ sectorCount (now source)) ⌝ }
+    requires { ⌜ (512 ≤ length (now target)) × (files ≤ 127) × (length (labelArea (now source)) ≡ 56) × (used ≤ sectorCount (now source)) × (sectorCount (now source) ≤ 1600) ⌝ }
     ensures { λ _. ⌜ now (target .exit) ≡ splice (now (target .entry)) 0 (labelArea (now (source .entry)) ++ (mapOf (sectorCount (now (source .entry))) (run 0 used) ++ indexOf (run 2 files))) ⌝ }
 {
-    let map = new_map(source.len() / 256, used);
-    let index = new_index(files);
     lay(target, 0, part(sector_of(source, 0), 0, 56));
-    lay(target, 56, &map);
-    lay(target, 256, &index);
+    lay_map(&mut target[56..256], source.len() / 256, used);
+    lay_index(&mut target[256..512], files);
 }

@@ -6,13 +6,14 @@ use Prim.Native.Nat.{ℕ, zero, suc, _+_, _-_, _*_, _≤_}
 use native.Mathlib.Omega.{arith}
 use lib.ListN.{length, drop, replicate, length-append, length-replicate}
 use lib.Seq.{take-at, drop-at, drop-drop}
+use borrow.Rule.Slice.PartMut.{putMid}
 use Rattle.rules.specs.Bytes.{byteAt, splice}
 use Rattle.rules.specs.Sectors.{sectorOf}
 use Rattle.rules.specs.Map.{count, taken, mapOf}
 use Rattle.rules.specs.Index.{numbers, IsIndex}
 use Rattle.rules.specs.Verdict.{heldTwice}
 use Rattle.rules.specs.Calls.Format.{Geometry, newLabel, formatted}
-use Rattle.rules.proofs.Splice.{splice-append, splice-parts}
+use Rattle.rules.proofs.Splice.{splice-length, splice-append, splice-parts, put-back}
 use Rattle.rules.proofs.Map.{bytes-length}
 use Rattle.rules.proofs.Verdict.{held-once}
 
@@ -26,6 +27,13 @@ pub laid-next : (buffer first second : List ℕ) (at : ℕ) → length first ≡
 laid-next buffer first second at e =
     let z : 0 + length first ≡ at = omega arith in
     rw z at (splice-append buffer 0 first second)
+
+-- the same where the part for the others was lent, and came back as those
+pub put-next : (buffer laid first second : List ℕ) (at many : ℕ) → laid ≡ splice buffer 0 first → length first ≡ at → length second ≡ many → at + many ≤ length buffer
+    → putMid at many laid second ≡ splice buffer 0 (first ++ second)
+put-next buffer laid first second at many is e f room =
+    let kept = ap length is ∙ splice-length buffer 0 first in
+    put-back laid second at many f (omega arith) ∙ rw is (laid-next buffer first second at e)
 
 -- an image that begins with a sector: that sector, and those after it
 pub sector-here : (sector rest : List ℕ) → length sector ≡ 256 → sectorOf (sector ++ rest) 0 ≡ sector

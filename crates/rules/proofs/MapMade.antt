@@ -4,7 +4,7 @@ use mathlib.Core.List.{List}
 use Prim.Native.Nat.{ℕ, _+_, _*_, _≤_, _<_}
 use native.Mathlib.Omega.{arith}
 use native.Mathlib.Numerals.{add-one}
-use lib.ListN.{length, take, set, replicate, length-set, length-replicate}
+use lib.ListN.{length, take, set, length-set}
 use lib.Seq.{take-all, take-suc, take-suc-set}
 use Rattle.rules.specs.Map.{taken, byteOf, mapOf}
 use Rattle.rules.proofs.Map.{bytes-at}
@@ -16,8 +16,8 @@ pub record MapMade (n : ℕ) (holders map : List ℕ) (i : ℕ) : Type 0 where
   pub inside : i ≤ 200
   pub front : take i map ≡ take i (mapOf n holders)
 
-pub made-none : (n : ℕ) (holders : List ℕ) → MapMade n holders (replicate 200 0) 0
-made-none n holders = record { size = length-replicate {A = ℕ} 200 0; inside = omega arith; front = refl }
+pub made-none : (n : ℕ) (holders : List ℕ) {map : List ℕ} → length map ≡ 200 → MapMade n holders map 0
+made-none n holders long = record { size = long; inside = omega arith; front = refl }
 
 pub made-byte : {n : ℕ} {holders map : List ℕ} {i byte : ℕ} → MapMade n holders map i → i < 200 → byte ≡ byteOf (taken n holders) (8 * i) → MapMade n holders (set map i byte) (i + 1)
 unfolding mapOf

@@ -27,8 +27,13 @@ descriptors c = c .before .before .before .before
 lay-system-requires : tie.Need-lay-system-requires
 lay-system-requires c κs =
     let e = c .before in
-    let is = start e .pre .0 in
-    (omega (arith, e .extent-of .ensures .0, files-few _ is), label-length _ _ (is .whole) (omega (arith, is .size)), omega (arith, e .extent-of .ensures .1, used-inside _ is))
+    let is = start e .pre .0 in (
+      omega (arith, is .whole, is .size, start e .pre .1),
+      omega (arith, e .extent-of .ensures .0, files-few _ is),
+      label-length _ _ (is .whole) (omega (arith, is .size)),
+      omega (arith, e .extent-of .ensures .1, used-inside _ is),
+      omega (arith, is .size),
+    )
 
 mul-end : tie.Need-mul-end
 mul-end c =

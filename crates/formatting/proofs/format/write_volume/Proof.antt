@@ -7,8 +7,8 @@ use lib.ListN.{length, replicate, length-append, length-replicate}
 use borrow.Rule.Slice.PartMut.{putMid}
 use Rattle.rules.specs.Bytes.{part, splice}
 use Rattle.rules.proofs.Bytes.{part-length}
-use Rattle.rules.proofs.Splice.{splice-length, splice-whole, put-back}
-use Rattle.rules.proofs.Formatted.{laid-next, sector0-length, formatted-parts}
+use Rattle.rules.proofs.Splice.{splice-length, splice-whole}
+use Rattle.rules.proofs.Formatted.{put-next, sector0-length, formatted-parts}
 use Rattle.formatting.specs.Geometry.{geometryOf}
 use borrow.Author.Needs.{needs}
 use Rattle.formatting.proofs.format.write_volume.Statement.{statement}
@@ -22,7 +22,7 @@ module _ (image sector0 : List ℕ) (n : ℕ) (large : 3 ≤ n) (long : length i
       let kept : length laid ≡ 256 * n = ap length laid-is ∙ splice-length image 0 sector0 ∙ long in
       let many = part-length laid 256 256 (omega arith) in
       let zeros-long : length zeros ≡ 256 = ap length zeros-is ∙ length-replicate (length (part laid 256 256)) 0 ∙ many in
-      (zeros-is ∙ ap (λ (m : ℕ). replicate m 0) many, put-back laid zeros 256 256 zeros-long (omega arith) ∙ rw laid-is (laid-next image sector0 zeros 256 whole))
+      (zeros-is ∙ ap (λ (m : ℕ). replicate m 0) many, put-next image laid sector0 zeros 256 256 laid-is whole zeros-long (omega arith))
 
   filled-rest : (laid zeros rest : List ℕ) → length zeros ≡ 256 → laid ≡ splice image 0 (sector0 ++ zeros) → rest ≡ replicate (length (part laid 512 (length laid - 512))) 0xE5
       → (rest ≡ replicate (256 * (n - 2)) 0xE5) × (putMid 512 (length laid - 512) laid rest ≡ sector0 ++ (zeros ++ rest))
@@ -34,8 +34,7 @@ module _ (image sector0 : List ℕ) (n : ℕ) (large : 3 ≤ n) (long : length i
       let front : length (sector0 ++ zeros) ≡ 512 = length-append sector0 zeros ∙ omega arith in
       let all : length ((sector0 ++ zeros) ++ rest) ≡ length image = length-append (sector0 ++ zeros) rest ∙ omega arith in (
         rest-is ∙ ap (λ (m : ℕ). replicate m 0xE5) (many ∙ most),
-        put-back laid rest 512 (length laid - 512) rest-long (omega arith)
-            ∙ rw laid-is (laid-next image (sector0 ++ zeros) rest 512 front)
+        put-next image laid (sector0 ++ zeros) rest 512 (length laid - 512) laid-is front rest-long (omega arith)
             ∙ splice-whole image ((sector0 ++ zeros) ++ rest) all
             ∙ append-assoc sector0 zeros rest,
       )

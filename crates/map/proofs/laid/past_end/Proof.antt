@@ -1,16 +1,16 @@
 -- `map::laid::past_end` meets its contract: 255 shifted up by the number of the eight sectors that are below the end. Assumes nothing.
 use Prim.Native.Nat.{_-_}
 use native.Mathlib.Omega.{arith}
-use Rattle.map.proofs.HeldBytes.{past-byte}
+use Rattle.map.proofs.HeldBytes.{past-byte, all-past, none-past}
 use borrow.Author.Needs.{needs}
 use Rattle.map.proofs.laid.past_end.Statement.{statement}
 use Rattle.map.proofs.laid.past_end.Tie as tie
 
 returns : tie.Need-returns
-returns c = past-byte _ _ 0 (omega arith) (λ j h. absurd (omega arith)) (λ j h l. omega arith)
+returns c = all-past _ _ (c .if1 .taken)
 
 returns-2 : tie.Need-returns-2
-returns-2 c = past-byte _ _ 8 (omega arith) (λ j h. omega arith) (λ j h l. absurd (omega arith))
+returns-2 c = none-past _ _ (omega arith)
 
 returns-3 : tie.Need-returns-3
 returns-3 c =
