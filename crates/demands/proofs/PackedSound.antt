@@ -18,7 +18,7 @@ use Rattle.rules.specs.Calls.Pack.{labelArea, packedDescriptor, packedDescripto
 use Rattle.rules.proofs.Bytes.{part-at}
 use Rattle.rules.proofs.Sectors.{sector-length}
 use Rattle.rules.proofs.Map.{count-none, count-here, count-other, counted-all, count-append, map-of-bits, map-same}
-use Rattle.rules.proofs.Chain.{run-length, run-at, run-holds, run-counts}
+use Rattle.rules.proofs.Chain.{run-length, run-at, run-holds, run-counts, run-once}
 use Rattle.rules.proofs.Volume.{places-count}
 use Rattle.rules.proofs.Formatted.{map-length}
 use Rattle.rules.proofs.Indexed.{Ascending, index-length, numbers-index, index-is-index}
@@ -52,20 +52,6 @@ module _ (n : ℕ) (image : List ℕ) (whole : length image ≡ 256 * n) where
   each-listed [] inside is = tt
   each-listed (k ∷ ks) inside is =
       (is-listed k (inside 0 (omega arith)) (is 0 (omega arith)), each-listed ks (λ p h. inside (suc p) (omega arith)) (λ p h. is (suc p) (omega arith)))
-
--- a run holds each sector once
-run-once : (k s many : ℕ) → count k (run s many) ≤ 1
-unfolding run
-run-once k s zero = omega (arith, count-none k)
-run-once k s (suc many) =
-    elim (ℕ-discrete s k) [
-      | yes here ↦
-          elim (decLt 0 (count k (run (s + 1) many))) [
-            | yes again ↦ absurd (omega (arith, here, run-holds k (s + 1) many again))
-            | no none ↦ rw here (omega (arith, count-here k (run (k + 1) many), rw here at none))
-          ]
-      | no other ↦ omega (arith, count-other k s (run (s + 1) many) other, run-once k (s + 1) many)
-    ]
 
 -- the run from 0 on is the two system sectors and two runs behind them
 run-system : (k f many : ℕ) → count k (run 0 (2 + f + many)) ≡ count k (0 ∷ (1 ∷ [])) + (count k (run 2 f) + count k (run (2 + f) many))

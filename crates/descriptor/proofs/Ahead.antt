@@ -1,13 +1,13 @@
 -- The places ahead of a cursor, a step at a time.
 use mathlib.Core.Path.{_≡_, ap, subst, _∙_}
-use mathlib.Core.List.{List, [], _∷_, _++_}
+use mathlib.Core.List.{List, [], _∷_, _++_, append-assoc}
 use Prim.Native.Nat.{ℕ, _+_, _-_, _≤_, _<_}
 use native.Mathlib.Omega.{arith}
 use lib.ListN.{drop}
 use Rattle.rules.specs.Chain.{blocks, run, placesFrom, places}
 use Rattle.rules.specs.declared.Block.{Block}
-use Rattle.rules.proofs.Chain.{run-none, run-step}
-use Rattle.descriptor.specs.Cursor.{ahead, Steady, first, Stepped}
+use Rattle.rules.proofs.Chain.{run-none, run-step, run-parts}
+use Rattle.descriptor.specs.Cursor.{ahead, Steady, first, past, Stepped}
 use Rattle.descriptor.specs.declared.chain.Cursor.{Cursor}
 use Rattle.descriptor.specs.declared.chain.Step.{Step}
 use Rattle.descriptor.specs.declared.chain.Step.the-variants.{Place, End}
@@ -21,7 +21,11 @@ at-first chain = rw (run-none 0)
 module _ (chain : List ℕ) (cursor : Cursor) (step : Step) (is : Stepped chain cursor step) where
   pub at-place : {place : ℕ} {next : Cursor} → step ≡ Place place next → (ahead chain cursor ≡ place ∷ ahead chain next) × Steady chain next × (place < 8192)
   unfolding Stepped
-  at-place e = subst (Stepped chain cursor) e is
+  at-place e = let stepped = subst (Stepped chain cursor) e is in (stepped .0, stepped .1, stepped .2)
+
+  pub follows : {place : ℕ} {next : Cursor} → step ≡ Place place next → next .place ≡ place + 1
+  unfolding Stepped
+  follows e = subst (Stepped chain cursor) e is .3
 
   pub at-end : step ≡ End → ahead chain cursor ≡ []
   unfolding Stepped
@@ -35,6 +39,16 @@ module _ (chain : List ℕ) (cursor : Cursor) where
       let e : cursor .left ≡ cursor .left - 1 + 1 = omega arith in
       ap (λ (many : ℕ). run (cursor .place) many ++ placesFrom (cursor .next) (blocks (drop (cursor .at) chain))) e
       ∙ rw (run-step (cursor .place) (cursor .left - 1))
+
+  -- several of the present block at once
+  pub in-block-past : (many : ℕ) → many ≤ cursor .left → ahead chain cursor ≡ run (cursor .place) many ++ ahead chain (past cursor many)
+  unfolding ahead
+  in-block-past many h =
+      let e : cursor .left ≡ many + (cursor .left - many) = omega arith in
+      let behind = placesFrom (cursor .next) (blocks (drop (cursor .at) chain)) in
+      ap (λ (left : ℕ). run (cursor .place) left ++ behind) e
+      ∙ ap (λ (ps : List ℕ). ps ++ behind) (run-parts (cursor .place) many (cursor .left - many))
+      ∙ append-assoc (run (cursor .place) many) (run (cursor .place + many) (cursor .left - many)) behind
 
   -- with nothing left of the present block
   module _ (done : cursor .left ≤ 0) where

@@ -1,23 +1,22 @@
 // Blocks, the walk over those of a chain, and the cursor that goes through its places.
 ghost use mathlib.Core.Path.{_≡_};
-ghost use Prim.Native.Nat.{_-_, _≤_, _<_};
+ghost use Prim.Native.Nat.{_+_, _-_, _/_, _%_, _≤_, _<_};
+ghost use lib.Dec.{eqb};
 ghost use lib.ListN.{length, getD};
 ghost use Rattle.rules.specs.Chain.{blockOf, blockBytes, endsChain, places};
+ghost use Rattle.rules.specs.declared.Block.{Block};
 ghost use Rattle.descriptor.specs.Walk.{BlocksFrom};
-ghost use Rattle.descriptor.specs.Cursor.{Steady, first, Stepped};
+ghost use Rattle.descriptor.specs.Cursor.{Steady, first, past, Stepped};
 use rules::Block;
 
-// The block that three bytes hold.
-fn block_of(a: u8, b: u8, c: u8) -> Block
-    ensures { λ r. ⌜ (r ≡ blockOf a b c) × (r .start < 4096) × (r .last < 4096) ⌝ }
+// The three bytes of a block as one number, the first byte lowest: it is zero where they end the chain, and start and last offset are twelve bits of it each.
+fn fields_of(a: u8, b: u8, c: u8) -> usize
+    ensures { λ r. ⌜ (eqb r 0 ≡ endsChain a b c) × (_≡_ {A = Block} (record { start = r % 4096; last = r / 4096 }) (blockOf a b c)) × (r < 16777216) ⌝ }
 {
     let low = a as usize;
     let middle = b as usize;
     let high = c as usize;
-    Block {
-        start: low + 256 * (middle % 16),
-        last: middle / 16 + 16 * high,
-    }
+    low + 256 * middle + 65536 * high
 }
 
 // The three bytes of a block.
@@ -29,19 +28,6 @@ pub fn block_bytes(start: usize, last: usize) -> [u8; 3]
     let middle = (start / 256 + 16 * (last % 16)) as u8;
     let high = (last / 16) as u8;
     [low, middle, high]
-}
-
-// Whether three bytes end the chain.
-fn ends_chain(a: u8, b: u8, c: u8) -> bool
-    ensures { λ r. ⌜ r ≡ endsChain a b c ⌝ }
-{
-    if a != 0 {
-        return false;
-    }
-    if b != 0 {
-        return false;
-    }
-    c == 0
 }
 
 // What a walk over a chain meets at a byte: a block, or the end.
@@ -58,13 +44,14 @@ pub fn block_at(chain: &[u8], at: usize) -> Met
     if at + 3 > chain.len() {
         return Met::Ended;
     }
-    let a = chain[at];
-    let b = chain[at + 1];
-    let c = chain[at + 2];
-    if ends_chain(a, b, c) {
+    let fields = fields_of(chain[at], chain[at + 1], chain[at + 2]);
+    if fields == 0 {
         return Met::Ended;
     }
-    Met::Found(block_of(a, b, c))
+    Met::Found(Block {
+        start: fields % 4096,
+        last: fields / 4096,
+    })
 }
 
 // a - b, and 0 where b is greater.
@@ -138,6 +125,19 @@ impl Cursor {
                 left: less(last, next),
             },
         )
+    }
+
+    // `many` sectors further in the present block.
+    pub fn past(self, many: usize) -> Cursor
+        requires { ⌜ (many ≤ self .left) × (self .place + self .left < 8192) ⌝ }
+        ensures { λ r. ⌜ r ≡ past self many ⌝ }
+    {
+        Cursor {
+            at: self.at,
+            next: self.next,
+            place: self.place + many,
+            left: self.left - many,
+        }
     }
 }
 

@@ -1,228 +1,193 @@
--- Claims: where none is twice, the marks have grown by the holders; and on the judge's first marks they are the holders of the map.
+-- What the claims come to. On a map they clash exactly where a sector gets a second mark; on the judge's first marks that is a sector with two holders, and where there
+-- is none the marks that are left are the map of the holders.
 use mathlib.Core.Path.{_≡_, refl, sym, ap, _∙_}
-use mathlib.Core.Logic.{_⊎_, inl, inr}
 use mathlib.Core.Bool.{Bool, true, false, cond}
-use mathlib.Core.List.{List, [], _∷_}
-use Prim.Native.Nat.{ℕ, zero, suc, _+_, _-_, _≤_, _<_}
+use mathlib.Core.List.{List, [], _∷_, _++_}
+use Prim.Native.Nat.{ℕ, zero, suc, _+_, _-_, _*_, _≤_, _<_}
 use native.Mathlib.Omega.{arith}
 use native.Mathlib.Decide.{decLt, ℕ-discrete}
-use lib.Dec.{eqb, ltb}
-use lib.ListN.{length, set, replicate, length-set, length-replicate, getD-replicate, List·getD-eq-default}
-use lib.Seq.{getD-set-same, getD-set-other}
-use borrow.Author.Tests.{eq-eqb, eqb-true, lt-ltb, ltb-true}
-use Rattle.rules.specs.Bytes.{byteAt, part}
+use lib.Dec.{eqb}
+use lib.ListN.{length, take, drop, replicate, length-replicate, getD-replicate, List·getD-append, List·getD-eq-default}
+use lib.Seq.{take-all}
+use borrow.Author.Tests.{eq-eqb, eqb-true}
+use Rattle.rules.specs.Bytes.{byteAt, part, same}
 use Rattle.rules.specs.Sectors.{sectorOf, sectorCount}
-use Rattle.rules.specs.Map.{count, taken, mapRule}
+use Rattle.rules.specs.Chain.{run}
+use Rattle.rules.specs.Map.{mapBit, count, taken, mapRule, mapOf, byteOf, marked, markedAll}
 use Rattle.rules.specs.Volume.{files, fileHolders, holders}
 use Rattle.rules.specs.Verdict.{heldTwice}
-use Rattle.rules.proofs.Tests.{both, absurd-test}
-use Rattle.rules.proofs.Map.{count-none, count-here, count-other, count-more, taken-below, taken-past, taken-once, bits-agree}
-use Rattle.rules.proofs.Sectors.{sector-below}
+use Rattle.rules.proofs.Tests.{absurd-test, same-test}
+use Rattle.rules.proofs.Bytes.{part-length, part-behind, same-is, is-same}
+use Rattle.rules.proofs.Map.{count-none, count-here, count-other, count-more, count-append, taken-below, taken-once, map-at, at-map, bytes-at, map-of-bits, map-of-bytes}
+use Rattle.rules.proofs.Marking.{marked-length, marked-here, marked-other, all-length, all-below, marked-holders, bit-once}
+use Rattle.rules.proofs.Sectors.{sector-length, sector-below}
 use Rattle.rules.proofs.Index.{index-is}
 use Rattle.rules.proofs.Volume.{file-holders-inside}
 use Rattle.rules.proofs.Verdict.{size-is, descriptors-are, held-once, once-held}
-use Rattle.judge.specs.Claim.{markAt, bytesRule, unmarked, isFree, Claimed, claimed, claim}
-use Rattle.judge.proofs.MarkLaws.{map-bits, unmarked-length, unmarked-inside, unmarked-outside}
+use Rattle.rules.proofs.Formatted.{map-length, system-once}
+use Rattle.judge.specs.Claim.{asMap, clashes, Below}
+use Rattle.judge.proofs.MarkLaws.{as-map-length, as-map-byte}
 use Rattle.judge.proofs.VerdictSteps.{FourPassed}
 
-free-is : (marks : List ℕ) (k : ℕ) → isFree marks k ≡ true → (k < 1600) × (markAt marks k ≡ 0)
-unfolding isFree
-free-is marks k e =
-    let parts = both (ltb k 1600) (eqb (markAt marks k) 0) e in
-    (ltb-true k 1600 (parts .0), eqb-true (markAt marks k) 0 (parts .1))
-
-is-free : (marks : List ℕ) (k : ℕ) → k < 1600 → markAt marks k ≡ 0 → isFree marks k ≡ true
-unfolding isFree
-is-free marks k h e = rw (lt-ltb k 1600 h, eq-eqb (markAt marks k) 0 e)
-
--- Where no sector is claimed twice, each mark has grown by the sector's holders, and is at most one.
-pub claimed-once : (marks hs : List ℕ) → length marks ≡ 1600 → claim marks hs .twice ≡ false → (k : ℕ) → k < 1600 → markAt marks k ≤ 1
-    → (markAt (claim marks hs .marks) k ≡ markAt marks k + count k hs) × (markAt marks k + count k hs ≤ 1)
-unfolding claim
-claimed-once marks [] long e k h small = (omega (arith, count-none k), omega (arith, count-none k))
-claimed-once marks (q ∷ hs) long e k h small = go (isFree marks q) refl e (claimed-once (set marks q 1) hs (rw length-set long))
+-- Where none clashes, no sector gets a second mark.
+clash-once : (sector0 hs : List ℕ) → length sector0 ≡ 256 → clashes sector0 hs ≡ false → (k : ℕ) → k < 1600 → mapBit sector0 k + count k hs ≤ 1
+unfolding clashes
+clash-once sector0 [] long e k low = omega (arith, bit-once sector0 k, count-none k)
+clash-once sector0 (q ∷ hs) long e k low = go (eqb (mapBit sector0 q) 0) refl e (clash-once (marked 1 sector0 q) hs (marked-length 1 sector0 q ∙ long))
   where
-    go : (t : Bool) → isFree marks q ≡ t → cond t (claim (set marks q 1) hs) (claimed true marks) .twice ≡ false
-        → (claim (set marks q 1) hs .twice ≡ false → (k : ℕ) → k < 1600 → markAt (set marks q 1) k ≤ 1
-        → (markAt (claim (set marks q 1) hs .marks) k ≡ markAt (set marks q 1) k + count k hs) × (markAt (set marks q 1) k + count k hs ≤ 1))
-        → (markAt (cond (isFree marks q) (claim (set marks q 1) hs) (claimed true marks) .marks) k ≡ markAt marks k + count k (q ∷ hs)) × (markAt marks k + count k (q ∷ hs) ≤ 1)
+    go : (t : Bool) → eqb (mapBit sector0 q) 0 ≡ t → cond t (clashes (marked 1 sector0 q) hs) true ≡ false
+        → (clashes (marked 1 sector0 q) hs ≡ false → (k : ℕ) → k < 1600 → mapBit (marked 1 sector0 q) k + count k hs ≤ 1)
+        → mapBit sector0 k + count k (q ∷ hs) ≤ 1
     go false free e more = absurd-test e
     go true free e more =
-        let is = free-is marks q free in
-        rw free
-        (elim (ℕ-discrete q k) [
-          | yes here ↦
-              let set-here : markAt (set marks q 1) k ≡ 1 = rw (← here) (getD-set-same marks q 1 0 (omega (arith, is .0))) in
-              let zero-here : markAt marks k ≡ 0 = rw (← here) (is .1) in
-              let r = more e k h (omega arith) in
-              let c : count k (q ∷ hs) ≡ 1 + count k hs = rw here (count-here k hs) in
-              (omega arith, omega arith)
-          | no there ↦
-              let as-was : markAt (set marks q 1) k ≡ markAt marks k = getD-set-other marks q k 1 0 (λ z. there (sym z)) in
-              let r = more e k h (omega arith) in
-              (omega (arith, count-other k q hs there), omega (arith, count-other k q hs there))
-        ])
+        let none = eqb-true (mapBit sector0 q) 0 free in
+        elim (ℕ-discrete q k) [
+          | yes here ↦ rw (← here) (omega (arith, none, count-here q hs, marked-here 1 (omega arith) sector0 q (rw here low) long, rw (← here) at (more e k low)))
+          | no there ↦ omega (arith, more e k low, marked-other 1 (omega arith) sector0 q k (λ e. there (sym e)), count-other k q hs there)
+        ]
 
--- Where the marks and the holders leave each sector at most one, none is claimed twice.
-pub once-claimed : (marks hs : List ℕ) → length marks ≡ 1600 → ((k : ℕ) → 1 ≤ count k hs → k < 1600) → ((k : ℕ) → k < 1600 → markAt marks k + count k hs ≤ 1)
-    → claim marks hs .twice ≡ false
-unfolding claim
-once-claimed marks [] long inside once = refl
-once-claimed marks (q ∷ hs) long inside once =
-    let low : q < 1600 = inside q (omega (arith, count-here q hs)) in
-    let none : markAt marks q ≡ 0 = omega (arith, once q low, count-here q hs) in
-    rw (is-free marks q low none)
-    (once-claimed (set marks q 1) hs (rw length-set long) (λ k h. inside k (omega (arith, count-more k q hs))) (λ k h. after low k h (ℕ-discrete q k)))
-  where
-    after : q < 1600 → (k : ℕ) → k < 1600 → Dec (q ≡ k) → markAt (set marks q 1) k + count k hs ≤ 1
-    after low k h (yes here) =
-        let set-here : markAt (set marks q 1) k ≡ 1 = rw (← here) (getD-set-same marks q 1 0 (omega arith)) in
-        let c : count k (q ∷ hs) ≡ 1 + count k hs = rw here (count-here k hs) in
-        omega (arith, once k h)
-    after low k h (no there) =
-        let as-was : markAt (set marks q 1) k ≡ markAt marks k = getD-set-other marks q k 1 0 (λ z. there (sym z)) in
-        omega (arith, once k h, count-other k q hs there)
+-- Where no sector gets a second mark, none clashes.
+once-clash : (sector0 hs : List ℕ) → length sector0 ≡ 256 → Below 1600 hs → ((k : ℕ) → k < 1600 → mapBit sector0 k + count k hs ≤ 1) → clashes sector0 hs ≡ false
+unfolding clashes
+once-clash sector0 [] long below once = refl
+once-clash sector0 (q ∷ hs) long below once =
+    let low : q < 1600 = below q (omega (arith, count-here q hs)) in
+    let none : mapBit sector0 q ≡ 0 = omega (arith, once q low, count-here q hs) in
+    rw (eq-eqb (mapBit sector0 q) 0 none)
+    (once-clash (marked 1 sector0 q) hs (marked-length 1 sector0 q ∙ long) (λ k some. below k (omega (arith, some, count-more k q hs)))
+    (λ k h.
+    elim (ℕ-discrete q k) [
+      | yes here ↦ rw (← here) (omega (arith, once q low, count-here q hs, marked-here 1 (omega arith) sector0 q low long))
+      | no there ↦ omega (arith, once k h, marked-other 1 (omega arith) sector0 q k (λ e. there (sym e)), count-other k q hs there)
+    ]))
 
--- the two system sectors among the holders
-system-count : (k : ℕ) (hs : List ℕ) → ((k < 2) × (count k (0 ∷ (1 ∷ hs)) ≡ 1 + count k hs)) ⊎ ((2 ≤ k) × (count k (0 ∷ (1 ∷ hs)) ≡ count k hs))
-system-count zero hs = inl (omega arith, count-here 0 (1 ∷ hs) ∙ ap (λ (c : ℕ). 1 + c) (count-other 0 1 hs (λ e. omega (arith, e))))
-system-count (suc zero) hs = inl (omega arith, count-other 1 0 (1 ∷ hs) (λ e. omega (arith, e)) ∙ count-here 1 hs)
-system-count (suc (suc k)) hs =
-    inr (omega arith, count-other (suc (suc k)) 0 (1 ∷ hs) (λ e. omega (arith, e)) ∙ count-other (suc (suc k)) 1 hs (λ e. omega (arith, e)))
+-- On a map in which the two system sectors are held, holders that lie between them and the end clash exactly where, with the two, one is held twice,
+-- and else leave the map of all of them.
+module _ (n : ℕ) (hs sector0 : List ℕ) (large : 3 ≤ n) (small : n ≤ 1600) (long : length sector0 ≡ 256)
+    (is : (k : ℕ) → k < 1600 → mapBit sector0 k ≡ taken n (0 ∷ (1 ∷ [])) k) (below : Below n hs) where
+  all-count : (k : ℕ) → count k (0 ∷ (1 ∷ hs)) ≡ count k hs + count k (0 ∷ (1 ∷ []))
+  all-count k = omega (arith, count-append k (0 ∷ (1 ∷ [])) hs)
 
--- On marks that have zero for sectors 2 to n - 1 and one for all others, holders that are among the former are claimed twice exactly where, with the two
--- system sectors, one is held twice, and else leave the bits of the map.
-module _ (n : ℕ) (hs marks : List ℕ) (large : 3 ≤ n) (small : n ≤ 1600) (long : length marks ≡ 1600)
-    (free : (k : ℕ) → 2 ≤ k → k < n → markAt marks k ≡ 0) (held : (k : ℕ) → k < 1600 → (k < 2) ⊎ (n ≤ k) → markAt marks k ≡ 1)
-    (inside : (k : ℕ) → 1 ≤ count k hs → (2 ≤ k) × (k < n)) where
   none-past : (k : ℕ) → n ≤ k → count k hs ≡ 0
   none-past k past =
       elim (decLt 0 (count k hs)) [
-        | yes some ↦ absurd (omega (arith, inside k some .1))
+        | yes some ↦ absurd (omega (arith, below k some))
         | no none ↦ omega arith
       ]
 
-  below : (k : ℕ) → k < n → count k (0 ∷ (1 ∷ hs)) ≡ markAt marks k + count k hs
-  below k h =
-      elim (system-count k hs) [
-        | inl low ↦ omega (arith, low .1, held k (omega arith) (inl (low .0)))
-        | inr high ↦ omega (arith, high .1, free k (high .0) h)
-      ]
+  inside : (k : ℕ) → k < n → mapBit sector0 k + count k hs ≡ count k (0 ∷ (1 ∷ hs))
+  inside k h = omega (arith, is k (omega arith), taken-below n (0 ∷ (1 ∷ [])) k h, all-count k)
 
-  outside : (k : ℕ) → n ≤ k → count k (0 ∷ (1 ∷ hs)) ≤ 1
-  outside k h =
-      elim (system-count k hs) [
-        | inl low ↦ absurd (omega (arith, low .0))
-        | inr high ↦ omega (arith, high .1, none-past k h)
-      ]
-
-  mark-small : (k : ℕ) → k < 1600 → markAt marks k ≤ 1
-  mark-small k l =
-      elim (decLt k n) [
-        | yes h ↦
-            elim (decLt k 2) [
-              | yes low ↦ omega (arith, held k l (inl low))
-              | no high ↦ omega (arith, free k (omega arith) h)
-            ]
-        | no h ↦ omega (arith, held k l (inr (omega arith)))
-      ]
-
-  clash : claim marks hs .twice ≡ false → heldTwice (0 ∷ (1 ∷ hs)) ≡ false
-  clash e =
+  clash-held : clashes sector0 hs ≡ false → heldTwice (0 ∷ (1 ∷ hs)) ≡ false
+  clash-held e =
       once-held (0 ∷ (1 ∷ hs))
       (λ k.
       elim (decLt k n) [
-        | yes h ↦ omega (arith, below k h, claimed-once marks hs long e k (omega arith) (mark-small k (omega arith)) .1)
-        | no h ↦ omega (arith, outside k (omega arith))
+        | yes h ↦ omega (arith, inside k h, clash-once sector0 hs long e k (omega arith))
+        | no h ↦ omega (arith, all-count k, none-past k (omega arith), system-once k)
       ])
 
-  no-clash : heldTwice (0 ∷ (1 ∷ hs)) ≡ false → claim marks hs .twice ≡ false
-  no-clash e =
-      once-claimed marks hs long (λ k h. omega (arith, inside k h .1))
-      (λ k l.
+  held-clash : heldTwice (0 ∷ (1 ∷ hs)) ≡ false → clashes sector0 hs ≡ false
+  held-clash e =
+      once-clash sector0 hs long (λ k some. omega (arith, below k some))
+      (λ k low.
       elim (decLt k n) [
-        | yes h ↦ omega (arith, below k h, held-once (0 ∷ (1 ∷ hs)) e k)
-        | no h ↦ omega (arith, mark-small k l, none-past k (omega arith))
+        | yes h ↦ omega (arith, inside k h, held-once (0 ∷ (1 ∷ hs)) e k)
+        | no h ↦ omega (arith, bit-once sector0 k, none-past k (omega arith))
       ])
 
-  pub twice-is : claim marks hs .twice ≡ heldTwice (0 ∷ (1 ∷ hs))
-  twice-is = go (claim marks hs .twice) (heldTwice (0 ∷ (1 ∷ hs))) refl refl
+  pub clash-is : heldTwice (0 ∷ (1 ∷ hs)) ≡ clashes sector0 hs
+  clash-is = go (heldTwice (0 ∷ (1 ∷ hs))) (clashes sector0 hs) refl refl
     where
-      go : (s t : Bool) → claim marks hs .twice ≡ s → heldTwice (0 ∷ (1 ∷ hs)) ≡ t → s ≡ t
+      go : (s t : Bool) → heldTwice (0 ∷ (1 ∷ hs)) ≡ s → clashes sector0 hs ≡ t → s ≡ t
       go true true e f = refl
       go false false e f = refl
-      go true false e f = sym e ∙ no-clash f
-      go false true e f = sym (clash e) ∙ f
+      go true false e f = sym e ∙ clash-held f
+      go false true e f = sym (held-clash e) ∙ f
 
-  pub marks-are : claim marks hs .twice ≡ false → (k : ℕ) → k < 1600 → markAt (claim marks hs .marks) k ≡ taken n (0 ∷ (1 ∷ hs)) k
-  marks-are e k l =
-      let grown = claimed-once marks hs long e k l (mark-small k l) .0 in
-      elim (decLt k n) [
-        | yes h ↦ grown ∙ sym (taken-below n (0 ∷ (1 ∷ hs)) k h ∙ below k h)
-        | no h ↦ grown ∙ sym (taken-past n (0 ∷ (1 ∷ hs)) k (omega arith) ∙ omega (arith, held k l (inr (omega arith)), none-past k (omega arith)))
-      ]
+  pub map-left : heldTwice (0 ∷ (1 ∷ hs)) ≡ false → (k : ℕ) → k < 1600 → mapBit (markedAll 1 sector0 hs) k ≡ taken n (0 ∷ (1 ∷ hs)) k
+  map-left e = marked-holders n sector0 (0 ∷ (1 ∷ [])) hs (0 ∷ (1 ∷ hs)) long is (λ k. omega (arith, all-count k, held-once (0 ∷ (1 ∷ hs)) e k)) all-count
 
--- claims leave as many marks as there were
-pub claim-length : (marks hs : List ℕ) → length (claim marks hs .marks) ≡ length marks
-unfolding claim
-claim-length marks [] = refl
-claim-length marks (h ∷ hs) = go (isFree marks h) (claim-length (set marks h 1) hs)
-  where
-    go : (t : Bool) → length (claim (set marks h 1) hs .marks) ≡ length (set marks h 1) → length (cond t (claim (set marks h 1) hs) (claimed true marks) .marks) ≡ length marks
-    go true e = e ∙ simp length-set
-    go false e = refl
+-- the map's rule is the comparison of its 200 bytes with those of the holders
+map-compared : (n : ℕ) (hs sector0 : List ℕ) → length sector0 ≡ 256 → ((i : ℕ) → byteAt sector0 i < 256) → ((k : ℕ) → count k hs ≤ 1)
+    → same (part sector0 56 200) (mapOf n hs) ≡ mapRule n hs sector0
+map-compared n hs sector0 long small once =
+    same-test (same (part sector0 56 200) (mapOf n hs)) (mapRule n hs sector0)
+    (λ e. at-map n hs sector0 (map-of-bits n hs sector0 once (same-is (part sector0 56 200) (mapOf n hs) e)))
+    (λ e.
+    let bytes = map-of-bytes n hs sector0 (part-length sector0 56 200 (omega (arith, long))) small (map-at n hs sector0 e) in
+    rw bytes (is-same (mapOf n hs)))
 
--- The judge's marks: all one, then zero for sectors 2 to n - 1; on an image that has passed the tests before.
-module _ (image marks : List ℕ) (first : marks ≡ unmarked (replicate 1600 1) 2 (sectorCount image - 2)) (passed : FourPassed image) where
-  long : length marks ≡ 1600
-  long = ap length first ∙ unmarked-length (replicate 1600 1) 2 (sectorCount image - 2) ∙ length-replicate {A = ℕ} 1600 1
+-- the marks are the map of the sector 0 that they stand for, and bytes as it
+as-map-part : (marks : List ℕ) → length marks ≡ 200 → part (asMap marks) 56 200 ≡ marks
+unfolding asMap
+as-map-part marks long = part-behind (replicate 56 0) marks 56 0 200 (length-replicate {A = ℕ} 56 0) ∙ take-all 200 marks (omega (arith, long))
 
-  free : (k : ℕ) → 2 ≤ k → k < sectorCount image → markAt marks k ≡ 0
-  free k low high = ap (λ (m : List ℕ). markAt m k) first ∙ unmarked-inside (replicate 1600 1) 2 (sectorCount image - 2) k low (omega arith)
+as-map-below : (marks : List ℕ) → ((i : ℕ) → byteAt marks i < 256) → (i : ℕ) → byteAt (asMap marks) i < 256
+unfolding asMap
+as-map-below marks small i =
+    elim (decLt i 56) [
+      | yes low ↦ rw (List·getD-append (replicate 56 0) marks 0 i (rw (length-replicate {A = ℕ} 56 0) low), getD-replicate {A = ℕ} 56 i 0 0 low) (omega arith)
+      | no high ↦ let e : 56 + (i - 56) ≡ i = omega arith in rw e at (rw (← as-map-byte marks (i - 56)) at (small (i - 56)))
+    ]
 
-  held : (k : ℕ) → k < 1600 → (k < 2) ⊎ (sectorCount image ≤ k) → markAt marks k ≡ 1
-  held k l out = ap (λ (m : List ℕ). markAt m k) first ∙ unmarked-outside (replicate 1600 1) 2 (sectorCount image - 2) k (either out) ∙ getD-replicate {A = ℕ} 1600 k 1 0 l
-    where
-      either : (k < 2) ⊎ (sectorCount image ≤ k) → (k < 2) ⊎ (2 + (sectorCount image - 2) ≤ k)
-      either (inl low) = inl low
-      either (inr high) = let size = size-is image (passed .sized) in inr (omega (arith, size .1))
+byte-below : (bit : ℕ → ℕ) → ((k : ℕ) → bit k ≤ 1) → (k : ℕ) → byteOf bit k < 256
+unfolding byteOf
+byte-below bit once k = omega (arith, once k, once (k + 1), once (k + 2), once (k + 3), once (k + 4), once (k + 5), once (k + 6), once (k + 7))
 
-  inside : (k : ℕ) → 1 ≤ count k (fileHolders image (files image)) → (2 ≤ k) × (k < sectorCount image)
-  unfolding files
-  inside k =
-      file-holders-inside (sectorCount image) image (files image) k (index-is (sectorCount image) (sectorOf image 1) (passed .indexed) .range)
-      (descriptors-are (sectorCount image) image [] (files image) (passed .described))
+map-below : (n : ℕ) (hs : List ℕ) → ((k : ℕ) → count k hs ≤ 1) → (i : ℕ) → byteAt (mapOf n hs) i < 256
+unfolding mapOf
+map-below n hs once i =
+    elim (decLt i 200) [
+      | yes inside ↦ rw (bytes-at (taken n hs) 200 0 i inside) (byte-below (taken n hs) (taken-once n hs once) (0 + 8 * i))
+      | no past ↦ rw (List·getD-eq-default (mapOf n hs) 0 {n = i} (omega (arith, map-length n hs))) (omega arith)
+    ]
 
-  -- what the claims come to, and the marks that they leave
-  module _ (twice : Bool) (after : List ℕ) (is : claimed twice after ≡ claim marks (fileHolders image (files image))) where
+-- What the files hold, on an image that has passed the tests before, lies below its end.
+pub holders-below : (image : List ℕ) → FourPassed image → Below (sectorCount image) (fileHolders image (files image))
+unfolding files
+holders-below image passed k some =
+    file-holders-inside (sectorCount image) image (files image) k (index-is (sectorCount image) (sectorOf image 1) (passed .indexed) .range)
+    (descriptors-are (sectorCount image) image [] (files image) (passed .described)) some .1
+
+-- The judge's marks on such an image, first the map with the two system sectors held.
+module _ (image marks : List ℕ) (first : marks ≡ mapOf (sectorCount image) (run 0 2)) (passed : FourPassed image) where
+  long : length (asMap marks) ≡ 256
+  long = omega (arith, as-map-length marks, ap length first, map-length (sectorCount image) (run 0 2))
+
+  bits : (k : ℕ) → k < 1600 → mapBit (asMap marks) k ≡ taken (sectorCount image) (0 ∷ (1 ∷ [])) k
+  unfolding run
+  bits = map-of-bits (sectorCount image) (0 ∷ (1 ∷ [])) (asMap marks) system-once (as-map-part marks (ap length first ∙ map-length (sectorCount image) (run 0 2)) ∙ first)
+
+  -- whether a sector was claimed twice
+  module _ (twice : Bool) (is : twice ≡ clashes (asMap marks) (fileHolders image (files image))) where
     pub judged-twice : heldTwice (holders image) ≡ twice
     unfolding holders
     judged-twice =
         let size = size-is image (passed .sized) in
-        sym (ap (λ (r : Claimed). r .twice) is ∙ twice-is (sectorCount image) (fileHolders image (files image)) marks (size .1) (size .2) long free held inside)
+        clash-is (sectorCount image) (fileHolders image (files image)) (asMap marks) (size .1) (size .2) long bits (holders-below image passed) ∙ sym is
 
-    module _ (once : twice ≡ false) where
-      marks-taken : (k : ℕ) → k < 1600 → markAt after k ≡ taken (sectorCount image) (holders image) k
-      unfolding holders
-      marks-taken k l =
+    -- where none was, a map that is compared with the marks is compared with the holders
+    module _ (once : twice ≡ false) (after : List ℕ) (left : asMap after ≡ markedAll 1 (asMap marks) (fileHolders image (files image))) (kept : length after ≡ 200) where
+      single : (k : ℕ) → count k (holders image) ≤ 1
+      single = held-once (holders image) (judged-twice ∙ once)
+
+      after-is : after ≡ mapOf (sectorCount image) (holders image)
+      unfolding holders run
+      after-is =
           let size = size-is image (passed .sized) in
-          rw (ap (λ (r : Claimed). r .marks) is)
-          (marks-are (sectorCount image) (fileHolders image (files image)) marks (size .1) (size .2) long free held inside (sym (ap (λ (r : Claimed). r .twice) is) ∙ once) k l)
+          let hs = fileHolders image (files image) in
+          let whole = markedAll 1 (asMap marks) hs in
+          let as-long = all-length 1 (asMap marks) hs ∙ long in
+          sym (as-map-part after kept) ∙ ap (λ (s : List ℕ). part s 56 200) left
+          ∙ map-of-bytes (sectorCount image) (holders image) whole (part-length whole 56 200 (omega (arith, as-long)))
+          (all-below 1 (omega arith) (asMap marks) hs (as-map-below marks (rw first (map-below (sectorCount image) (0 ∷ (1 ∷ [])) system-once))))
+          (map-left (sectorCount image) hs (asMap marks) (size .1) (size .2) long bits (holders-below image passed) (judged-twice ∙ once))
 
-      pub judged-small : (k : ℕ) → markAt after k ≤ 1
-      judged-small k =
-          elim (decLt k 1600) [
-            | yes l ↦ rw (marks-taken k l) (taken-once (sectorCount image) (holders image) (held-once (holders image) (judged-twice ∙ once)) k)
-            | no l ↦
-                let kept = ap (λ (r : Claimed). length (r .marks)) is ∙ claim-length marks (fileHolders image (files image)) in
-                let none = List·getD-eq-default after 0 {n = k} (omega (arith, kept, long)) in
-                omega arith
-          ]
-
-      -- a map that is compared with them is compared with the holders
       pub judged-map : (map sector0 : List ℕ) → map ≡ part sector0 56 200 → sector0 ≡ sectorOf image 0 → ((i : ℕ) → byteAt image i < 256)
-          → bytesRule (markAt after) map 200 0 ≡ mapRule (sectorCount image) (holders image) (sectorOf image 0)
-      unfolding mapRule
-      judged-map map sector0 cut read below =
-          rw (cut, read) (map-bits (markAt after) (sectorOf image 0) judged-small (sector-below image 0 256 (omega arith) below))
-          ∙ bits-agree (markAt after) (taken (sectorCount image) (holders image)) (sectorOf image 0) 1600 0 (λ k low high. marks-taken k (omega arith))
+          → same map after ≡ mapRule (sectorCount image) (holders image) (sectorOf image 0)
+      judged-map map sector0 cut read small =
+          let size = size-is image (passed .sized) in
+          rw (cut, read, after-is)
+          (map-compared (sectorCount image) (holders image) (sectorOf image 0) (sector-length image 0 (omega (arith, size .0, size .1)))
+          (sector-below image 0 256 (omega arith) small) single)

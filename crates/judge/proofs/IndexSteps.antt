@@ -2,7 +2,7 @@
 use mathlib.Core.Path.{_≡_}
 use mathlib.Core.Bool.{Bool, true, _&&_}
 use mathlib.Core.List.{List, [], _∷_}
-use Prim.Native.Nat.{ℕ, suc, _+_, _*_}
+use Prim.Native.Nat.{ℕ, suc, _+_, _*_, _<_}
 use native.Mathlib.Omega.{arith}
 use lib.Dec.{leb, ltb}
 use lib.ListN.{length, drop}
@@ -14,7 +14,7 @@ use Rattle.rules.specs.Name.{precedes}
 use Rattle.rules.specs.Descriptor.{nameOf, descriptorRule}
 use Rattle.rules.specs.Volume.{nameIn}
 use Rattle.rules.specs.Verdict.{descriptorsRule}
-use Rattle.rules.proofs.Tests.{same-test}
+use Rattle.rules.proofs.Tests.{both, same-test}
 
 -- what is tested where the numbers end, and the rule of what is left
 abbrev pub indexEnd : List ℕ → ℕ → Bool
@@ -49,6 +49,14 @@ module _ (n : ℕ) (sector1 : List ℕ) (at : ℕ) where
   index-past none =
       let e : at + 2 * 0 ≡ at = omega arith in
       rw (none, e)
+
+-- a number in range, and those behind it
+pub range-step : (n k : ℕ) (ks more : List ℕ) → rangeRule n ks ≡ true → ks ≡ k ∷ more → (k < n) × (rangeRule n more ≡ true)
+unfolding rangeRule
+range-step n k ks more ranged here =
+    let low = both (leb 2 k) (ltb k n && rangeRule n more) (rw here at ranged) in
+    let high = both (ltb k n) (rangeRule n more) (low .1) in
+    (ltb-true k n (high .0), high .1)
 
 -- the descriptors
 module _ (n : ℕ) (image previous ks : List ℕ) where

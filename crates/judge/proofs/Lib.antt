@@ -1,7 +1,7 @@
 -- The laws that the proofs share: a turn of each loop, said of the definitions, and what the marks mean.
 mod IndexSteps
 mod ChainSteps
-mod ClaimSteps
 mod MarkLaws
+mod ClaimSteps
 mod VerdictSteps
 mod ClaimLaws

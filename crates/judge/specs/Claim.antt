@@ -1,43 +1,25 @@
--- The marks, a number for each sector, zero where it is free: sectors claimed on them one after another, up to the first that is taken already.
+-- The marks of the judge's loop over the holders: 200 bytes in the map's own order, on which sectors are claimed one after another.
 use mathlib.Core.Bool.{Bool, true, false, cond, _&&_}
-use mathlib.Core.List.{List, [], _∷_}
-use Prim.Native.Nat.{ℕ, zero, suc, _+_, _*_}
-use lib.Dec.{eqb, ltb}
-use lib.ListN.{getD, set}
-use Rattle.rules.specs.Bytes.{byteAt}
-use Rattle.rules.specs.Map.{byteOf}
+use mathlib.Core.List.{List, [], _∷_, _++_}
+use Prim.Native.Nat.{ℕ, _≤_, _<_}
+use lib.Dec.{eqb}
+use lib.ListN.{replicate}
+use Rattle.rules.specs.Map.{mapBit, count, marked}
 
-abbrev pub markAt : List ℕ → ℕ → ℕ
-markAt marks k = getD marks k 0
+-- the marks as the map of a sector 0; what stands before the map is of no account
+unfoldable pub asMap : List ℕ → List ℕ
+asMap marks = replicate 56 0 ++ marks
 
--- two and four marks from sector k on as a number, the first of them lowest
-abbrev pub twoMarks : List ℕ → ℕ → ℕ
-twoMarks marks k = markAt marks k + 2 * markAt marks (k + 1)
+-- none of these sectors is taken
+unfoldable pub allFree : List ℕ → List ℕ → Bool
+allFree sector0 [] = true
+allFree sector0 (k ∷ ks) = eqb (mapBit sector0 k) 0 && allFree sector0 ks
 
-abbrev pub fourMarks : List ℕ → ℕ → ℕ
-fourMarks marks k = twoMarks marks k + 4 * twoMarks marks (k + 2)
+-- one of these sectors is taken when its turn comes: by the map, or by one that came before it
+unfoldable pub clashes : List ℕ → List ℕ → Bool
+clashes sector0 [] = false
+clashes sector0 (k ∷ ks) = cond (eqb (mapBit sector0 k) 0) (clashes (marked 1 sector0 k) ks) true
 
--- `many` bytes of a map from byte i on are those that the bits make, eight for each
-unfoldable pub bytesRule : (ℕ → ℕ) → List ℕ → ℕ → ℕ → Bool
-bytesRule bit map zero i = true
-bytesRule bit map (suc many) i = eqb (byteAt map i) (byteOf bit (8 * i)) && bytesRule bit map many (i + 1)
-
--- `many` marks from sector k on become zero
-unfoldable pub unmarked : List ℕ → ℕ → ℕ → List ℕ
-unmarked marks k zero = marks
-unmarked marks k (suc many) = unmarked (set marks k 0) (k + 1) many
-
-unfoldable pub isFree : List ℕ → ℕ → Bool
-isFree marks k = ltb k 1600 && eqb (markAt marks k) 0
-
--- whether a sector was claimed twice, and the marks that are left
-pub record Claimed : Type 0 where
-  pub twice : Bool
-  pub marks : List ℕ
-
-abbrev pub claimed : Bool → List ℕ → Claimed
-claimed twice marks = record { twice = twice; marks = marks }
-
-unfoldable pub claim : List ℕ → List ℕ → Claimed
-claim marks [] = claimed false marks
-claim marks (h ∷ holders) = cond (isFree marks h) (claim (set marks h 1) holders) (claimed true marks)
+-- these sectors are below n
+abbrev pub Below : ℕ → List ℕ → Type 0
+Below n ks = (k : ℕ) → 1 ≤ count k ks → k < n

@@ -1,8 +1,12 @@
 // The descriptors: test 4.
 ghost use mathlib.Core.Path.{_≡_};
+ghost use mathlib.Core.Bool.{true};
 ghost use mathlib.Core.List.{[]};
+ghost use Prim.Native.Nat.{_*_, _≤_};
+ghost use lib.ListN.{length};
 ghost use Rattle.rules.specs.Chain.{chainRule};
 ghost use Rattle.rules.specs.Descriptor.{descriptorRule};
+ghost use Rattle.rules.specs.Index.{rangeRule};
 ghost use Rattle.rules.specs.Kind.{kindRule};
 ghost use Rattle.rules.specs.Verdict.{descriptorsRule};
 ghost use Rattle.rules.specs.Volume.{files};
@@ -16,7 +20,7 @@ use rules::Kind;
 use sector::bytes::all_are;
 use sector::bytes::byte;
 use sector::bytes::part;
-use sector::bytes::sector_of;
+use sector::bytes::sector_in;
 use sector::bytes::word;
 use sector::numbers::number_at;
 
@@ -83,9 +87,10 @@ fn descriptor_rule(n: usize, descriptor: &[u8]) -> bool
 }
 
 pub(crate) fn descriptors_rule(n: usize, image: &[u8]) -> bool
+    requires { ⌜ (2 ≤ n) × (length (now image) ≡ 256 * n) × (rangeRule n (files (now image)) ≡ true) ⌝ }
     ensures { λ r. ⌜ r ≡ descriptorsRule n (now (image .entry)) [] (files (now (image .entry))) ⌝ }
 {
-    let sector1 = sector_of(image, 1);
+    let sector1 = sector_in(image, 1);
     let mut previous = part(image, 0, 0);
     let mut at = 0;
     loop {
@@ -93,7 +98,7 @@ pub(crate) fn descriptors_rule(n: usize, image: &[u8]) -> bool
         if k == 0 {
             return true;
         }
-        let descriptor = sector_of(image, k);
+        let descriptor = sector_in(image, k);
         if !descriptor_rule(n, descriptor) {
             return false;
         }

@@ -1,48 +1,38 @@
-// The holders: test 5. The marks are a byte for each of 1,600 sectors, one where it is taken.
+// The holders: test 5.
 ghost use mathlib.Core.Path.{_≡_};
-ghost use mathlib.Core.Bool.{cond};
-ghost use Prim.Native.Nat.{_-_, _≤_};
-ghost use lib.ListN.{set};
+ghost use mathlib.Core.Bool.{false};
+ghost use Prim.Native.Nat.{_+_, _%_, _≤_, _<_};
+ghost use lib.ListN.{length};
+ghost use Rattle.rules.specs.Sectors.{sectorCount};
+ghost use Rattle.rules.specs.Map.{markedAll};
 ghost use Rattle.rules.specs.Volume.{files, fileHolders};
-ghost use Rattle.judge.specs.Claim.{unmarked, isFree, claim, claimed};
+ghost use Rattle.judge.specs.Claim.{asMap, clashes, Below};
+use crate::marks::take;
 use descriptor::chain::Cursor;
 use descriptor::chain::Step;
 use sector::bytes::part;
-use sector::bytes::sector_of;
+use sector::bytes::sector_in;
 use sector::numbers::number_at;
 
-// The marks of sectors 2 to n - 1 become zero.
-pub(crate) fn unmark(marks: &mut [u8; 1600], n: usize)
-    requires { ⌜ (2 ≤ n) × (n ≤ 1600) ⌝ }
-    ensures { λ _. ⌜ now (marks .exit) ≡ unmarked (now (marks .entry)) 2 (n - 2) ⌝ }
+// How many of the `left` sectors behind sector k are taken with it: those that share its byte of the marks.
+fn beside(k: usize, left: usize) -> usize
+    ensures { λ r. ⌜ (r ≤ left) × (k % 8 + r < 8) ⌝ }
 {
-    let mut k = 2;
-    while k < n {
-        marks[k] = 0;
-        k += 1;
+    let room = 7 - k % 8;
+    if left < room {
+        return left;
     }
-}
-
-// Marks sector k, and answers whether it was free.
-fn take(marks: &mut [u8; 1600], k: usize) -> bool
-    ensures { λ r. ⌜ (r ≡ isFree (now (marks .entry)) k) × (now (marks .exit) ≡ cond (isFree (now (marks .entry)) k) (set (now (marks .entry)) k 1) (now (marks .entry))) ⌝ }
-{
-    if k >= 1600 {
-        return false;
-    }
-    if marks[k] != 0 {
-        return false;
-    }
-    marks[k] = 1;
-    true
+    room
 }
 
 // Marks each file's sectors, the descriptor's and then its places, and answers whether one was taken already:
 // it stops at the first sector claimed twice.
-pub(crate) fn claim_files(image: &[u8], marks: &mut [u8; 1600]) -> bool
-    ensures { λ r. ⌜ claimed r (now (marks .exit)) ≡ claim (now (marks .entry)) (fileHolders (now (image .entry)) (files (now (image .entry)))) ⌝ }
+pub(crate) fn claim_files(image: &[u8], marks: &mut [u8]) -> bool
+    requires { ⌜ (length (now marks) ≡ 200) × (2 ≤ sectorCount (now image)) × (sectorCount (now image) ≤ 1600) × Below (sectorCount (now image)) (fileHolders (now image) (files (now image))) ⌝ }
+    ensures { λ r. ⌜ r ≡ clashes (asMap (now (marks .entry))) (fileHolders (now (image .entry)) (files (now (image .entry)))) ⌝ }
+    ensures { λ r. ⌜ (r ≡ false → asMap (now (marks .exit)) ≡ markedAll 1 (asMap (now (marks .entry))) (fileHolders (now (image .entry)) (files (now (image .entry))))) ⌝ }
 {
-    let sector1 = sector_of(image, 1);
+    let sector1 = sector_in(image, 1);
     let mut twice = false;
     let mut at = 0;
     'files: loop {
@@ -50,21 +40,22 @@ pub(crate) fn claim_files(image: &[u8], marks: &mut [u8; 1600]) -> bool
         if k == 0 {
             break 'files;
         }
-        if !take(marks, k) {
+        if !take(marks, k, 0) {
             twice = true;
             break 'files;
         }
-        let chain = part(sector_of(image, k), 28, 228);
+        let chain = part(sector_in(image, k), 28, 228);
         let mut cursor = Cursor::first();
         loop {
             let Step::Place(place, next) = cursor.step(chain) else {
                 break;
             };
-            if !take(marks, place) {
+            let more = beside(place, next.left);
+            if !take(marks, place, more) {
                 twice = true;
                 break 'files;
             }
-            cursor = next;
+            cursor = next.past(more);
         }
         at += 2;
     }

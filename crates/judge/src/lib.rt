@@ -5,15 +5,15 @@ ghost use Rattle.rules.specs.Verdict.{verdict};
 
 mod files;
 mod holders;
-mod map;
+mod marks;
 mod system;
 
 use files::descriptors_rule;
 use holders::claim_files;
-use holders::unmark;
-use map::map_rule;
+use map::laid::lay_map;
+use marks::map_rule;
 use sector::bytes::part;
-use sector::bytes::sector_of;
+use sector::bytes::sector_in;
 use system::index_rule;
 use system::label_rule;
 
@@ -31,18 +31,18 @@ pub fn judge(image: &[u8]) -> u32
     if n > 1600 {
         return 1;
     }
-    let sector0 = sector_of(image, 0);
+    let sector0 = sector_in(image, 0);
     if !label_rule(n, sector0) {
         return 2;
     }
-    if !index_rule(n, sector_of(image, 1)) {
+    if !index_rule(n, sector_in(image, 1)) {
         return 3;
     }
     if !descriptors_rule(n, image) {
         return 4;
     }
-    let mut marks = [1u8; 1600];
-    unmark(&mut marks, n);
+    let mut marks = [0u8; 200];
+    lay_map(&mut marks, n, 2);
     if claim_files(image, &mut marks) {
         return 5;
     }

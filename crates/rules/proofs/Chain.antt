@@ -16,7 +16,7 @@ use Rattle.rules.specs.Chain.{blockBytes, blockOf, endsChain, blocks, bl
 use Rattle.rules.specs.Map.{count}
 use Rattle.rules.proofs.Tests.{both}
 use Rattle.rules.proofs.Bytes.{drop-three, zeros-at, at-zeros}
-use Rattle.rules.proofs.Map.{count-none, count-other, count-at, count-append}
+use Rattle.rules.proofs.Map.{count-none, count-here, count-other, count-at, count-append}
 
 -- a block is had back from its bytes
 pub same-block : (s o s′ o′ : ℕ) → s ≡ s′ → o ≡ o′ → _≡_ {A = Block} (record { start = s; last = o }) (record { start = s′; last = o′ })
@@ -117,6 +117,19 @@ run-holds p s (suc many) h =
       | no there ↦
           let rest = run-holds p (s + 1) many (omega (arith, count-other p s (run (s + 1) many) there)) in
           (omega arith, omega arith)
+    ]
+
+pub run-once : (k s many : ℕ) → count k (run s many) ≤ 1
+unfolding run
+run-once k s zero = omega (arith, count-none k)
+run-once k s (suc many) =
+    elim (ℕ-discrete s k) [
+      | yes here ↦
+          elim (decLt 0 (count k (run (s + 1) many))) [
+            | yes again ↦ absurd (omega (arith, here, run-holds k (s + 1) many again))
+            | no none ↦ rw here (omega (arith, count-here k (run (k + 1) many), rw here at none))
+          ]
+      | no other ↦ omega (arith, count-other k s (run (s + 1) many) other, run-once k (s + 1) many)
     ]
 
 pub run-counts : (p s many : ℕ) → s ≤ p → p < s + many → 1 ≤ count p (run s many)

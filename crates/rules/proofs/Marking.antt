@@ -1,6 +1,6 @@
 -- Marking: sector 0 with the bit of one sector, or of several, made one or zero. The bits marked are as said, and all else stays.
 use mathlib.Core.Path.{_≡_, refl, sym, ap, _∙_}
-use mathlib.Core.List.{List, [], _∷_}
+use mathlib.Core.List.{List, [], _∷_, _++_}
 use Prim.Native.Nat.{ℕ, zero, suc, _+_, _-_, _*_, _/_, _%_, _^_, _≤_, _<_}
 use native.Mathlib.Omega.{arith}
 use native.Mathlib.Nat.{add-mul, mod-lt, mul-suc}
@@ -120,6 +120,11 @@ module _ (bit : ℕ) where
   all-length sector0 [] = refl
   all-length sector0 (k ∷ ks) = all-length (marked bit sector0 k) ks ∙ marked-length bit sector0 k
 
+  pub all-append : (sector0 ks js : List ℕ) → markedAll bit sector0 (ks ++ js) ≡ markedAll bit (markedAll bit sector0 ks) js
+  unfolding markedAll
+  all-append sector0 [] js = refl
+  all-append sector0 (k ∷ ks) js = all-append (marked bit sector0 k) ks js
+
   pub all-label : (sector0 ks : List ℕ) (i : ℕ) → i < 56 → byteAt (markedAll bit sector0 ks) i ≡ byteAt sector0 i
   unfolding markedAll
   all-label sector0 [] i h = refl
@@ -185,7 +190,7 @@ module _ (n : ℕ) (sector0 hs js hs′ : List ℕ) (long : length sector0 ≡ 2
       ]
 
 -- the free count: each bit that is made changes it by itself alone
-bit-once : (sector0 : List ℕ) (k : ℕ) → mapBit sector0 k ≤ 1
+pub bit-once : (sector0 : List ℕ) (k : ℕ) → mapBit sector0 k ≤ 1
 unfolding mapBit
 bit-once sector0 k = omega arith
 

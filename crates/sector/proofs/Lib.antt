@@ -1,3 +1,3 @@
 -- The laws that the leaves' proofs share.
-mod Differing
+pub mod Differing
 pub mod Front

@@ -1,7 +1,7 @@
 // Readings that are total: past the end stand zeros, and a part is as long as what is there.
 ghost use mathlib.Core.Path.{_≡_};
-ghost use Prim.Native.Nat.{_+_, _*_, _<_};
-ghost use lib.ListN.{drop};
+ghost use Prim.Native.Nat.{_+_, _*_, _≤_, _<_};
+ghost use lib.ListN.{length, drop};
 ghost use Rattle.rules.specs.Bytes.{byteAt, wordAt, part, allAre, same};
 ghost use Rattle.rules.specs.Sectors.{sectorOf};
 
@@ -44,6 +44,16 @@ pub fn sector_of(image: &[u8], k: usize) -> &[u8]
     ensures { λ r. ⌜ now r ≡ sectorOf (now (image .entry)) k ⌝ }
 {
     part(image, 256 * k, 256)
+}
+
+// The same of a sector that is known to lie in the image: nothing is tested, and the compiler knows that it has 256 bytes.
+pub fn sector_in(image: &[u8], k: usize) -> &[u8]
+    requires { ⌜ 256 * k + 256 ≤ length (now image) ⌝ }
+    ensures { λ r. ⌜ now r ≡ sectorOf (now (image .entry)) k ⌝ }
+{
+    let at = 256 * k;
+    let end = at + 256;
+    &image[at..end]
 }
 
 // Whether all bytes from `from` on are `value`. There is no early way out, so that the compiler takes many bytes a step.

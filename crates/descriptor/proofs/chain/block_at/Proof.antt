@@ -1,5 +1,7 @@
 -- `descriptor::chain::block_at` meets its contract: too few bytes, three zeros, or a block, by the law of the blocks for each. Assumes nothing.
 use mathlib.Core.Path.{sym, _∙_}
+use native.Mathlib.Omega.{arith}
+use borrow.Author.Tests.{eq-eqb, ne-eqb}
 use Rattle.rules.proofs.Chain.{blocks-step, blocks-end, blocks-short}
 use Rattle.descriptor.specs.Walk.{BlocksFrom}
 use borrow.Author.Needs.{needs}
@@ -11,23 +13,23 @@ unfolding BlocksFrom
 returns c = blocks-short _ _ (c .if1 .taken)
 
 -- there are three bytes
-abbrev long : tie.After-ends-chain → tie.Else1
+abbrev long : tie.After-fields-of → tie.Else1
 long c = c .before .before .before .before
 
 returns-2 : tie.Need-returns-2
 unfolding BlocksFrom
-returns-2 c = let e = c .before in blocks-end _ _ (long e .if1 .left) (sym (e .ends-chain .ensures) ∙ c .if2 .taken)
+returns-2 c = let f = c .before in blocks-end _ _ (long f .if1 .left) (sym (f .fields-of .ensures .0) ∙ eq-eqb _ 0 (c .if2 .taken))
 
 returns-3 : tie.Need-returns-3
 unfolding BlocksFrom
 returns-3 c =
-    let e = c .before .before in
-    let block = c .block-of .ensures in
+    let f = c .before in
+    let fields = f .fields-of .ensures in
     record {
-      is = rw (block .0) (blocks-step _ _ (long e .if1 .left) (sym (e .ends-chain .ensures) ∙ c .before .if2 .left));
-      inside = long e .if1 .left;
-      start = block .1;
-      last = block .2;
+      is = rw (fields .1) (blocks-step _ _ (long f .if1 .left) (sym (fields .0) ∙ ne-eqb _ 0 (c .if2 .left)));
+      inside = long f .if1 .left;
+      start = omega arith;
+      last = omega (arith, fields .2);
     }
 
 pub block-at-spec : {M : Type 1} → statement M
@@ -43,5 +45,4 @@ block-at-spec =
     (λ c. search needs)
     (λ c κs. search needs)
     returns-2
-    (λ c κs. search needs)
     returns-3)

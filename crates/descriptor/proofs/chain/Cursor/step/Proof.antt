@@ -1,4 +1,5 @@
 -- `descriptor::chain::Cursor::step` meets its contract: the next place of the present block, the first of the block met, or the end, by the law of what is ahead for each. Assumes nothing.
+use mathlib.Core.Path.{refl}
 use native.Mathlib.Omega.{arith}
 use Rattle.descriptor.specs.Walk.{BlockHere}
 use Rattle.descriptor.specs.Cursor.{Stepped}
@@ -12,7 +13,7 @@ returns : tie.Need-returns
 unfolding Stepped
 returns c =
     let a = c .before .before .args in
-    (in-block (a .chain .now) (a .self) (c .if1 .taken), record { inside = search needs; small = search needs }, search needs)
+    (in-block (a .chain .now) (a .self) (c .if1 .taken), record { inside = search needs; small = search needs }, search needs, refl)
 
 returns-2 : tie.Need-returns-2
 unfolding Stepped
@@ -38,6 +39,7 @@ returns-3 c =
       rw (c .less .ensures) (next-block _ _ (between .if1 .left) _ (b .is)),
       record { inside = b .inside; small = omega (arith, c .less .ensures) },
       omega arith,
+      refl,
     )
 
 pub step-spec : {M : Type 1} → statement M
