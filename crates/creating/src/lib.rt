@@ -2,20 +2,23 @@
 // writes of the rules' definition laid over it; a refusal has none.
 ghost use mathlib.Core.Path.{_≡_};
 ghost use mathlib.Core.Bool.{true};
+ghost use Prim.Native.Nat.{_*_, _<_};
+ghost use lib.ListN.{length};
+ghost use Rattle.rules.specs.Bytes.{splice};
 ghost use Rattle.rules.specs.Name.{nameRule};
+ghost use Rattle.rules.specs.Descriptor.{newDescriptor};
 ghost use Rattle.rules.specs.Sound.{Sound};
 ghost use Rattle.rules.specs.Outcome.{Meets};
 ghost use Rattle.rules.specs.Calls.Create.{createStatus, creating, createOf};
 use descriptor::header::new_descriptor;
 use index::enter;
-use index::index_with;
 use map::bits::mark;
 use map::choice::descriptor_choice;
 use map::free::free_count_of;
 use opening::find;
 use rules::Answer;
 use rules::Opened;
-use sector::buffer::copy;
+use sector::buffer::write_sector;
 use sector::bytes::sector_of;
 use sector::bytes::word;
 
@@ -35,6 +38,30 @@ fn create_status(status: u8) -> bool
     status == 0x82
 }
 
+// The descriptor of the new file, written to sector k.
+fn write_descriptor(
+    image: &mut [u8],
+    k: usize,
+    name: &[u8],
+    status: u8,
+    records_per_sector: u8,
+    record_length: u8,
+)
+    requires { ⌜ (k < 65536) × (length (now name) ≡ 10) ⌝ }
+    ensures { λ _. ⌜ now (image .exit) ≡ splice (now (image .entry)) (256 * k) (newDescriptor (now (name .entry)) status «records_per_sector» 0 «record_length») ⌝ }
+{
+    let mut descriptor = [0u8; 256];
+    new_descriptor(
+        &mut descriptor,
+        name,
+        status,
+        records_per_sector,
+        0,
+        record_length,
+    );
+    write_sector(image, k, &descriptor);
+}
+
 // On a sound volume, under a name that keeps the rule and is not there.
 fn create_new(
     image: &mut [u8],
@@ -49,28 +76,17 @@ fn create_new(
     if !create_status(status) {
         return Answer::Refused(15);
     }
-    if word(sector_of(image, 1), 252) != 0 {
+    // the 127th number of sector 1
+    if word(image, 508) != 0 {
         return Answer::Refused(11);
     }
     if free_count_of(sector_of(image, 0)) == 0 {
         return Answer::Refused(12);
     }
     let k = descriptor_choice(sector_of(image, 0));
-    let mut descriptor = [0u8; 256];
-    new_descriptor(
-        &mut descriptor,
-        name,
-        status,
-        records_per_sector,
-        0,
-        record_length,
-    );
-    let mut sector0 = [0u8; 256];
-    copy(&mut sector0, sector_of(image, 0));
-    mark(&mut sector0, k);
-    let mut index = [0u8; 256];
-    index_with(&mut index, image, sector_of(image, 1), name, k);
-    enter(image, k, &descriptor, &sector0, &index);
+    write_descriptor(image, k, name, status, records_per_sector, record_length);
+    mark(&mut image[0..256], k);
+    enter(image, name, k);
     Answer::Done
 }
 

@@ -28,29 +28,15 @@ use Rattle.rules.proofs.Indexed.{placed-length, index-length}
 use Rattle.rules.proofs.Listed.{label-long, sector-inside, held-inside}
 use Rattle.rules.proofs.Replaced.{none, at, Replaced, taken-once, index-anew, taken-mapped}
 use Rattle.rules.proofs.Splice.{splice-length}
-use Rattle.rules.proofs.Written.{sector-same, Whole, Apart, written-length, written-both, written-apart, written-at}
+use Rattle.rules.proofs.Written.{sector-same, Whole, Apart, written-length, written-both, written-apart, written-at, piece-length, data-whole, data-apart}
 use Rattle.demands.specs.Catalogue.{putIn}
 use Rattle.demands.specs.Effects.{effect, Done, newHeader, pieces}
 use Rattle.demands.specs.Taking.{ForDescriptor, Takes}
 use Rattle.demands.specs.Touches.{Enters}
 use Rattle.demands.proofs.Replacing.{catalogue-after, replaced-done, numbers-after, lies-after}
 use Rattle.demands.proofs.NewFile.{descriptorWith, made-length, made-header, made-name, made-chain, made-places, made-rules}
-use Rattle.demands.proofs.Pieces.{piece-length}
 
--- the data, to sectors of the image that are named once each
-data-whole : (size : ℕ) (bytes ks : List ℕ) → ((j : ℕ) → 1 ≤ count j ks → 256 * j + 256 ≤ size) → Whole size (dataWrites bytes ks)
-unfolding Whole dataWrites
-data-whole size bytes [] inside = tt
-data-whole size bytes (k ∷ ks) inside =
-    (piece-length bytes, inside k (omega (arith, count-here k ks)), data-whole size (drop 256 bytes) ks (λ j h. inside j (omega (arith, h, count-more j k ks))))
-
-data-apart : (bytes ks : List ℕ) (j : ℕ) → count j ks ≡ 0 → Apart j (dataWrites bytes ks)
-unfolding Apart dataWrites
-data-apart bytes [] j other = tt
-data-apart bytes (k ∷ ks) j other =
-    ((λ e. omega (arith, count-here j ks, rw (← e) at other)), data-apart (drop 256 bytes) ks j (omega (arith, other, count-more j k ks)))
-
--- read of an image in which they still stand
+-- the data, read of an image in which they still stand
 data-read : (image after bytes ks : List ℕ) → ((j : ℕ) → count j ks ≤ 1) → ((j : ℕ) → 1 ≤ count j ks → 256 * j + 256 ≤ length image)
     → ((j : ℕ) → 1 ≤ count j ks → sectorOf after j ≡ sectorOf (written image (dataWrites bytes ks)) j) → map (sectorOf after) ks ≡ pieces (length ks) bytes
 unfolding written dataWrites pieces

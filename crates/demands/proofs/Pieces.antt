@@ -11,15 +11,12 @@ use Rattle.rules.specs.Bytes.{over, splice}
 use Rattle.rules.specs.Name.{precedes}
 use Rattle.rules.specs.Volume.{File}
 use Rattle.rules.specs.Sectors.{joined}
-use Rattle.rules.proofs.Splice.{splice-length, splice-front}
+use Rattle.rules.proofs.Splice.{splice-front}
+use Rattle.rules.proofs.Written.{piece-length}
 use Rattle.demands.specs.Catalogue.{fileName, noFile, putIn}
 use Rattle.demands.specs.Effects.{pieces}
 
--- a sector of the data
-pub piece-length : (bytes : List ℕ) → length (over (replicate 256 0) bytes) ≡ 256
-unfolding splice
-piece-length bytes = splice-length (replicate 256 0) 0 bytes ∙ length-replicate {A = ℕ} 256 0
-
+-- as many as were asked for
 pub pieces-length : (many : ℕ) (bytes : List ℕ) → length (pieces many bytes) ≡ many
 unfolding pieces
 pieces-length zero bytes = refl

@@ -1,17 +1,65 @@
--- A new file's last three writes behind those of its data are what enters it.
-use mathlib.Core.Path.{_≡_, _∙_}
-use mathlib.Core.List.{List, [], _∷_, _++_}
-use Prim.Native.Nat.{ℕ}
-use Rattle.rules.specs.Sectors.{Write, written}
+-- A new file's sectors were free, so what its last write reads stands as it stood before the first one: sector 1, and the descriptors of the files. The writes one after the other
+-- are then those that enter it. Assumes nothing.
+use mathlib.Core.Path.{_≡_, sym, ap, _∙_}
+use mathlib.Core.List.{List, [], _∷_, _++_, append-assoc}
+use Prim.Native.Nat.{ℕ, _+_, _*_, _≤_}
+use native.Mathlib.Omega.{arith}
+use native.Mathlib.Decide.{decLt}
+use lib.ListN.{length}
+use Rattle.rules.specs.Sectors.{sectorOf, sectorCount, Write, written}
+use Rattle.rules.specs.Map.{count}
 use Rattle.rules.specs.Index.{indexOf}
-use Rattle.rules.specs.Volume.{files, placed}
+use Rattle.rules.specs.Volume.{files, placesIn, holders, placed}
+use Rattle.rules.specs.Sound.{Sound}
 use Rattle.rules.specs.Outcome.{write}
 use Rattle.rules.specs.Calls.Create.{entered}
-use Rattle.rules.proofs.Written.{written-both}
+use Rattle.rules.specs.Calls.Store.{dataWrites}
+use Rattle.rules.proofs.Map.{count-here, count-more, count-apart}
+use Rattle.rules.proofs.Choice.{Chosen}
+use Rattle.rules.proofs.Staying.{placed-kept, file-held, system-held, free-unheld}
+use Rattle.rules.proofs.Listed.{sector-inside, listed-range}
+use Rattle.rules.proofs.Written.{Whole, Apart, written-length, written-both, written-apart, data-whole, data-apart}
 
-pub written-entered : (image name : List ℕ) (k : ℕ) (first : List Write) (descriptor sector0 : List ℕ) (data-there made laid index after : List ℕ)
-    → data-there ≡ written image first → made ≡ descriptor → laid ≡ sector0 → index ≡ indexOf (placed image name k (files image))
-    → after ≡ written data-there (write k made ∷ (write 0 laid ∷ (write 1 index ∷ []))) → after ≡ written image (first ++ entered image name k descriptor sector0)
-unfolding entered
-written-entered image name k first descriptor sector0 data-there made laid index after data-is made-is laid-is index-is after-is =
-    after-is ∙ rw (data-is, made-is, laid-is, index-is) (written-both image first (entered image name k descriptor sector0))
+-- the data to the sectors ks, and the descriptor to sector k
+module _ (image name bytes : List ℕ) (k : ℕ) (ks descriptor sector0 : List ℕ) (is : Sound image) (free : (j : ℕ) → 1 ≤ count j (k ∷ ks) → Chosen (sectorCount image) (sectorOf image 0) j)
+    (long : length descriptor ≡ 256) (long′ : length sector0 ≡ 256) where
+  abbrev laid : List ℕ
+  laid = written image (dataWrites bytes ks)
+
+  abbrev last : List Write
+  last = write k descriptor ∷ (write 0 sector0 ∷ [])
+
+  fits : (j : ℕ) → 1 ≤ count j (k ∷ ks) → 256 * j + 256 ≤ length image
+  fits j some = sector-inside image is j (free j some .inside)
+
+  -- what is held was not free
+  other : (j : ℕ) → 1 ≤ count j (holders image) → count j (k ∷ ks) ≡ 0
+  other j held =
+      elim (decLt 0 (count j (k ∷ ks))) [
+        | yes some ↦ let chosen = free j some in absurd (omega (arith, held, free-unheld image j is (chosen .inside) (chosen .free)))
+        | no none ↦ omega arith
+      ]
+
+  stands : (j : ℕ) → (j ≡ 0 → ⊥) → 1 ≤ count j (holders image) → sectorOf (written image (dataWrites bytes ks ++ last)) j ≡ sectorOf image j
+  unfolding Whole Apart
+  stands j some held =
+      let apart = count-apart j k ks (other j held) in
+      let here = fits k (omega (arith, count-here k ks)) in
+      let size = written-length image (dataWrites bytes ks) in
+      ap (λ (i : List ℕ). sectorOf i j) (sym (written-both image (dataWrites bytes ks) last))
+      ∙ written-apart laid last j (long, omega (arith, here, size), (long′, omega (arith, here, size), tt)) (apart .0, (some, tt))
+      ∙ written-apart image (dataWrites bytes ks) j (data-whole (length image) bytes ks (λ i h. fits i (omega (arith, h, count-more i k ks)))) (data-apart bytes ks j (apart .1))
+
+  pub written-entered : (there after : List ℕ) → there ≡ written image (dataWrites bytes ks ++ last)
+      → after ≡ written there (write 1 (indexOf (placed there name k (files there))) ∷ [])
+      → after ≡ written image (dataWrites bytes ks ++ entered image name k descriptor sector0)
+  unfolding entered
+  written-entered there after there-is after-is =
+      let index =
+      placed-kept image (written image (dataWrites bytes ks ++ last)) name k (stands 1 (λ e. omega (arith, e)) (system-held image .1))
+      (λ j listed. stands j (λ e. omega (arith, e, listed-range image is j listed .0)) (omega (arith, file-held image j j listed, count-here j (placesIn image j))))
+      in
+      after-is
+      ∙ rw (there-is, index)
+      (written-both image (dataWrites bytes ks ++ last) (write 1 (indexOf (placed image name k (files image))) ∷ [])
+      ∙ ap (written image) (append-assoc (dataWrites bytes ks) last (write 1 (indexOf (placed image name k (files image))) ∷ [])))

@@ -7,7 +7,7 @@ ghost use lib.ListN.{length, drop, replicate};
 ghost use Rattle.rules.specs.Bytes.{wordBytes, splice};
 ghost use Rattle.rules.specs.Index.{numbers, numbersBytes, indexOf, without};
 ghost use Rattle.rules.specs.Sectors.{written};
-ghost use Rattle.rules.specs.Volume.{placed};
+ghost use Rattle.rules.specs.Volume.{files, placed};
 ghost use Rattle.rules.specs.Outcome.{write};
 use descriptor::name::precedes;
 use sector::buffer::lay;
@@ -88,18 +88,12 @@ pub fn index_with(index: &mut [u8; 256], image: &[u8], sector1: &[u8], name: &[u
     copy_numbers(index, next, sector1, at);
 }
 
-// A new file's last three writes: its descriptor in sector k, sector 0, and sector 1.
-pub fn enter(
-    image: &mut [u8],
-    k: usize,
-    descriptor: &[u8; 256],
-    sector0: &[u8; 256],
-    index: &[u8; 256],
-)
+// A new file's last write: sector 1 with the number k in its place, the files and their names being those of the image as it stands.
+pub fn enter(image: &mut [u8], name: &[u8], k: usize)
     requires { ⌜ k < 65536 ⌝ }
-    ensures { λ _. ⌜ now (image .exit) ≡ written (now (image .entry)) (write k (now (descriptor .entry)) ∷ (write 0 (now (sector0 .entry)) ∷ (write 1 (now (index .entry)) ∷ []))) ⌝ }
+    ensures { λ _. ⌜ now (image .exit) ≡ written (now (image .entry)) (write 1 (indexOf (placed (now (image .entry)) (now (name .entry)) k (files (now (image .entry))))) ∷ []) ⌝ }
 {
-    write_sector(image, k, descriptor);
-    write_sector(image, 0, sector0);
-    write_sector(image, 1, index);
+    let mut index = [0u8; 256];
+    index_with(&mut index, image, sector_of(image, 1), name, k);
+    write_sector(image, 1, &index);
 }

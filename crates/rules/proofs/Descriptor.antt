@@ -1,19 +1,20 @@
--- A descriptor's rule, as a test and as facts; its record count and the two bytes of it, each had back from the other; and what is read of a descriptor of which other bytes were changed.
-use mathlib.Core.Path.{_≡_}
+-- A descriptor's rule, as a test and as facts; its record count and the two bytes of it, each had back from the other; what is read of a descriptor of which other bytes were changed, and
+-- of a new one.
+use mathlib.Core.Path.{_≡_, ap, _∙_}
 use mathlib.Core.Bool.{true, _&&_}
-use mathlib.Core.List.{List, [], _∷_}
-use Prim.Native.Nat.{ℕ, _/_, _%_, _≤_, _<_}
+use mathlib.Core.List.{List, [], _∷_, _++_}
+use Prim.Native.Nat.{ℕ, _+_, _/_, _%_, _≤_, _<_}
 use native.Mathlib.Omega.{arith}
-use lib.ListN.{length, set, length-set}
-use lib.Seq.{getD-set-other}
-use Rattle.rules.specs.Bytes.{byteAt, bitOf, splice}
+use lib.ListN.{length, set, take, replicate, length-set, length-append}
+use lib.Seq.{getD-set-other, drop-append-add}
+use Rattle.rules.specs.Bytes.{byteAt, bitOf, wordBytes, part, splice}
 use Rattle.rules.specs.Name.{nameRule, IsName}
 use Rattle.rules.specs.Chain.{chainRule}
 use Rattle.rules.specs.Kind.{statusRule, kindOf, kindRule, IsStatus}
-use Rattle.rules.specs.Descriptor.{nameOf, statusOf, sectorsOf, recordCountOf, chainOf, fileKind, descriptorRule, IsDescriptor}
+use Rattle.rules.specs.Descriptor.{nameOf, statusOf, sectorsOf, recordCountOf, chainOf, fileKind, descriptorRule, newDescriptor, IsDescriptor}
 use Rattle.rules.proofs.Tests.{both}
 use Rattle.rules.proofs.Bytes.{part-same}
-use Rattle.rules.proofs.Splice.{splice-inside}
+use Rattle.rules.proofs.Splice.{splice-length, splice-inside, splice-above}
 use Rattle.rules.proofs.Name.{name-is, is-name}
 use Rattle.rules.proofs.Chain.{chain-is, is-chain}
 use Rattle.rules.proofs.Status.{status-is, is-status, kind-is, is-kind}
@@ -83,3 +84,20 @@ set-rules d i value low high bits status n is =
     let same = length-set d i value in
     let name = name-same d (set d i value) same (λ j h. getD-set-other d i j value 0 (λ e. omega arith)) in
     front-changed d (set d i value) same n (λ j h. getD-set-other d i j value 0 (λ e. omega arith)) bits (rw name (is .name)) status is
+
+-- the number of sectors does not touch the chain
+pub numbered-chain : (d : List ℕ) (c : ℕ) → chainOf (splice d 14 (wordBytes c)) ≡ chainOf d
+numbered-chain d c = chain-same d (splice d 14 (wordBytes c)) (splice-length d 14 (wordBytes c)) (λ i low. splice-above d 14 (wordBytes c) i (omega arith))
+
+-- a new descriptor is a whole sector, and has no chain
+module _ (name : List ℕ) (status recordsPerSector endOffset recordLength : ℕ) (ten : length name ≡ 10) where
+  pub new-length : length (newDescriptor name status recordsPerSector endOffset recordLength) ≡ 256
+  unfolding newDescriptor
+  new-length = length-append name _ ∙ rw ten
+
+  pub new-chain : chainOf (newDescriptor name status recordsPerSector endOffset recordLength) ≡ replicate 228 0
+  unfolding newDescriptor chainOf
+  new-chain =
+      let back : List ℕ = 0 ∷ (0 ∷ (status ∷ (recordsPerSector ∷ (0 ∷ (0 ∷ (endOffset ∷ (recordLength ∷ replicate 238 0))))))) in
+      let e : 28 ≡ length name + 18 = omega arith in
+      ap (λ (from : ℕ). part (name ++ back) from 228) e ∙ ap (take 228) (drop-append-add name back 18)

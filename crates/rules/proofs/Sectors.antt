@@ -5,7 +5,7 @@ use Prim.Native.Nat.{ℕ, _+_, _*_, _/_, _%_, _≤_, _<_}
 use native.Mathlib.Omega.{arith}
 use lib.ListN.{length, set}
 use lib.Seq.{ext-getD}
-use Rattle.rules.specs.Bytes.{byteAt, splice}
+use Rattle.rules.specs.Bytes.{byteAt, wordAt, splice}
 use Rattle.rules.specs.Sectors.{sectorOf, sectorCount}
 use Rattle.rules.proofs.Bytes.{part-length, part-at, part-below}
 use Rattle.rules.proofs.Splice.{splice-part, set-splice}
@@ -22,6 +22,12 @@ module _ (image : List ℕ) (k : ℕ) where
   pub sector-byte : (i : ℕ) → i < 256 → byteAt (sectorOf image k) i ≡ byteAt image (256 * k + i)
   unfolding sectorOf
   sector-byte i h = part-at image (256 * k) 256 i h
+
+  pub sector-word : (i : ℕ) → i + 1 < 256 → wordAt (sectorOf image k) i ≡ wordAt image (256 * k + i)
+  sector-word i h =
+      let e : 256 * k + (i + 1) ≡ 256 * k + i + 1 = omega arith in
+      let low = rw e at (sector-byte (i + 1) h) in
+      omega (arith, sector-byte i (omega arith), low)
 
   pub sector-set : (i value : ℕ) → i < 256 → splice image (256 * k) (set (sectorOf image k) i value) ≡ set image (256 * k + i) value
   unfolding sectorOf

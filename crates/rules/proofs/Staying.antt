@@ -13,7 +13,7 @@ use Rattle.rules.specs.Sectors.{sectorOf, sectorCount}
 use Rattle.rules.specs.Name.{precedes}
 use Rattle.rules.specs.Map.{mapBit, count}
 use Rattle.rules.specs.Chain.{places}
-use Rattle.rules.specs.Descriptor.{chainOf}
+use Rattle.rules.specs.Descriptor.{nameOf, chainOf}
 use Rattle.rules.specs.Index.{without}
 use Rattle.rules.specs.Volume.{files, nameIn, placesIn, fileHolders, holders, headerIn, contentsIn, fileIn, catalogue, placed}
 use Rattle.rules.specs.Sound.{Sound}
@@ -69,6 +69,19 @@ file-kept image after k e data-kept = rw (e, places-kept image after k e, map-ag
 pub files-kept : (image after ks : List ℕ) → ((k : ℕ) → 1 ≤ count k ks → fileIn after k ≡ fileIn image k) → map (fileIn after) ks ≡ map (fileIn image) ks
 files-kept image after ks kept = map-agree (fileIn after) (fileIn image) ks kept
 
+-- a number put in among files whose names stand, and so among those of an image in which sector 1 and all descriptors stand
+placed-agree : (image after name : List ℕ) (k : ℕ) (ks : List ℕ) → ((j : ℕ) → 1 ≤ count j ks → nameIn after j ≡ nameIn image j) → placed after name k ks ≡ placed image name k ks
+unfolding placed
+placed-agree image after name k [] same = refl
+placed-agree image after name k (j ∷ js) same =
+    rw (same j (omega (arith, count-here j js)), placed-agree image after name k js (λ i h. same i (omega (arith, h, count-more i j js))))
+
+pub placed-kept : (image after name : List ℕ) (k : ℕ) → sectorOf after 1 ≡ sectorOf image 1 → ((j : ℕ) → 1 ≤ count j (files image) → sectorOf after j ≡ sectorOf image j)
+    → placed after name k (files after) ≡ placed image name k (files image)
+unfolding files nameIn
+placed-kept image after name k index kept =
+    rw index (placed-agree image after name k (files image) (λ j h. ap nameOf (kept j h)))
+
 -- the holders where a file is put in, and where one is taken out
 pub holders-placed : (image names name : List ℕ) (k j : ℕ) (ks : List ℕ) → count j (fileHolders image (placed names name k ks)) ≡ count j (k ∷ placesIn image k) + count j (fileHolders image ks)
 unfolding fileHolders placed
@@ -101,7 +114,7 @@ holders-without image k j (i ∷ is) there = go (eqb i k) refl (holders-without 
 pub file-holds : (image : List ℕ) (k j : ℕ) (ks : List ℕ) → 1 ≤ count k ks → count j (k ∷ placesIn image k) ≤ count j (fileHolders image ks)
 file-holds image k j ks there = omega (arith, holders-without image k j ks there)
 
-file-held : (image : List ℕ) (k j : ℕ) → 1 ≤ count k (files image) → count j (k ∷ placesIn image k) ≤ count j (holders image)
+pub file-held : (image : List ℕ) (k j : ℕ) → 1 ≤ count k (files image) → count j (k ∷ placesIn image k) ≤ count j (holders image)
 unfolding holders
 file-held image k j there =
     omega (arith, file-holds image k j (files image) there, count-more j 1 (fileHolders image (files image)), count-more j 0 (1 ∷ fileHolders image (files image)))

@@ -1,12 +1,12 @@
--- What a written sector does to each sector of an image; and a sound volume written anew: what has to be seen of its sectors afterwards for it to be sound.
+-- What a written sector does to each sector of an image, and what several do, the data of a program among them; and a sound volume written anew: what has to be seen of its sectors afterwards for it to be sound.
 use mathlib.Core.Path.{_≡_, refl, sym, ap, _∙_}
 use mathlib.Core.List.{List, [], _∷_, _++_}
 use Prim.Native.Nat.{ℕ, _+_, _*_, _/_, _≤_, _<_}
 use native.Mathlib.Omega.{arith}
 use native.Mathlib.Decide.{decLt}
-use lib.ListN.{length, getD}
+use lib.ListN.{length, getD, drop, replicate, length-replicate}
 use lib.Seq.{ext-getD}
-use Rattle.rules.specs.Bytes.{byteAt, part, splice}
+use Rattle.rules.specs.Bytes.{byteAt, part, over, splice}
 use Rattle.rules.specs.Sectors.{sectorOf, sectorCount, Write, written}
 use Rattle.rules.specs.Label.{IsLabel}
 use Rattle.rules.specs.Map.{mapBit, count, taken}
@@ -14,10 +14,11 @@ use Rattle.rules.specs.Descriptor.{IsDescriptor}
 use Rattle.rules.specs.Index.{IsIndex}
 use Rattle.rules.specs.Volume.{files, fileHolders, holders}
 use Rattle.rules.specs.Sound.{Sound}
+use Rattle.rules.specs.Calls.Store.{dataWrites}
 use Rattle.rules.proofs.Bytes.{part-length, part-at, part-same}
 use Rattle.rules.proofs.Splice.{splice-length, splice-inside, splice-below, splice-above}
 use Rattle.rules.proofs.Sectors.{sector-length}
-use Rattle.rules.proofs.Map.{taken-below, taken-past}
+use Rattle.rules.proofs.Map.{count-here, count-more, count-apart, taken-below, taken-past}
 use Rattle.rules.proofs.Indexed.{Ascending}
 
 -- one sector written
@@ -77,6 +78,22 @@ written-at image [] this behind whole apart =
 written-at image (first ∷ before) this behind whole apart =
     let size = splice-length image (256 * first .sector) (first .bytes) in
     written-at (splice image (256 * first .sector) (first .bytes)) before this behind (rw size (whole .2)) apart
+
+-- a sector of a program's data, and all of them, to sectors of the image
+pub piece-length : (bytes : List ℕ) → length (over (replicate 256 0) bytes) ≡ 256
+unfolding splice
+piece-length bytes = splice-length (replicate 256 0) 0 bytes ∙ length-replicate {A = ℕ} 256 0
+
+pub data-whole : (size : ℕ) (bytes ks : List ℕ) → ((j : ℕ) → 1 ≤ count j ks → 256 * j + 256 ≤ size) → Whole size (dataWrites bytes ks)
+unfolding Whole dataWrites
+data-whole size bytes [] inside = tt
+data-whole size bytes (k ∷ ks) inside =
+    (piece-length bytes, inside k (omega (arith, count-here k ks)), data-whole size (drop 256 bytes) ks (λ j h. inside j (omega (arith, h, count-more j k ks))))
+
+pub data-apart : (bytes ks : List ℕ) (j : ℕ) → count j ks ≡ 0 → Apart j (dataWrites bytes ks)
+unfolding Apart dataWrites
+data-apart bytes [] j other = tt
+data-apart bytes (k ∷ ks) j other = let apart = count-apart j k ks other in (apart .0, data-apart (drop 256 bytes) ks j (apart .1))
 
 -- a volume of the same size and label whose files are ks
 pub record Rebuilt (image after ks : List ℕ) : Type 0 where

@@ -41,6 +41,22 @@ pub fn lay(buffer: &mut [u8], at: usize, bytes: &[u8])
     copy(&mut buffer[at..], &bytes[0..room]);
 }
 
+// `many` bytes of that value from `at` on, as far as there is room.
+pub fn lay_fill(buffer: &mut [u8], at: usize, many: usize, value: u8)
+    ensures { λ _. ⌜ now (buffer .exit) ≡ splice (now (buffer .entry)) at (replicate many value) ⌝ }
+{
+    if at >= buffer.len() {
+        return;
+    }
+    let room = buffer.len() - at;
+    if many <= room {
+        let end = at + many;
+        fill(&mut buffer[at..end], value);
+        return;
+    }
+    fill(&mut buffer[at..], value);
+}
+
 // A whole sector of the image.
 pub fn write_sector(image: &mut [u8], k: usize, sector: &[u8])
     requires { ⌜ k < 65536 ⌝ }

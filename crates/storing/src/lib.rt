@@ -19,7 +19,6 @@ use extension::Tip;
 use extension::extend;
 use extension::tip_with;
 use index::enter;
-use index::index_with;
 use map::bits::mark;
 use map::choice::Search;
 use map::choice::descriptor_choice;
@@ -29,6 +28,7 @@ use rules::Answer;
 use rules::Opened;
 use sector::buffer::copy;
 use sector::buffer::lay;
+use sector::buffer::lay_fill;
 use sector::buffer::write_sector;
 use sector::bytes::part;
 use sector::bytes::sector_of;
@@ -62,6 +62,17 @@ fn spread(sector0: &mut [u8], chain: &mut [u8], many: usize) -> bool
     true
 }
 
+// A piece of the data and zeros behind it, as a whole sector.
+fn write_piece(image: &mut [u8], k: usize, piece: &[u8])
+    requires { ⌜ (k < 65536) × (length (now piece) ≤ 256) ⌝ }
+    ensures { λ _. ⌜ now (image .exit) ≡ splice (now (image .entry)) (256 * k) (over (replicate 256 0) (now (piece .entry))) ⌝ }
+{
+    let at = 256 * k;
+    let many = piece.len();
+    lay(image, at, piece);
+    lay_fill(image, at + many, 256 - many, 0);
+}
+
 // The bytes go to the sectors of the chain, in file order; what the last of them does not fill is zeros.
 fn write_data(image: &mut [u8], chain: &[u8], bytes: &[u8])
     requires { ⌜ length (places (now chain)) ≤ 128 ⌝ }
@@ -70,32 +81,36 @@ fn write_data(image: &mut [u8], chain: &[u8], bytes: &[u8])
     let mut cursor = Cursor::first();
     let mut at = 0;
     while let Step::Place(place, next) = cursor.step(chain) {
-        let mut piece = [0u8; 256];
-        lay(&mut piece, 0, part(bytes, at, 256));
-        write_sector(image, place, &piece);
+        write_piece(image, place, part(bytes, at, 256));
         at += 256;
         cursor = next;
     }
 }
 
-// The descriptor of a program of `size` bytes, in `many` sectors, laid into 256 zeros.
-fn program_descriptor(
-    descriptor: &mut [u8; 256],
-    name: &[u8],
-    size: usize,
-    many: usize,
-    chain: &[u8],
-)
-    requires { ⌜ (now descriptor ≡ replicate 256 0) × (length (now name) ≡ 10) × (many < 65536) × IsSpread (now chain) ⌝ }
-    ensures { λ _. ⌜ now (descriptor .exit) ≡ withChain (newDescriptor (now (name .entry)) 0x01 0 (size % 256) 0) many (blocks (now (chain .entry))) ⌝ }
-{
+// The descriptor of a program of `size` bytes, in `many` sectors, laid into 256 zeros, its chain still empty.
+fn program_header(descriptor: &mut [u8; 256], name: &[u8], size: usize, many: usize) {
     let end_offset = (size % 256) as u8;
     let high = (many / 256) as u8;
     let low = (many % 256) as u8;
     new_descriptor(descriptor, name, 0x01, 0, end_offset, 0);
     descriptor[14] = high;
     descriptor[15] = low;
-    lay(descriptor, 28, chain);
+}
+
+// All that is written of a program before it is entered
+fn write_program(image: &mut [u8], k: usize, name: &[u8], many: usize, bytes: &[u8]) -> bool {
+    let mut sector0 = [0u8; 256];
+    copy(&mut sector0, sector_of(image, 0));
+    mark(&mut sector0, k);
+    let mut descriptor = [0u8; 256];
+    program_header(&mut descriptor, name, bytes.len(), many);
+    if !spread(&mut sector0, &mut descriptor[28..256], many) {
+        return false;
+    }
+    write_data(image, &descriptor[28..256], bytes);
+    write_sector(image, k, &descriptor);
+    write_sector(image, 0, &sector0);
+    true
 }
 
 // On a sound volume, under a name that keeps the rule and is not there.
@@ -106,7 +121,8 @@ fn store_new(image: &mut [u8], name: &[u8], bytes: &[u8]) -> Answer
     if bytes.len() > 32768 {
         return Answer::Refused(15);
     }
-    if word(sector_of(image, 1), 252) != 0 {
+    // the 127th number of sector 1
+    if word(image, 508) != 0 {
         return Answer::Refused(11);
     }
     let many = (bytes.len() + 255) / 256;
@@ -114,19 +130,10 @@ fn store_new(image: &mut [u8], name: &[u8], bytes: &[u8]) -> Answer
         return Answer::Refused(12);
     }
     let k = descriptor_choice(sector_of(image, 0));
-    let mut sector0 = [0u8; 256];
-    copy(&mut sector0, sector_of(image, 0));
-    mark(&mut sector0, k);
-    let mut chain = [0u8; 228];
-    if !spread(&mut sector0, &mut chain, many) {
+    if !write_program(image, k, name, many, bytes) {
         return Answer::Refused(13);
     }
-    let mut descriptor = [0u8; 256];
-    program_descriptor(&mut descriptor, name, bytes.len(), many, &chain);
-    let mut index = [0u8; 256];
-    index_with(&mut index, image, sector_of(image, 1), name, k);
-    write_data(image, &chain, bytes);
-    enter(image, k, &descriptor, &sector0, &index);
+    enter(image, name, k);
     Answer::Done
 }
 

@@ -1,26 +1,35 @@
 -- `creating::create_new` meets its contract: each refusal gives the number of the first test that failed, the tests before it having passed.
 -- Assumes nothing.
-use mathlib.Core.Path.{_≡_, refl, sym, ap, _∙_}
+use mathlib.Core.Path.{_≡_, sym, ap, subst, _∙_}
 use mathlib.Core.Bool.{true, false}
-use mathlib.Core.List.{List, []}
-use Prim.Native.Nat.{ℕ, _<_}
+use mathlib.Core.List.{List, [], _∷_}
+use Prim.Native.Nat.{ℕ, _*_, _≤_, _<_}
 use native.Mathlib.Omega.{arith}
 use lib.ListN.{length}
 use borrow.Author.Tests.{le-ltb, lt-ltb, le-leb, lt-leb, not-true, not-false}
-use Rattle.rules.specs.Bytes.{wordAt}
-use Rattle.rules.specs.Sectors.{sectorOf, written}
+use borrow.Rule.Slice.PartMut.{putMid}
+use Rattle.rules.specs.Bytes.{wordAt, part, splice}
+use Rattle.rules.specs.Sectors.{sectorOf, sectorCount, written}
 use Rattle.rules.specs.Map.{freeCount, marked}
 use Rattle.rules.specs.Descriptor.{newDescriptor}
-use Rattle.rules.specs.Index.{numbers, indexOf}
-use Rattle.rules.specs.Volume.{files, placed}
+use Rattle.rules.specs.Volume.{files}
 use Rattle.rules.specs.Choice.{descriptorChoice}
 use Rattle.rules.specs.Sound.{Sound}
 use Rattle.rules.specs.Tests.{firstOf, unlessMet}
-use Rattle.rules.specs.Outcome.{done, refusal}
+use Rattle.rules.specs.Outcome.{write, done, refusal}
 use Rattle.rules.specs.Calls.Create.{createStatus, entered, createTests, creating}
+use Rattle.rules.specs.Calls.Store.{dataWrites}
+use Rattle.rules.proofs.Splice.{splice-length, put-back}
+use Rattle.rules.proofs.Sectors.{sector-word}
 use Rattle.rules.proofs.Name.{name-is}
+use Rattle.rules.proofs.Descriptor.{new-length}
+use Rattle.rules.proofs.Written.{sector-other}
+use Rattle.rules.proofs.Map.{only-one}
+use Rattle.rules.proofs.Listed.{label-long}
+use Rattle.rules.proofs.Marking.{marked-length}
+use Rattle.rules.proofs.Choice.{Chosen, sound-fenced, descriptor-choice-free}
 use Rattle.rules.proofs.Outcome.{refusal-meets, done-meets}
-use Rattle.rules.proofs.Opening.{place-none, place-some, file-long}
+use Rattle.rules.proofs.Opening.{place-none, place-some}
 use Rattle.index.proofs.Entered.{written-entered}
 use borrow.Author.Needs.{needs}
 use Rattle.creating.proofs.create_new.Statement.{statement}
@@ -50,12 +59,22 @@ module _ (image name : List ℕ) (status recordLength recordsPerSector : ℕ) wh
       unfolding creating createTests firstOf unlessMet
       passed some k is = rw (is, asked, lt-leb 127 (length (files image)) few, le-ltb (freeCount (sectorOf image 0)) 1 (omega (arith, some)))
 
+-- the descriptor is not in sector 0, so what is marked there is what stood there
+marked-there : (image one sector0 descriptor : List ℕ) (k : ℕ) → Sound image → 2 ≤ k → length descriptor ≡ 256 → one ≡ splice image (256 * k) descriptor → sector0 ≡ marked 1 (part one 0 256) k
+    → putMid 0 256 one sector0 ≡ written image (write k descriptor ∷ (write 0 (marked 1 (sectorOf image 0) k) ∷ []))
+unfolding sectorOf written
+marked-there image one sector0 descriptor k is high long one-is marks =
+    let same : part one 0 256 ≡ sectorOf image 0 = ap (λ (i : List ℕ). sectorOf i 0) one-is ∙ sector-other image k descriptor long 0 (λ e. omega (arith, e, high)) in
+    let here : sector0 ≡ marked 1 (sectorOf image 0) k = marks ∙ ap (λ (s : List ℕ). marked 1 s k) same in
+    let size : length sector0 ≡ 256 = ap length here ∙ marked-length 1 (sectorOf image 0) k ∙ label-long image is in
+    put-back one sector0 0 256 size (omega (arith, ap length one-is, splice-length image (256 * k) descriptor, is .whole, is .size)) ∙ rw (one-is, here)
+
 -- the ways back: past each test, and to the choice
 abbrev start : tie.Else1 → tie.Start
 start c = c .before .before .before .before
 
 abbrev status : tie.After-word → tie.Else1
-status c = c .before .before .before
+status c = c .before .before
 
 abbrev place : tie.After-free-count-of → tie.Else2
 place c = c .before .before .before
@@ -73,10 +92,10 @@ asked : (c : tie.Else1) → createStatus (start c .args .status) ≡ true
 asked c = sym (c .before .create-status .ensures) ∙ not-false (c .before .create-status .result) (c .if1 .left)
 
 last-is : (c : tie.After-word) → c .word .result ≡ wordAt (sectorOf (start (status c) .args .image .now) 1) 252
-last-is c = c .word .ensures .0 ∙ ap (λ (s : List ℕ). wordAt s 252) (c .before .sector-of .ensures)
+last-is c = c .word .ensures .0 ∙ sym (sector-word (start (status c) .args .image .now) 1 252 (omega arith))
 
 free-is : (c : tie.After-free-count-of) → c .free-count-of .result ≡ freeCount (sectorOf (start₂ (place c) .args .image .now) 0)
-free-is c = c .free-count-of .ensures .0 ∙ ap freeCount (c .before .sector-of2 .ensures)
+free-is c = c .free-count-of .ensures .0 ∙ ap freeCount (c .before .sector-of .ensures)
 
 returns : tie.Need-returns
 returns c =
@@ -99,40 +118,65 @@ returns-3 c =
     refusal-meets (a .image .now) (creating (a .image .now) (a .name .now) (a .status) (a .record-length) (a .records-per-sector)) 12 (λ z. omega arith)
     (taken _ _ _ _ _ (start₂ room .pre .0) (asked (status (room .before))) (sym (last-is (room .before)) ∙ room .if2 .left) (sym (free-is (c .before)) ∙ c .if3 .taken))
 
-new-descriptor-requires : tie.Need-new-descriptor-requires
-new-descriptor-requires c κs = (refl, name-is _ (start₃ (c .before) .pre .1) .ten)
+-- the sector chosen, which was free
+chosen-is : (c : tie.After-descriptor-choice) → c .descriptor-choice .result ≡ descriptorChoice (sectorOf (start₃ c .args .image .now) 0)
+chosen-is c = c .descriptor-choice .ensures .0 ∙ ap descriptorChoice (c .before .sector-of2 .ensures)
 
-copy-requires : tie.Need-copy-requires
-copy-requires c κs =
-    let whole = start₃ (c .before .before .before .before .before) .pre .0 in
-    sym (ap length (c .sector-of4 .ensures) ∙ file-long _ 0 whole (omega (arith, whole .size)))
+is-free : (c : tie.After-descriptor-choice) → let image = start₃ c .args .image .now in Chosen (sectorCount image) (sectorOf image 0) (c .descriptor-choice .result)
+is-free c =
+    let some = counted c in
+    let begin = start₃ c in
+    subst (Chosen (sectorCount (begin .args .image .now)) (sectorOf (begin .args .image .now) 0)) (sym (chosen-is c))
+    (descriptor-choice-free (sectorCount (begin .args .image .now)) (sectorOf (begin .args .image .now) 0) (sound-fenced (begin .args .image .now) (begin .pre .0))
+    (omega (arith, some .if3 .left, free-is (some .before))))
+
+ten : (c : tie.After-descriptor-choice) → length (start₃ c .args .name .now) ≡ 10
+ten c = name-is _ (start₃ c .pre .1) .ten
+
+write-descriptor-requires : tie.Need-write-descriptor-requires
+write-descriptor-requires c κs = (omega (arith, is-free (c .before) .low), ten (c .before))
+
+-- the image with the descriptor, which is not in sector 0
+abbrev described : tie.After-mark → tie.After-write-descriptor
+described c = c .before .before .before .before
+
+abbrev chosen : tie.After-write-descriptor → tie.After-descriptor-choice
+chosen c = c .before .before
+
+part-mark-end : tie.Need-part-mark-end
+part-mark-end c =
+    let writing = c .before .before in
+    let begin = start₃ (chosen writing) in
+    let size : length (writing .write-descriptor .last .0) ≡ length (begin .args .image .now) = ap length (writing .write-descriptor .ensures) ∙ splice-length _ _ _ in
+    omega (arith, size, begin .pre .0 .whole, begin .pre .0 .size)
 
 returns-4 : tie.Need-returns-4
-unfolding files written
+unfolding written dataWrites
 returns-4 c =
     let entering = c .before .before in
-    let index = entering .before .before .before .before .before in
-    let sector1 = index .before in
-    let marking = sector1 .before .before .before .before in
-    let copied = marking .before .before .before in
-    let descriptor = copied .before .before .before .before in
-    let choice = descriptor .before .before in
+    let marking = entering .before .before .before .before in
+    let writing = described marking in
+    let choice = chosen writing in
     let some = counted choice in
     let room = place (some .before) in
-    let a = start₃ choice .args in
+    let begin = start₃ choice in
+    let a = begin .args in
     let image = a .image .now in
     let name = a .name .now in
     let k = choice .descriptor-choice .result in
-    let chosen : k ≡ descriptorChoice (sectorOf image 0) = choice .descriptor-choice .ensures .0 ∙ ap descriptorChoice (choice .before .sector-of3 .ensures) in
-    let laid = marking .mark .ensures ∙ ap (λ (sector0 : List ℕ). marked 1 sector0 k) (copied .copy .ensures ∙ copied .before .sector-of4 .ensures) in
-    let indexed = index .index-with .ensures ∙ ap (λ (s : List ℕ). indexOf (placed image name k (numbers s))) (sector1 .sector-of5 .ensures) in
+    let descriptor = newDescriptor name (a .status) (a .records-per-sector) 0 (a .record-length) in
+    let long = new-length name (a .status) (a .records-per-sector) 0 (a .record-length) (ten choice) in
     let met =
     done-meets image (creating image name (a .status) (a .record-length) (a .records-per-sector)) _
-    (passed _ _ _ _ _ (start₃ choice .pre .0) (asked (status (room .before))) (sym (last-is (room .before)) ∙ room .if2 .left) (λ z. some .if3 .left (free-is (some .before) ∙ z)) k chosen)
+    (passed _ _ _ _ _ (begin .pre .0) (asked (status (room .before))) (sym (last-is (room .before)) ∙ room .if2 .left) (λ z. some .if3 .left (free-is (some .before) ∙ z)) k (chosen-is choice))
     in
     record {
       said = met .said;
-      left = written-entered image name k [] _ _ image _ _ _ _ refl (descriptor .new-descriptor .ensures) laid indexed (entering .enter .ensures) ∙ met .left;
+      left =
+          written-entered image name [] k [] descriptor (marked 1 (sectorOf image 0) k) (begin .pre .0) (λ j one. subst (Chosen (sectorCount image) (sectorOf image 0)) (only-one k j one) (is-free choice)) long
+          (marked-length 1 (sectorOf image 0) k ∙ label-long image (begin .pre .0)) _ _
+          (marked-there image _ (marking .mark .last .0) descriptor k (begin .pre .0) (is-free choice .from) long (writing .write-descriptor .ensures) (marking .mark .ensures)) (entering .enter .ensures)
+          ∙ met .left;
     }
 
 pub create-new-spec : {M : Type 1} → statement M
@@ -142,7 +186,6 @@ create-new-spec =
     (λ c κs. search needs)
     returns
     (λ c κs. search needs)
-    (λ c κs. search needs)
     (λ c. search needs)
     returns-2
     (λ c κs. search needs)
@@ -151,13 +194,10 @@ create-new-spec =
     returns-3
     (λ c κs. search needs)
     (λ c κs. search needs)
-    new-descriptor-requires
+    write-descriptor-requires
     (λ c. search needs)
-    (λ c κs. search needs)
-    copy-requires
     (λ c. search needs)
-    (λ c κs. search needs)
-    (λ c κs. search needs)
+    part-mark-end
     (λ c κs. search needs)
     (λ c κs. search needs)
     (λ c. search needs)

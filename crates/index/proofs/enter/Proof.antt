@@ -1,21 +1,35 @@
--- `index::enter` meets its contract: the image is what the three writes leave, one laid over the other. Assumes nothing.
+-- `index::enter` meets its contract: sector 1 is made of the numbers that stand in it, and then written. Assumes nothing.
+use mathlib.Core.Path.{sym, ap, _∙_}
+use mathlib.Core.List.{List}
+use Prim.Native.Nat.{ℕ, _*_}
+use lib.ListN.{length}
+use Rattle.rules.specs.Bytes.{splice}
 use Rattle.rules.specs.Sectors.{written}
+use Rattle.rules.specs.Index.{numbers, indexOf}
+use Rattle.rules.specs.Volume.{files, placed}
+use Rattle.rules.proofs.Indexed.{index-length}
 use borrow.Author.Needs.{needs}
 use Rattle.index.proofs.enter.Statement.{statement}
 use Rattle.index.proofs.enter.Tie as tie
 
--- the ways back, from a write to the one before it
-abbrev second : tie.After-write-sector3 → tie.After-write-sector2
-second c = c .before .before .before .before .before
+-- the ways back: to sector 1 made, and to the start
+abbrev made : tie.After-write-sector → tie.After-index-with
+made c = c .before .before .before
 
-abbrev first : tie.After-write-sector2 → tie.After-write-sector
-first c = c .before .before .before .before .before
+abbrev start : tie.After-index-with → tie.Start
+start c = c .before .before .before .before .before .before
+
+slice-aggregate-write-sector : tie.Need-slice-aggregate-write-sector
+slice-aggregate-write-sector c = sym (ap length (c .before .before .index-with .ensures) ∙ index-length _)
 
 returns : tie.Need-returns
-unfolding written
+unfolding written files
 returns c =
-    let third = c .before .before in
-    cc (third .write-sector3 .ensures, second third .write-sector2 .ensures, first (second third) .write-sector .ensures)
+    let writing = c .before .before in
+    let making = made writing in
+    let a = start making .args in
+    writing .write-sector .ensures
+    ∙ ap (splice (a .image .now) (256 * 1)) (making .index-with .ensures ∙ ap (λ (s : List ℕ). indexOf (placed (a .image .now) (a .name .now) (a .k) (numbers s))) (making .before .sector-of .ensures))
 
 pub enter-spec : {M : Type 1} → statement M
 enter-spec =
@@ -23,6 +37,7 @@ enter-spec =
     (tie.spec
     (λ c κs. search needs)
     (λ c κs. search needs)
+    slice-aggregate-write-sector
     (λ c κs. search needs)
     (λ c. search needs)
     returns)
