@@ -1,21 +1,35 @@
 -- Bytes laid into sectors, and a chain into a new descriptor: what the writes of the data are, a sector at a time, and what the code's stores and lays amount to.
 use mathlib.Core.Path.{_≡_, refl, sym, ap, _∙_}
 use mathlib.Core.List.{List, [], _∷_, _++_}
-use Prim.Native.Nat.{ℕ, zero, suc, _+_, _*_, _/_, _%_}
+use Prim.Native.Nat.{ℕ, zero, suc, _+_, _-_, _*_, _≤_}
 use native.Mathlib.Omega.{arith}
-use lib.ListN.{length, set, take, drop, replicate, length-append, length-replicate}
-use lib.Seq.{drop-drop, drop-append-add}
+use lib.ListN.{length, set, drop, replicate, length-replicate, replicate-append-replicate}
+use lib.Seq.{drop-drop, drop-at}
 use Rattle.rules.specs.Bytes.{part, over, splice}
 use Rattle.rules.specs.Sectors.{written}
-use Rattle.rules.specs.Chain.{blocks}
-use Rattle.rules.specs.Descriptor.{newDescriptor, chainOf, withChain}
 use Rattle.rules.specs.Calls.Store.{dataWrites}
-use Rattle.rules.proofs.Splice.{splice-none, splice-cut}
-use Rattle.rules.proofs.Extended.{with-chain-laid}
-use Rattle.storing.specs.Spread.{IsSpread}
+use Rattle.rules.proofs.Splice.{splice-none, splice-append, splice-cut}
+use Rattle.rules.proofs.Formatted.{laid-front}
+
+-- a piece and zeros behind it are the piece laid over zeros
+drop-same : (many size value : ℕ) → many ≤ size → drop many (replicate size value) ≡ replicate (size - many) value
+drop-same many size value short =
+    let e : many + (size - many) ≡ size = omega arith in
+    ap (drop many) (sym (replicate-append-replicate many (size - many) value ∙ ap (λ (m : ℕ). replicate m value) e))
+    ∙ drop-at (replicate many value) (replicate (size - many) value) many (length-replicate many value)
+
+padded : (size : ℕ) (piece : List ℕ) → length piece ≤ size → piece ++ replicate (size - length piece) 0 ≡ over (replicate size 0) piece
+unfolding splice
+padded size piece short =
+    sym (laid-front (replicate size 0) piece (omega (arith, short, length-replicate {A = ℕ} size 0)) ∙ ap (λ (l : List ℕ). piece ++ l) (drop-same (length piece) size 0 short))
+
+pub piece-laid : (image : List ℕ) (at : ℕ) (piece laid after : List ℕ) → length piece ≤ 256 → laid ≡ splice image at piece → after ≡ splice laid (at + length piece) (replicate (256 - length piece) 0)
+    → after ≡ splice image at (over (replicate 256 0) piece)
+piece-laid image at piece laid after short first second =
+    second ∙ ap (λ (l : List ℕ). splice l (at + length piece) (replicate (256 - length piece) 0)) first ∙ splice-append image at piece _ ∙ ap (splice image at) (padded 256 piece short)
 
 -- a sector written with the bytes from `at` on, of which 256 zeros have room for 256: the rest goes to the sectors behind it
-pub piece-written : (image bytes : List ℕ) (at : ℕ) {later piece all ks : List ℕ} {k : ℕ} → all ≡ k ∷ ks → piece ≡ splice (replicate 256 0) 0 (part bytes at 256) → later ≡ splice image (256 * k) piece
+pub piece-written : (image bytes : List ℕ) (at : ℕ) {later piece all ks : List ℕ} {k : ℕ} → all ≡ k ∷ ks → piece ≡ part bytes at 256 → later ≡ splice image (256 * k) (over (replicate 256 0) piece)
     → written later (dataWrites (drop (at + 256) bytes) ks) ≡ written image (dataWrites (drop at bytes) all)
 unfolding written dataWrites splice
 piece-written image bytes at ahead piece-is later-is =
@@ -27,31 +41,10 @@ unfolding written dataWrites
 none-written bytes none = rw none
 
 -- two bytes set one behind the other
-two-set : (buffer : List ℕ) (at a b : ℕ) → set (set buffer at a) (suc at) b ≡ splice buffer at (a ∷ (b ∷ []))
+pub two-set : (buffer : List ℕ) (at a b : ℕ) → set (set buffer at a) (suc at) b ≡ splice buffer at (a ∷ (b ∷ []))
 unfolding splice over
 two-set [] zero a b = refl
 two-set [] (suc at) a b = refl
 two-set (x ∷ []) zero a b = refl
 two-set (x ∷ (y ∷ buffer)) zero a b = ap (λ (l : List ℕ). a ∷ (b ∷ l)) (sym (splice-none buffer 0))
 two-set (x ∷ buffer) (suc at) a b = ap (λ (l : List ℕ). x ∷ l) (two-set buffer at a b)
-
--- a new descriptor has no chain
-module _ (name : List ℕ) (status recordsPerSector endOffset recordLength : ℕ) (ten : length name ≡ 10) where
-  new-length : length (newDescriptor name status recordsPerSector endOffset recordLength) ≡ 256
-  unfolding newDescriptor
-  new-length = length-append name _ ∙ rw ten
-
-  new-chain : chainOf (newDescriptor name status recordsPerSector endOffset recordLength) ≡ replicate 228 0
-  unfolding newDescriptor chainOf
-  new-chain =
-      let back : List ℕ = 0 ∷ (0 ∷ (status ∷ (recordsPerSector ∷ (0 ∷ (0 ∷ (endOffset ∷ (recordLength ∷ replicate 238 0))))))) in
-      let e : 28 ≡ length name + 18 = omega arith in
-      ap (λ (from : ℕ). part (name ++ back) from 228) e ∙ ap (take 228) (drop-append-add name back 18)
-
-  pub chain-laid : (many : ℕ) (chain : List ℕ) → IsSpread chain
-      → let new = newDescriptor name status recordsPerSector endOffset recordLength in
-      splice (set (set new 14 (many / 256)) 15 (many % 256)) 28 chain ≡ withChain new many (blocks chain)
-  chain-laid many chain is =
-      let new = newDescriptor name status recordsPerSector endOffset recordLength in
-      ap (λ (d : List ℕ). splice d 28 chain) (two-set new 14 (many / 256) (many % 256))
-      ∙ with-chain-laid new many (blocks chain) new-length chain (rw new-chain (is .laid))

@@ -1,2 +1,3 @@
 -- A program spread over free sectors.
 pub mod Spread
+pub mod Program

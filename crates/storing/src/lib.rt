@@ -1,17 +1,23 @@
 // Storing: a program's bytes become a file. All its sectors are chosen before the first is written. The call takes any image and any
 // arguments, answers with its number, and leaves the image with the writes of the rules' definition laid over it; a refusal has none.
 ghost use mathlib.Core.Path.{_≡_};
-ghost use mathlib.Core.Bool.{true};
-ghost use Prim.Native.Nat.{_%_, _≤_, _<_};
+ghost use mathlib.Core.Bool.{true, cond};
+ghost use mathlib.Core.List.{[]};
+ghost use Prim.Native.Nat.{_*_, _%_, _≤_, _<_};
+ghost use lib.Dec.{leb};
 ghost use lib.ListN.{length, replicate};
-ghost use Rattle.rules.specs.Sectors.{written};
+ghost use Rattle.rules.specs.Bytes.{wordBytes, over, splice};
+ghost use Rattle.rules.specs.Sectors.{sectorOf, written};
 ghost use Rattle.rules.specs.Name.{nameRule};
-ghost use Rattle.rules.specs.Chain.{blocks, places};
-ghost use Rattle.rules.specs.Descriptor.{newDescriptor, withChain};
+ghost use Rattle.rules.specs.Chain.{places};
+ghost use Rattle.rules.specs.Kind.{sectorsFor};
+ghost use Rattle.rules.specs.Descriptor.{newDescriptor};
 ghost use Rattle.rules.specs.Sound.{Sound};
+ghost use Rattle.rules.specs.Choice.{descriptorChoice};
 ghost use Rattle.rules.specs.Outcome.{Meets};
-ghost use Rattle.rules.specs.Calls.Store.{dataWrites, storing, storeOf};
-ghost use Rattle.storing.specs.Spread.{Spread, IsSpread};
+ghost use Rattle.rules.specs.Calls.Store.{dataWrites, newBlocks, storing, storeOf};
+ghost use Rattle.storing.specs.Program.{programWrites};
+ghost use Rattle.storing.specs.Spread.{Spread};
 use descriptor::chain::Cursor;
 use descriptor::chain::Step;
 use descriptor::header::new_descriptor;
@@ -88,7 +94,10 @@ fn write_data(image: &mut [u8], chain: &[u8], bytes: &[u8])
 }
 
 // The descriptor of a program of `size` bytes, in `many` sectors, laid into 256 zeros, its chain still empty.
-fn program_header(descriptor: &mut [u8; 256], name: &[u8], size: usize, many: usize) {
+fn program_header(descriptor: &mut [u8; 256], name: &[u8], size: usize, many: usize)
+    requires { ⌜ (now descriptor ≡ replicate 256 0) × (length (now name) ≡ 10) × (many < 65536) ⌝ }
+    ensures { λ _. ⌜ now (descriptor .exit) ≡ splice (newDescriptor (now (name .entry)) 0x01 0 (size % 256) 0) 14 (wordBytes many) ⌝ }
+{
     let end_offset = (size % 256) as u8;
     let high = (many / 256) as u8;
     let low = (many % 256) as u8;
@@ -97,10 +106,13 @@ fn program_header(descriptor: &mut [u8; 256], name: &[u8], size: usize, many: us
     descriptor[15] = low;
 }
 
-// All that is written of a program before it is entered
-fn write_program(image: &mut [u8], k: usize, name: &[u8], many: usize, bytes: &[u8]) -> bool {
+// What is written of a program before it is entered, in the order of the definition; false where a 77th block would be needed, and then nothing is.
+fn write_program(image: &mut [u8], k: usize, name: &[u8], many: usize, bytes: &[u8]) -> bool
+    requires { ⌜ (256 ≤ length (now image)) × (length (now name) ≡ 10) × (length (now bytes) ≤ 32768) × (many ≡ sectorsFor (length (now bytes))) × (k ≡ descriptorChoice (sectorOf (now image) 0)) ⌝ }
+    ensures { λ r. ⌜ (r ≡ leb (length (newBlocks (now (image .entry)) many)) 76) × (now (image .exit) ≡ written (now (image .entry)) (cond r (programWrites (now (image .entry)) (now (name .entry)) (now (bytes .entry))) [])) ⌝ }
+{
     let mut sector0 = [0u8; 256];
-    copy(&mut sector0, sector_of(image, 0));
+    copy(&mut sector0, &image[0..256]);
     mark(&mut sector0, k);
     let mut descriptor = [0u8; 256];
     program_header(&mut descriptor, name, bytes.len(), many);
@@ -109,7 +121,7 @@ fn write_program(image: &mut [u8], k: usize, name: &[u8], many: usize, bytes: &[
     }
     write_data(image, &descriptor[28..256], bytes);
     write_sector(image, k, &descriptor);
-    write_sector(image, 0, &sector0);
+    copy(&mut image[0..256], &sector0);
     true
 }
 

@@ -8,9 +8,9 @@ use Rattle.rules.specs.Bytes.{wordBytes, splice}
 use Rattle.rules.specs.Chain.{blocks, extended, blocksBytes}
 use Rattle.rules.specs.Descriptor.{sectorsOf, chainOf}
 use Rattle.rules.proofs.Splice.{splice-length, put-back}
+use Rattle.rules.proofs.Descriptor.{numbered-chain}
 use Rattle.rules.proofs.Extended.{with-chain-laid}
 use Rattle.extension.specs.Built.{Extendable}
-use Rattle.appending.proofs.AppendLaws.{count-apart}
 use borrow.Author.Needs.{needs}
 use Rattle.appending.proofs.longer.Statement.{statement}
 use Rattle.appending.proofs.longer.Tie as tie
@@ -36,7 +36,7 @@ long : (c : tie.After-lay) → length (c .lay .last .0) ≡ 256
 long c = ap length (counted c) ∙ splice-length (start c .args .descriptor .now) 14 _ ∙ start c .pre .1
 
 apart : (c : tie.After-lay) → chainOf (c .lay .last .0) ≡ chainOf (start c .args .descriptor .now)
-apart c = ap chainOf (counted c) ∙ count-apart (start c .args .descriptor .now) _ (start c .pre .1)
+apart c = ap chainOf (counted c) ∙ numbered-chain (start c .args .descriptor .now) _
 
 part-extend-end : tie.Need-part-extend-end
 part-extend-end c = omega (arith, long (c .before .before))

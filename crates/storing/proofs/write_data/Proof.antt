@@ -4,11 +4,11 @@ use mathlib.Core.Path.{_≡_, refl, sym, ap, _∙_}
 use mathlib.Core.List.{List, _∷_}
 use Prim.Native.Nat.{ℕ, _+_, _*_, _<_}
 use native.Mathlib.Omega.{arith}
-use lib.ListN.{length, drop, replicate}
-use Rattle.rules.specs.Bytes.{splice}
+use lib.ListN.{length, drop}
 use Rattle.rules.specs.Sectors.{written}
 use Rattle.rules.specs.Chain.{places}
 use Rattle.rules.specs.Calls.Store.{dataWrites}
+use Rattle.rules.proofs.Bytes.{part-short}
 use Rattle.rules.proofs.Splice.{splice-length}
 use Rattle.descriptor.specs.Cursor.{ahead, Steady}
 use Rattle.descriptor.proofs.Ahead.{at-first, at-place, at-end}
@@ -25,18 +25,15 @@ Inv-loop image₀ chain bytes cursor₀ at₀ image cursor at =
 abbrev μ-loop : tie.MeasureT-loop
 μ-loop image₀ chain bytes cursor₀ at₀ image cursor at = length (ahead chain cursor)
 
--- the start of the call, the cursor's step, the place that it gave, and the piece laid for it, each found from what is behind it
+-- the start of the call, the cursor's step, and the place that it gave, each found from what is behind it
 abbrev start : tie.At-loop Inv-loop μ-loop → tie.Start Inv-loop μ-loop
 start c = c .before .before .before .before .before
 
 abbrev chain : tie.After-step Inv-loop μ-loop → List ℕ
 chain c = start (c .before) .args .chain .now
 
-abbrev placed : tie.After-lay Inv-loop μ-loop → tie.After-place Inv-loop μ-loop
-placed c = c .before .before .before .before
-
-abbrev laid : tie.After-write-sector Inv-loop μ-loop → tie.After-lay Inv-loop μ-loop
-laid c = c .before .before .before .before
+abbrev placed : tie.After-part Inv-loop μ-loop → tie.After-place Inv-loop μ-loop
+placed c = c .before .before .before
 
 -- at a place of the chain
 stepped : (c : tie.After-place Inv-loop μ-loop) →
@@ -51,21 +48,22 @@ loop-holds c =
     let all = at-first (c .before .before .before .before .args .chain .now) in
     (refl, rw e (record { inside = omega arith; small = omega arith }), rw (e, all) (omega arith), rw (e, all))
 
-write-sector-requires : tie.Need-write-sector-requires Inv-loop μ-loop
-write-sector-requires c κs = omega (arith, stepped (placed (c .before .before .before)) .2)
+write-piece-requires : tie.Need-write-piece-requires Inv-loop μ-loop
+write-piece-requires c κs =
+    let l = placed c .before .before .before in
+    (omega (arith, stepped (placed c) .2), rw (c .part .ensures) (part-short (start l .args .bytes .now) (l .loop .at) 256))
 
 loop-less : tie.Need-loop-less Inv-loop μ-loop
-loop-less c = omega (arith, ap length (stepped (placed (laid (c .before .before))) .0))
+loop-less c = omega (arith, ap length (stepped (placed (c .before .before .before)) .0))
 
 loop-again : tie.Need-loop-again Inv-loop μ-loop
 loop-again c =
     let w = c .before .before in
-    let y = laid w in
-    let e = stepped (placed y) in
-    let l = placed y .before .before .before in
+    let p = w .before in
+    let e = stepped (placed p) in
+    let l = placed p .before .before .before in
     let is = l .loop .inv in
-    let piece = y .lay .ensures ∙ ap (splice (replicate 256 0) 0) (y .before .part .ensures) in
-    (ap length (w .write-sector .ensures) ∙ splice-length (l .loop .image) _ _ ∙ is .0, e .1, omega (arith, ap length (e .0), is .2), piece-written (l .loop .image) (start l .args .bytes .now) (l .loop .at) (e .0) piece (w .write-sector .ensures) ∙ is .3)
+    (ap length (w .write-piece .ensures) ∙ splice-length (l .loop .image) _ _ ∙ is .0, e .1, omega (arith, ap length (e .0), is .2), piece-written (l .loop .image) (start l .args .bytes .now) (l .loop .at) (e .0) (p .part .ensures) (w .write-piece .ensures) ∙ is .3)
 
 returns : tie.Need-returns Inv-loop μ-loop
 returns c =
@@ -82,11 +80,8 @@ write-data-spec =
     loop-holds
     (λ c κs. search needs)
     (λ c. search needs)
-    (λ c. search needs)
     (λ c κs. search needs)
-    (λ c κs. search needs)
-    (λ c. search needs)
-    write-sector-requires
+    write-piece-requires
     (λ c. search needs)
     loop-less
     loop-again

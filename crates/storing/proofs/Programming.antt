@@ -1,0 +1,98 @@
+-- A program's sectors made and written: its descriptor, whose chain the sectors are spread into, and the writes one after another, the last of which enters it. They are those of the
+-- definition.
+use mathlib.Core.Path.{_≡_, sym, ap, _∙_}
+use mathlib.Core.Bool.{Bool}
+use mathlib.Core.List.{List, [], _∷_, _++_}
+use Prim.Native.Nat.{ℕ, _+_, _*_, _%_, _≤_}
+use native.Mathlib.Omega.{arith}
+use lib.Dec.{leb}
+use lib.ListN.{length, replicate}
+use borrow.Rule.Slice.PartMut.{putMid}
+use Rattle.rules.specs.Bytes.{wordBytes, splice}
+use Rattle.rules.specs.Sectors.{sectorOf, sectorCount, written}
+use Rattle.rules.specs.Map.{freeCount, marked, markedAll}
+use Rattle.rules.specs.Chain.{blocks, places, blocksBytes}
+use Rattle.rules.specs.Kind.{sectorsFor}
+use Rattle.rules.specs.Descriptor.{newDescriptor, chainOf, withChain}
+use Rattle.rules.specs.Index.{indexOf}
+use Rattle.rules.specs.Volume.{files, placed}
+use Rattle.rules.specs.Sound.{Sound}
+use Rattle.rules.specs.Choice.{descriptorChoice}
+use Rattle.rules.specs.Outcome.{write}
+use Rattle.rules.specs.Calls.Create.{entered}
+use Rattle.rules.specs.Calls.Store.{dataWrites, newSectors, newBlocks}
+use Rattle.rules.proofs.Splice.{splice-length, put-back}
+use Rattle.rules.proofs.Descriptor.{numbered-chain, new-length, new-chain}
+use Rattle.rules.proofs.Extended.{with-chain-length, with-chain-chain, with-chain-laid}
+use Rattle.rules.proofs.Marking.{all-length}
+use Rattle.rules.proofs.Choice.{sound-fenced, new-free}
+use Rattle.rules.proofs.Listed.{label-long}
+use Rattle.rules.proofs.Written.{written-both}
+use Rattle.index.proofs.Entered.{written-entered}
+use Rattle.storing.specs.Spread.{Taken, Spread}
+use Rattle.storing.specs.Program.{programDescriptor, programMap, programWrites}
+
+-- the header, and its chain, which is empty
+module _ (name : List ℕ) (many size : ℕ) (ten : length name ≡ 10) where
+  abbrev pub new : List ℕ
+  new = newDescriptor name 0x01 0 (size % 256) 0
+
+  abbrev pub header : List ℕ
+  header = splice new 14 (wordBytes many)
+
+  pub header-long : length header ≡ 256
+  header-long = splice-length new 14 (wordBytes many) ∙ new-length name 0x01 0 (size % 256) 0 ten
+
+  pub header-empty : chainOf header ≡ replicate 228 0
+  header-empty = numbered-chain new many ∙ new-chain name 0x01 0 (size % 256) 0 ten
+
+  -- a chain spread into it
+  module _ (chain : List ℕ) (long : length chain ≡ 228) (laid : chain ≡ splice (replicate 228 0) 0 (blocksBytes (blocks chain))) where
+    pub chain-in : putMid 28 228 header chain ≡ withChain new many (blocks chain)
+    chain-in =
+        put-back header chain 28 228 long (omega (arith, header-long))
+        ∙ with-chain-laid new many (blocks chain) (new-length name 0x01 0 (size % 256) 0 ten) chain (rw (new-chain name 0x01 0 (size % 256) 0 ten) laid)
+
+    pub chain-long : length (putMid 28 228 header chain) ≡ 256
+    chain-long = ap length (put-back header chain 28 228 long (omega (arith, header-long))) ∙ splice-length header 28 chain ∙ header-long
+
+    pub chain-out : chainOf (putMid 28 228 header chain) ≡ chain
+    chain-out =
+        ap chainOf chain-in
+        ∙ with-chain-chain new many (blocks chain) (new-length name 0x01 0 (size % 256) 0 ten)
+        ∙ ap (λ (s : List ℕ). splice s 0 (blocksBytes (blocks chain))) (new-chain name 0x01 0 (size % 256) 0 ten)
+        ∙ sym laid
+
+-- the sectors are those of the definition
+module _ (image name bytes : List ℕ) (k many : ℕ) (chosen : k ≡ descriptorChoice (sectorOf image 0)) (so-many : many ≡ sectorsFor (length bytes)) (after chain : List ℕ) where
+  pub enough-is : (enough : Bool) → Spread many (marked 1 (sectorOf image 0) k) enough after chain → enough ≡ leb (length (newBlocks image many)) 76
+  unfolding newBlocks newSectors
+  enough-is enough is = rw (← chosen) (is .enough-is)
+
+  -- written one after another
+  module _ (is : Taken many (marked 1 (sectorOf image 0) k) after chain) where
+    pub program-written : (one two descriptor : List ℕ) → one ≡ written image (dataWrites bytes (places chain)) → two ≡ splice one (256 * k) descriptor
+        → descriptor ≡ withChain (newDescriptor name 0x01 0 (length bytes % 256) 0) many (blocks chain)
+        → splice two 0 after ≡ written image (programWrites image name bytes)
+    unfolding programWrites programDescriptor programMap newBlocks newSectors markedAll written
+    program-written one two descriptor one-is two-is descriptor-is =
+        rw (two-is, one-is, descriptor-is, is .places-are, is .blocks-are, is .map, chosen, so-many) (written-both image (dataWrites bytes (newSectors image (sectorsFor (length bytes)))) _)
+
+-- and then entered: all its sectors were free
+module _ (image name bytes : List ℕ) (whole : Sound image) (ten : length name ≡ 10) (room : 1 + sectorsFor (length bytes) ≤ freeCount (sectorOf image 0)) where
+  descriptor-long : length (programDescriptor image name bytes) ≡ 256
+  unfolding programDescriptor
+  descriptor-long = with-chain-length _ (sectorsFor (length bytes)) (newBlocks image (sectorsFor (length bytes))) ∙ new-length name 0x01 0 (length bytes % 256) 0 ten
+
+  map-long : length (programMap image bytes) ≡ 256
+  unfolding programMap
+  map-long = all-length 1 (sectorOf image 0) _ ∙ label-long image whole
+
+  pub program-entered : (k : ℕ) → k ≡ descriptorChoice (sectorOf image 0) → (there after : List ℕ) → there ≡ written image (programWrites image name bytes)
+      → after ≡ written there (write 1 (indexOf (placed there name k (files there))) ∷ [])
+      → after ≡ written image (dataWrites bytes (newSectors image (sectorsFor (length bytes))) ++ entered image name (descriptorChoice (sectorOf image 0)) (programDescriptor image name bytes) (programMap image bytes))
+  unfolding programWrites newSectors
+  program-entered k chosen there after there-is after-is =
+      written-entered image name bytes (descriptorChoice (sectorOf image 0)) (newSectors image (sectorsFor (length bytes))) (programDescriptor image name bytes) (programMap image bytes) whole
+      (new-free (sectorCount image) (sectorOf image 0) (sectorsFor (length bytes)) (label-long image whole) (sound-fenced image whole) room) descriptor-long map-long there after there-is
+      (after-is ∙ ap (λ (j : ℕ). written there (write 1 (indexOf (placed there name j (files there))) ∷ [])) chosen)
