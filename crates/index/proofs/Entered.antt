@@ -1,5 +1,5 @@
 -- A new file's sectors were free, so what its last write reads stands as it stood before the first one: sector 1, and the descriptors of the files. The writes one after the other
--- are then those that enter it. Assumes nothing.
+-- are then those that enter it.
 use mathlib.Core.Path.{_≡_, sym, ap, _∙_}
 use mathlib.Core.List.{List, [], _∷_, _++_, append-assoc}
 use Prim.Native.Nat.{ℕ, _+_, _*_, _≤_}

@@ -29,39 +29,43 @@ use Rattle.rules.proofs.Choice.{sound-fenced, new-free}
 use Rattle.rules.proofs.Listed.{label-long}
 use Rattle.rules.proofs.Written.{written-both}
 use Rattle.index.proofs.Entered.{written-entered}
-use Rattle.storing.specs.Spread.{Taken, Spread}
+use Rattle.storing.specs.Spread.{IsSpread, Taken, Spread}
 use Rattle.storing.specs.Program.{programDescriptor, programMap, programWrites}
 
--- the header, and its chain, which is empty
-module _ (name : List ℕ) (many size : ℕ) (ten : length name ≡ 10) where
-  abbrev pub new : List ℕ
+-- the header is a whole sector, and its chain is empty
+module _ (name : List ℕ) (many size : ℕ) (ten : length name ≡ 10) {header : List ℕ} (is : header ≡ splice (newDescriptor name 0x01 0 (size % 256) 0) 14 (wordBytes many)) where
+  abbrev new : List ℕ
   new = newDescriptor name 0x01 0 (size % 256) 0
 
-  abbrev pub header : List ℕ
-  header = splice new 14 (wordBytes many)
+  whole : length new ≡ 256
+  whole = new-length name 0x01 0 (size % 256) 0 ten
+
+  empty : chainOf new ≡ replicate 228 0
+  empty = new-chain name 0x01 0 (size % 256) 0 ten
 
   pub header-long : length header ≡ 256
-  header-long = splice-length new 14 (wordBytes many) ∙ new-length name 0x01 0 (size % 256) 0 ten
+  header-long = ap length is ∙ splice-length new 14 (wordBytes many) ∙ whole
 
   pub header-empty : chainOf header ≡ replicate 228 0
-  header-empty = numbered-chain new many ∙ new-chain name 0x01 0 (size % 256) 0 ten
+  header-empty = ap chainOf is ∙ numbered-chain new many ∙ empty
 
   -- a chain spread into it
-  module _ (chain : List ℕ) (long : length chain ≡ 228) (laid : chain ≡ splice (replicate 228 0) 0 (blocksBytes (blocks chain))) where
-    pub chain-in : putMid 28 228 header chain ≡ withChain new many (blocks chain)
-    chain-in =
-        put-back header chain 28 228 long (omega (arith, header-long))
-        ∙ with-chain-laid new many (blocks chain) (new-length name 0x01 0 (size % 256) 0 ten) chain (rw (new-chain name 0x01 0 (size % 256) 0 ten) laid)
+  module _ {chain : List ℕ} (spread : IsSpread chain) where
+    laid-in : putMid 28 228 header chain ≡ splice header 28 chain
+    laid-in = put-back header chain 28 228 (spread .size) (omega (arith, header-long))
+
+    pub chain-in : putMid 28 228 header chain ≡ withChain (newDescriptor name 0x01 0 (size % 256) 0) many (blocks chain)
+    chain-in = laid-in ∙ ap (λ (h : List ℕ). splice h 28 chain) is ∙ with-chain-laid new many (blocks chain) whole chain (rw empty (spread .laid))
 
     pub chain-long : length (putMid 28 228 header chain) ≡ 256
-    chain-long = ap length (put-back header chain 28 228 long (omega (arith, header-long))) ∙ splice-length header 28 chain ∙ header-long
+    chain-long = ap length laid-in ∙ splice-length header 28 chain ∙ header-long
 
     pub chain-out : chainOf (putMid 28 228 header chain) ≡ chain
     chain-out =
         ap chainOf chain-in
-        ∙ with-chain-chain new many (blocks chain) (new-length name 0x01 0 (size % 256) 0 ten)
-        ∙ ap (λ (s : List ℕ). splice s 0 (blocksBytes (blocks chain))) (new-chain name 0x01 0 (size % 256) 0 ten)
-        ∙ sym laid
+        ∙ with-chain-chain new many (blocks chain) whole
+        ∙ ap (λ (s : List ℕ). splice s 0 (blocksBytes (blocks chain))) empty
+        ∙ sym (spread .laid)
 
 -- the sectors are those of the definition
 module _ (image name bytes : List ℕ) (k many : ℕ) (chosen : k ≡ descriptorChoice (sectorOf image 0)) (so-many : many ≡ sectorsFor (length bytes)) (after chain : List ℕ) where

@@ -18,7 +18,7 @@ use Rattle.rules.specs.Calls.Store.{dataWrites}
 use Rattle.rules.proofs.Splice.{put-back}
 use Rattle.rules.proofs.Choice.{lowest-to, choices-length}
 use Rattle.storing.specs.Spread.{Taken, Spread}
-use Rattle.storing.proofs.Programming.{header, header-long, header-empty, chain-long, chain-in, chain-out, enough-is, program-written}
+use Rattle.storing.proofs.Programming.{header-long, header-empty, chain-long, chain-in, chain-out, enough-is, program-written}
 use borrow.Author.Needs.{needs}
 use Rattle.storing.proofs.write_program.Statement.{statement}
 use Rattle.storing.proofs.write_program.Tie as tie
@@ -56,21 +56,15 @@ marked-is : (c : tie.After-mark) → let a = start c .args in c .mark .last .0 �
 unfolding sectorOf
 marked-is c = c .mark .ensures ∙ ap (λ (s : List ℕ). marked 1 s (start c .args .k)) (copied c .copy .ensures)
 
--- the header is a whole sector, and its chain is empty
-long : (c : tie.After-program-header) → length (c .program-header .last .0) ≡ 256
-long c =
-    let begin = start (mapped c) in
-    ap length (c .program-header .ensures) ∙ header-long (begin .args .name .now) (begin .args .many) (length (begin .args .bytes .now)) (begin .pre .1)
-
 part-descriptor-end : tie.Need-part-descriptor-end
-part-descriptor-end c = omega (arith, long (c .before))
+part-descriptor-end c = omega (arith, header-long _ _ _ (start (mapped (c .before)) .pre .1) (c .before .program-header .ensures))
 
 spread-requires : tie.Need-spread-requires
 unfolding chainOf
 spread-requires c κs =
     let heading = c .before .before in
-    let begin = start (mapped heading) in
-    (search needs, ap chainOf (heading .program-header .ensures) ∙ header-empty (begin .args .name .now) (begin .args .many) (length (begin .args .bytes .now)) (begin .pre .1), omega (arith, begin .pre .2, begin .pre .3))
+    let pre = start (mapped heading) .pre in
+    (search needs, header-empty _ _ _ (pre .1) (heading .program-header .ensures), omega (arith, pre .2, pre .3))
 
 -- what was spread, in that map
 abbrev SpreadAt : (c : tie.After-spread) → Bool → Type 0
@@ -96,24 +90,17 @@ taken c = spread-is (spreading c) true (not-false _ (c .if1 .left)) .taken refl
 abbrev Descriptor : (c : tie.Else1) → List ℕ
 Descriptor c = let s = spreading c in putMid 28 228 (headed s .program-header .last .0) (s .spread .last .1 .0)
 
--- whatever is said of a chain spread into the header is said of that descriptor
-spread-into : (c : tie.Else1) (P : List ℕ → Type 0) →
-    (let s = spreading c in let a = begun s .args in P (putMid 28 228 (header (a .name .now) (a .many) (length (a .bytes .now)) (begun s .pre .1)) (s .spread .last .1 .0)))
-    → P (Descriptor c)
-spread-into c P is = let s = spreading c in subst (λ (h : List ℕ). P (putMid 28 228 h (s .spread .last .1 .0))) (sym (headed s .program-header .ensures)) is
+descriptor-is : (c : tie.Else1) →
+    let s = spreading c in
+    let a = begun s .args in
+    Descriptor c ≡ withChain (newDescriptor (a .name .now) 0x01 0 (length (a .bytes .now) % 256) 0) (a .many) (blocks (s .spread .last .1 .0))
+descriptor-is c = chain-in _ _ _ (begun (spreading c) .pre .1) (headed (spreading c) .program-header .ensures) (taken c .spread)
 
 descriptor-long : (c : tie.Else1) → length (Descriptor c) ≡ 256
-descriptor-long c =
-    let s = spreading c in
-    let begin = begun s in
-    spread-into c (λ (d : List ℕ). length d ≡ 256) (chain-long (begin .args .name .now) (begin .args .many) (length (begin .args .bytes .now)) (begin .pre .1) (s .spread .last .1 .0) (taken c .spread .size) (taken c .spread .laid))
+descriptor-long c = chain-long _ _ _ (begun (spreading c) .pre .1) (headed (spreading c) .program-header .ensures) (taken c .spread)
 
 chain-is : (c : tie.Else1) → chainOf (Descriptor c) ≡ spreading c .spread .last .1 .0
-chain-is c =
-    let s = spreading c in
-    let begin = begun s in
-    spread-into c (λ (d : List ℕ). chainOf d ≡ s .spread .last .1 .0)
-    (chain-out (begin .args .name .now) (begin .args .many) (length (begin .args .bytes .now)) (begin .pre .1) (s .spread .last .1 .0) (taken c .spread .size) (taken c .spread .laid))
+chain-is c = chain-out _ _ _ (begun (spreading c) .pre .1) (headed (spreading c) .program-header .ensures) (taken c .spread)
 
 few : (c : tie.Else1) → length (places (spreading c .spread .last .1 .0)) ≤ 128
 few c =
@@ -147,15 +134,11 @@ returns-2 c =
     let begin = begun s in
     let a = begin .args in
     let chain = s .spread .last .1 .0 in
-    let described =
-    spread-into e (λ (d : List ℕ). d ≡ withChain (newDescriptor (a .name .now) 0x01 0 (length (a .bytes .now) % 256) 0) (a .many) (blocks chain))
-    (chain-in (a .name .now) (a .many) (length (a .bytes .now)) (begin .pre .1) chain (taken e .spread .size) (taken e .spread .laid))
-    in
     let data-there = one .write-data .ensures ∙ ap (λ (l : List ℕ). written (a .image .now) (dataWrites (a .bytes .now) (places l))) (chain-is e) in (
       enough-is (a .image .now) (a .name .now) (a .bytes .now) (a .k) (a .many) (begin .pre .4) (begin .pre .3) _ _ true (spread-is s true (not-false _ (e .if1 .left))),
       put-back _ _ 0 256 (search needs) (search needs)
           ∙ ap (splice (two .write-sector .last .0) 0) (third .copy2 .ensures)
-          ∙ program-written (a .image .now) (a .name .now) (a .bytes .now) (a .k) (a .many) (begin .pre .4) (begin .pre .3) _ chain (taken e) _ _ _ data-there (two .write-sector .ensures) described,
+          ∙ program-written (a .image .now) (a .name .now) (a .bytes .now) (a .k) (a .many) (begin .pre .4) (begin .pre .3) _ chain (taken e) _ _ _ data-there (two .write-sector .ensures) (descriptor-is e),
     )
 
 pub write-program-spec : {M : Type 1} → statement M
