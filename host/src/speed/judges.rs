@@ -11,8 +11,7 @@ use std::time::Instant;
 
 const SECTORS: usize = 1440;
 /// What the library may take, as a multiple of the reference.
-const BOUND: f64 = 1.5;
-const BOUND_EMPTY: f64 = 2.5;
+const BOUND: f64 = 1.0;
 const ROUNDS: usize = 300;
 const CALLS_A_ROUND: usize = 20;
 
@@ -36,7 +35,6 @@ struct Row {
     image: Vec<u8>,
     /// The paper's number for the image.
     number: u32,
-    bound: f64,
 }
 
 fn rows() -> Vec<Row> {
@@ -56,14 +54,14 @@ fn rows() -> Vec<Row> {
         sound("one file in one block", &shape(1, 1).build(random)),
         sound("one file of 75 blocks", &shape(1, 75).build(random)),
         sound("20 files of 1 to 3 blocks", &twenty.build(random)),
-        Row { bound: BOUND_EMPTY, ..sound("empty", &shape(0, 0).build(random)) },
+        sound("empty", &shape(0, 0).build(random)),
     ];
     rows.extend(damaged_rows(&fragmented));
     rows
 }
 
 fn sound(what: &'static str, disk: &Disk) -> Row {
-    Row { what, image: disk.image.clone(), number: 0, bound: BOUND }
+    Row { what, image: disk.image.clone(), number: 0 }
 }
 
 /// The disk with each fault early and late, where that can be told apart.
@@ -71,7 +69,7 @@ fn damaged_rows(disk: &Disk) -> Vec<Row> {
     let damaged = |what, number, at: usize, bytes: &[u8]| {
         let mut image = disk.image.clone();
         image[at..][..bytes.len()].copy_from_slice(bytes);
-        Row { what, image, number, bound: BOUND }
+        Row { what, image, number }
     };
     let last = disk.files.len() - 1;
     let status = |file: usize| SECTOR_BYTES * disk.files[file].descriptor + 12;
@@ -123,8 +121,8 @@ fn repeat(judge: Judge, image: &[u8], times: usize) {
 fn write(figures: &[Vec<f64>]) -> Vec<String> {
     let rows = rows();
     write_table("instructions", &rows, figures, is_held);
-    let misses = |(row, figures): &(&Row, &Vec<f64>)| {
-        is_held(figures[1]) && figures[0] > row.bound * figures[1]
+    let misses = |(_, figures): &(&Row, &Vec<f64>)| {
+        is_held(figures[1]) && figures[0] > BOUND * figures[1]
     };
     rows.iter().zip(figures).filter(misses).map(|(row, _)| row.what.to_string()).collect()
 }
