@@ -1,4 +1,4 @@
-// Formatting: sector 0 is made in a local array and written whole, sector 1 is filled with zeros, and every other byte is E5 hex.
+// Formatting: label and map are laid into sector 0, sector 1 is filled with zeros, and every other byte is E5 hex.
 ghost use mathlib.Core.Path.{_≡_};
 ghost use mathlib.Core.List.{[], _∷_, _++_};
 ghost use Prim.Native.Nat.{_*_, _≤_};
@@ -46,16 +46,14 @@ fn new_label(n: usize, name: &[u8], geometry: Geometry) -> [u8; 56]
     label
 }
 
-// The label and the map, in which sectors 0 and 1 are held.
-fn new_sector0(n: usize, name: &[u8], geometry: Geometry) -> [u8; 256]
-    requires { ⌜ (3 ≤ n) × (n ≤ 1600) × (length (now name) ≡ 10) ⌝ }
-    ensures { λ r. ⌜ r ≡ newLabel n (now (name .entry)) (geometryOf geometry) ++ mapOf n (0 ∷ (1 ∷ [])) ⌝ }
+// Sector 0: the label, and the map, in which sectors 0 and 1 are held.
+fn lay_sector0(sector0: &mut [u8], n: usize, name: &[u8], geometry: Geometry)
+    requires { ⌜ (3 ≤ n) × (n ≤ 1600) × (length (now name) ≡ 10) × (length (now sector0) ≡ 256) ⌝ }
+    ensures { λ _. ⌜ now (sector0 .exit) ≡ newLabel n (now (name .entry)) (geometryOf geometry) ++ mapOf n (0 ∷ (1 ∷ [])) ⌝ }
 {
     let label = new_label(n, name, geometry);
-    let mut sector0 = [0u8; 256];
-    lay(&mut sector0, 0, &label);
+    lay(sector0, 0, &label);
     lay_map(&mut sector0[56..256], n, 2);
-    sector0
 }
 
 // Every byte of an image of n sectors.
@@ -63,8 +61,7 @@ fn write_volume(image: &mut [u8], n: usize, name: &[u8], geometry: Geometry)
     requires { ⌜ (3 ≤ n) × (n ≤ 1600) × (length (now image) ≡ 256 * n) × (length (now name) ≡ 10) ⌝ }
     ensures { λ _. ⌜ now (image .exit) ≡ formatted n (now (name .entry)) (geometryOf geometry) ⌝ }
 {
-    let sector0 = new_sector0(n, name, geometry);
-    lay(image, 0, &sector0);
+    lay_sector0(&mut image[0..256], n, name, geometry);
     fill(&mut image[256..512], 0);
     fill(&mut image[512..], 0xE5);
 }

@@ -7,7 +7,7 @@ use lib.ListN.{length, replicate, length-append, length-replicate}
 use borrow.Rule.Slice.PartMut.{putMid}
 use Rattle.rules.specs.Bytes.{part, splice}
 use Rattle.rules.proofs.Bytes.{part-length}
-use Rattle.rules.proofs.Splice.{splice-length, splice-whole}
+use Rattle.rules.proofs.Splice.{splice-length, splice-whole, put-back}
 use Rattle.rules.proofs.Formatted.{put-next, sector0-length, formatted-parts}
 use Rattle.formatting.specs.Geometry.{geometryOf}
 use borrow.Author.Needs.{needs}
@@ -39,28 +39,51 @@ module _ (image sector0 : List ℕ) (n : ℕ) (large : 3 ≤ n) (long : length i
             ∙ append-assoc sector0 zeros rest,
       )
 
+three-parts : {a b c a′ b′ c′ : List ℕ} → a ≡ a′ → b ≡ b′ → c ≡ c′ → a ++ (b ++ c) ≡ a′ ++ (b′ ++ c′)
+three-parts e f g = rw (e, f, g)
+
+-- the ways back: from the end to the zeros, from there to sector 0, and to the start of the call
+abbrev zeroed : tie.After-fill2 → tie.After-fill
+zeroed c = c .before .before .before .before
+
+abbrev first : tie.After-fill → tie.After-lay-sector0
+first c = c .before .before .before .before
+
+abbrev start : tie.After-lay-sector0 → tie.Start
+start c = c .before .before .before .before
+
+-- sector 0, and the image with it
+whole : (c : tie.After-lay-sector0) → length (c .lay-sector0 .last .0) ≡ 256
+whole c =
+    let s = start c in
+    ap length (c .lay-sector0 .ensures) ∙ sector0-length (s .args .n) (s .args .name .now) (geometryOf (s .args .geometry)) (s .pre .3)
+
+laid : (c : tie.After-lay-sector0) → putMid 0 256 (start c .args .image .now) (c .lay-sector0 .last .0) ≡ splice (start c .args .image .now) 0 (c .lay-sector0 .last .0)
+laid c =
+    let s = start c in
+    put-back (s .args .image .now) (c .lay-sector0 .last .0) 0 256 (whole c) (omega (arith, s .pre .0, s .pre .2))
+
 returns : tie.Need-returns
 returns c =
-    let filled = c .before .before .before .before .before .before in
-    let laid = filled .before .before .before .before in
-    let made = laid .before .before .before in
-    let start = made .before .before .before in
-    let n = start .args .n in
-    let image = start .args .image .now in
-    let sector0 = made .new-sector0 .result in
-    let parts = formatted-parts n (start .args .name .now) (geometryOf (start .args .geometry)) (start .pre .3) in
-    let whole = ap length (made .new-sector0 .ensures) ∙ sector0-length n (start .args .name .now) (geometryOf (start .args .geometry)) (start .pre .3) in
+    let last = c .before .before in
+    let filled = zeroed last in
+    let labelled = first filled in
+    let s = start labelled in
+    let n = s .args .n in
+    let image = s .args .image .now in
+    let sector0 = labelled .lay-sector0 .last .0 in
+    let parts = formatted-parts n (s .args .name .now) (geometryOf (s .args .geometry)) (s .pre .3) in
     let zeros = filled .fill .last .0 in
-    let one = filled-one image sector0 n (start .pre .0) (start .pre .2) whole (laid .lay .last .0) zeros (laid .lay .ensures) (filled .fill .ensures) in
-    let last = c .before .before .fill2 in
-    let rest = filled-rest image sector0 n (start .pre .0) (start .pre .2) whole _ zeros (last .last .0) (ap length (one .0)) (one .1) (last .ensures) in
-    rest .1 ∙ rw (one .0, rest .0, made .new-sector0 .ensures) (sym parts)
+    let one = filled-one image sector0 n (s .pre .0) (s .pre .2) (whole labelled) _ zeros (laid labelled) (filled .fill .ensures) in
+    let rest = filled-rest image sector0 n (s .pre .0) (s .pre .2) (whole labelled) _ zeros (last .fill2 .last .0) (ap length (one .0)) (one .1) (last .fill2 .ensures) in
+    rest .1 ∙ three-parts (labelled .lay-sector0 .ensures) (one .0) (rest .0) ∙ sym parts
 
 pub write-volume-spec : {M : Type 1} → statement M
 write-volume-spec =
     tie.close
     (tie.spec
-    (λ c κs. search needs)
+    (λ c. search needs)
+    (λ c. search needs)
     (λ c. search needs)
     (λ c κs. search needs)
     (λ c. search needs)
