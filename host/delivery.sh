@@ -99,7 +99,7 @@ END
         echo '0 done'
         texts
         printf '%s no number of this library\n' 16 17 18 19 20 4294967295
-        echo 'version 0.2.0'
+        echo 'version 0.2.1'
         printf '%s\n' 'KIND 14' 'NOT_PROGRAM 14' 'ARGUMENT 15' 'SIZE 15'
         sizes
     } >"$work/expected"
@@ -159,7 +159,7 @@ int main(void) {
 }
 END
     cat >"$work/expected" <<'END'
-0.2.0: done
+0.2.1: done
 OWN 40 36
 HELLO PROGRAM 5 1 U
 END
@@ -256,7 +256,7 @@ host_by_pkg_config() {
     read -r -a flags < <(pkg-config --cflags --libs pnoelithe)
     "${compiler[@]}" "${strict[@]}" "$own/host.c" "${flags[@]}" -o "$own/host"
     must_print "${emulator[@]}" "$own/host"
-    echo 0.2.0 >"$work/expected"
+    echo 0.2.1 >"$work/expected"
     must_print pkg-config --modversion pnoelithe
     echo "a host is built by pkg-config"
 }

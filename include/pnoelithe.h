@@ -37,7 +37,7 @@ extern "C" {
 /* The version. While the major number is 0, the interface may change with each minor one. */
 #define PNO_VERSION_MAJOR 0
 #define PNO_VERSION_MINOR 2
-#define PNO_VERSION_PATCH 0
+#define PNO_VERSION_PATCH 1
 #define PNO_QUOTED(word) #word
 #define PNO_DOTTED(major, minor, patch) PNO_QUOTED(major) "." PNO_QUOTED(minor) "." PNO_QUOTED(patch)
 #define PNO_VERSION PNO_DOTTED(PNO_VERSION_MAJOR, PNO_VERSION_MINOR, PNO_VERSION_PATCH) /* as a text */
@@ -135,7 +135,7 @@ static inline const char *pno_text(uint32_t number) {
  * Judges an image: 0 where it is a sound volume, else the first of 1 to 6 that is due. The whole image is
  * tested for 1, then for 2, and so on.
  *
- * Stack: at most 1,784 bytes.
+ * Stack: at most 344 bytes.
  */
 uint32_t pno_judge(const uint8_t *image, size_t image_len);
 
@@ -144,7 +144,7 @@ uint32_t pno_judge(const uint8_t *image, size_t image_len);
  * the drive's numbers, the map, an empty catalogue, and E5 hex in every byte from sector 2 on.
  *
  * Numbers: 1 where image_len is not 256 x n, or n is not from PNO_SECTORS_LEAST to PNO_SECTORS_MOST; 7.
- * Stack: at most 264 bytes.
+ * Stack: at most 56 bytes.
  */
 uint32_t pno_format(uint8_t *image, size_t image_len, size_t n, const uint8_t *name, size_t name_len,
                     uint8_t sectors_per_track, uint8_t tracks, uint8_t sides, uint8_t density);
@@ -154,7 +154,7 @@ uint32_t pno_format(uint8_t *image, size_t image_len, size_t n, const uint8_t *n
  * the system and the files hold.
  *
  * Numbers: 1 to 6.
- * Stack: at most 1,800 bytes.
+ * Stack: at most 360 bytes.
  */
 uint32_t pno_free_count(const uint8_t *image, size_t image_len, size_t *free_sectors);
 
@@ -162,7 +162,7 @@ uint32_t pno_free_count(const uint8_t *image, size_t image_len, size_t *free_sec
  * A volume's summary: its name with the padding, its number of sectors n, of files, and of free sectors.
  *
  * Numbers: 1 to 6.
- * Stack: at most 1,832 bytes.
+ * Stack: at most 392 bytes.
  */
 uint32_t pno_summary(const uint8_t *image, size_t image_len, uint8_t name[PNO_NAME_BYTES], size_t *n,
                      size_t *files, size_t *free_sectors);
@@ -188,7 +188,7 @@ enum pno_kind {
  * full. Else it is 256 x (sectors - 1) and the end offset.
  *
  * Numbers: 1 to 6; 8 past the last file; 15 where header_len is below PNO_HEADER_BYTES.
- * Stack: at most 1,832 bytes.
+ * Stack: at most 392 bytes.
  */
 uint32_t pno_entry(const uint8_t *image, size_t image_len, size_t place, uint8_t *header, size_t header_len,
                    size_t *kind, size_t *length, size_t *sectors, size_t *is_protected);
@@ -197,7 +197,7 @@ uint32_t pno_entry(const uint8_t *image, size_t image_len, size_t place, uint8_t
  * Reads a sector of a file of any kind, protected or not: its 256 bytes. Offsets count from 0.
  *
  * Numbers: 1 to 6; 7; 8; 15 for an offset past the last sector, or where out_len is below PNO_SECTOR_BYTES.
- * Stack: at most 1,912 bytes.
+ * Stack: at most 472 bytes.
  */
 uint32_t pno_read(const uint8_t *image, size_t image_len, const uint8_t *name, size_t name_len,
                   size_t offset, uint8_t *out, size_t out_len);
@@ -207,7 +207,7 @@ uint32_t pno_read(const uint8_t *image, size_t image_len, const uint8_t *name, s
  *
  * Numbers: 1 to 6; 7; 8; 14; 15 where out_len is below the program's length, which is at most
  * PNO_LOADED_MOST.
- * Stack: at most 1,992 bytes.
+ * Stack: at most 552 bytes.
  */
 uint32_t pno_load(const uint8_t *image, size_t image_len, const uint8_t *name, size_t name_len, uint8_t *out,
                   size_t out_len, size_t *length);
@@ -219,7 +219,7 @@ uint32_t pno_load(const uint8_t *image, size_t image_len, const uint8_t *name, s
  * newline at the end of each line; no byte of zero ends the text.
  *
  * Numbers: 1 to 6; 15 where out_len is below the text's length, which is at most PNO_LISTING_MOST.
- * Stack: at most 1,816 bytes.
+ * Stack: at most 376 bytes.
  */
 uint32_t pno_listing(const uint8_t *image, size_t image_len, uint8_t *out, size_t out_len, size_t *length);
 
@@ -242,7 +242,7 @@ uint32_t pno_listing(const uint8_t *image, size_t image_len, uint8_t *out, size_
  * variable); the other two are any byte.
  *
  * Numbers: 1 to 6; 7; 9; 15 for another status; 11; 12.
- * Stack: at most 2,792 bytes.
+ * Stack: at most 808 bytes.
  */
 uint32_t pno_create(uint8_t *image, size_t image_len, const uint8_t *name, size_t name_len, uint8_t status,
                     uint8_t record_length, uint8_t records_per_sector);
@@ -254,7 +254,7 @@ uint32_t pno_create(uint8_t *image, size_t image_len, const uint8_t *name, size_
  *
  * Numbers: 1 to 6; 7; 8; 10; 14 for a program; 15 where data_len is not PNO_SECTOR_BYTES; 12; 13, which is
  * not due where the sector that is taken follows the file's last one.
- * Stack: at most 2,520 bytes.
+ * Stack: at most 1,080 bytes.
  */
 uint32_t pno_append(uint8_t *image, size_t image_len, const uint8_t *name, size_t name_len,
                     const uint8_t *data, size_t data_len);
@@ -264,7 +264,7 @@ uint32_t pno_append(uint8_t *image, size_t image_len, const uint8_t *name, size_
  *
  * Numbers: 1 to 6; 7; 8; 10; 14 for a program; 15 for an offset past the last sector, or where data_len is
  * not PNO_SECTOR_BYTES.
- * Stack: at most 1,912 bytes.
+ * Stack: at most 472 bytes.
  */
 uint32_t pno_overwrite(uint8_t *image, size_t image_len, const uint8_t *name, size_t name_len, size_t offset,
                        const uint8_t *data, size_t data_len);
@@ -277,7 +277,7 @@ uint32_t pno_overwrite(uint8_t *image, size_t image_len, const uint8_t *name, si
  *
  * Numbers: 1 to 6; 7; 9; 15 where bytes_len is above PNO_PROGRAM_MOST; 11; 12, the descriptor's sector being
  * counted; 13.
- * Stack: at most 3,352 bytes.
+ * Stack: at most 1,160 bytes.
  */
 uint32_t pno_store(uint8_t *image, size_t image_len, const uint8_t *name, size_t name_len,
                    const uint8_t *bytes, size_t bytes_len);
@@ -287,7 +287,7 @@ uint32_t pno_store(uint8_t *image, size_t image_len, const uint8_t *name, size_t
  * themselves keep their bytes.
  *
  * Numbers: 1 to 6; 7; 8; 10.
- * Stack: at most 2,456 bytes.
+ * Stack: at most 1,016 bytes.
  */
 uint32_t pno_delete(uint8_t *image, size_t image_len, const uint8_t *name, size_t name_len);
 
@@ -296,7 +296,7 @@ uint32_t pno_delete(uint8_t *image, size_t image_len, const uint8_t *name, size_
  *
  * Numbers: 1 to 6; 7 for either name; 8 for the old one; 9 for the new one, also where it is the old one;
  * 10.
- * Stack: at most 2,456 bytes.
+ * Stack: at most 984 bytes.
  */
 uint32_t pno_rename(uint8_t *image, size_t image_len, const uint8_t *old, size_t old_len,
                     const uint8_t *new_name, size_t new_len);
@@ -305,7 +305,7 @@ uint32_t pno_rename(uint8_t *image, size_t image_len, const uint8_t *old, size_t
  * Protects a file, and unprotects it: one bit of its status. Either may be done again.
  *
  * Numbers: 1 to 6; 7; 8.
- * Stack: at most 1,896 bytes.
+ * Stack: at most 456 bytes.
  */
 uint32_t pno_protect(uint8_t *image, size_t image_len, const uint8_t *name, size_t name_len);
 uint32_t pno_unprotect(uint8_t *image, size_t image_len, const uint8_t *name, size_t name_len);
@@ -319,7 +319,7 @@ uint32_t pno_unprotect(uint8_t *image, size_t image_len, const uint8_t *name, si
  * pack to the same bytes, and packing what was packed changes nothing. The source is read and never changed.
  *
  * Numbers: 1 to 6 for the source; 15 where target_len is not source_len.
- * Stack: at most 2,392 bytes.
+ * Stack: at most 760 bytes.
  */
 uint32_t pno_pack(const uint8_t *source, size_t source_len, uint8_t *target, size_t target_len);
 
