@@ -1,9 +1,9 @@
 -- The packed image of a sound volume is sound, is laid down as the paper says, and has the label area and the catalogue of its original.
 use mathlib.Core.Path.{_≡_, refl, sym, ap, _∙_}
 use mathlib.Core.List.{List, [], _∷_, _++_, map, append-assoc}
-use Prim.Native.Nat.{ℕ, zero, suc, _+_, _-_, _*_, _≤_, _<_}
+use Prim.Native.Nat.{ℕ, suc, _+_, _-_, _*_, _≤_, _<_}
 use native.Mathlib.Omega.{arith}
-use native.Mathlib.Decide.{decLt, ℕ-discrete}
+use native.Mathlib.Decide.{decLt}
 use lib.ListN.{length, take, getD, replicate, length-append, length-replicate, length-map, List·getD-append}
 use lib.Seq.{take-at, drop-at, take-all}
 use Rattle.rules.specs.Bytes.{byteAt, part}
@@ -17,8 +17,8 @@ use Rattle.rules.specs.Sound.{Sound}
 use Rattle.rules.specs.Calls.Pack.{labelArea, packedDescriptor, packedDescriptors, packedData, dataSectors, packedSectors, packed}
 use Rattle.rules.proofs.Bytes.{part-at}
 use Rattle.rules.proofs.Sectors.{sector-length}
-use Rattle.rules.proofs.Map.{count-none, count-here, count-other, counted-all, count-append, map-of-bits, map-same}
-use Rattle.rules.proofs.Chain.{run-length, run-at, run-holds, run-counts, run-once}
+use Rattle.rules.proofs.Map.{counted-all, count-append, map-of-bits, map-same}
+use Rattle.rules.proofs.Chain.{run-length, run-at, run-counts, run-once}
 use Rattle.rules.proofs.Volume.{places-count}
 use Rattle.rules.proofs.Formatted.{map-length}
 use Rattle.rules.proofs.Indexed.{Ascending, index-length, numbers-index, index-is-index}

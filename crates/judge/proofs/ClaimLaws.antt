@@ -2,12 +2,12 @@
 -- is none the marks that are left are the map of the holders.
 use mathlib.Core.Path.{_≡_, refl, sym, ap, _∙_}
 use mathlib.Core.Bool.{Bool, true, false, cond}
-use mathlib.Core.List.{List, [], _∷_, _++_}
-use Prim.Native.Nat.{ℕ, zero, suc, _+_, _-_, _*_, _≤_, _<_}
+use mathlib.Core.List.{List, [], _∷_}
+use Prim.Native.Nat.{ℕ, _+_, _-_, _*_, _≤_, _<_}
 use native.Mathlib.Omega.{arith}
 use native.Mathlib.Decide.{decLt, ℕ-discrete}
 use lib.Dec.{eqb}
-use lib.ListN.{length, take, drop, replicate, length-replicate, getD-replicate, List·getD-append, List·getD-eq-default}
+use lib.ListN.{length, replicate, length-replicate, getD-replicate, List·getD-append, List·getD-eq-default}
 use lib.Seq.{take-all}
 use borrow.Author.Tests.{eq-eqb, eqb-true}
 use Rattle.rules.specs.Bytes.{byteAt, part, same}
@@ -16,9 +16,9 @@ use Rattle.rules.specs.Chain.{run}
 use Rattle.rules.specs.Map.{mapBit, count, taken, mapRule, mapOf, byteOf, marked, markedAll}
 use Rattle.rules.specs.Volume.{files, fileHolders, holders}
 use Rattle.rules.specs.Verdict.{heldTwice}
-use Rattle.rules.proofs.Tests.{absurd-test, same-test}
-use Rattle.rules.proofs.Bytes.{part-length, part-behind, same-is, is-same}
-use Rattle.rules.proofs.Map.{count-none, count-here, count-other, count-more, count-append, taken-below, taken-once, map-at, at-map, bytes-at, map-of-bits, map-of-bytes}
+use Rattle.rules.proofs.Tests.{absurd-test}
+use Rattle.rules.proofs.Bytes.{part-length, part-behind}
+use Rattle.rules.proofs.Map.{count-none, count-here, count-other, count-more, count-append, taken-below, taken-once, bytes-at, map-of-bits, map-of-bytes, map-compared}
 use Rattle.rules.proofs.Marking.{marked-length, marked-here, marked-other, all-length, all-below, marked-holders, bit-once}
 use Rattle.rules.proofs.Sectors.{sector-length, sector-below}
 use Rattle.rules.proofs.Index.{index-is}
@@ -107,16 +107,6 @@ module _ (n : ℕ) (hs sector0 : List ℕ) (large : 3 ≤ n) (small : n ≤ 1600
 
   pub map-left : heldTwice (0 ∷ (1 ∷ hs)) ≡ false → (k : ℕ) → k < 1600 → mapBit (markedAll 1 sector0 hs) k ≡ taken n (0 ∷ (1 ∷ hs)) k
   map-left e = marked-holders n sector0 (0 ∷ (1 ∷ [])) hs (0 ∷ (1 ∷ hs)) long is (λ k. omega (arith, all-count k, held-once (0 ∷ (1 ∷ hs)) e k)) all-count
-
--- the map's rule is the comparison of its 200 bytes with those of the holders
-map-compared : (n : ℕ) (hs sector0 : List ℕ) → length sector0 ≡ 256 → ((i : ℕ) → byteAt sector0 i < 256) → ((k : ℕ) → count k hs ≤ 1)
-    → same (part sector0 56 200) (mapOf n hs) ≡ mapRule n hs sector0
-map-compared n hs sector0 long small once =
-    same-test (same (part sector0 56 200) (mapOf n hs)) (mapRule n hs sector0)
-    (λ e. at-map n hs sector0 (map-of-bits n hs sector0 once (same-is (part sector0 56 200) (mapOf n hs) e)))
-    (λ e.
-    let bytes = map-of-bytes n hs sector0 (part-length sector0 56 200 (omega (arith, long))) small (map-at n hs sector0 e) in
-    rw bytes (is-same (mapOf n hs)))
 
 -- the marks are the map of the sector 0 that they stand for, and bytes as it
 as-map-part : (marks : List ℕ) → length marks ≡ 200 → part (asMap marks) 56 200 ≡ marks

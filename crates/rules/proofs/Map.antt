@@ -1,4 +1,4 @@
--- Counts of holders, and the map: its rule as a test and as facts; the bits determine the bytes, and the bytes the bits.
+-- Counts of holders, and the map: its rule as a test and as facts; the bits determine the bytes, and the bytes the bits, so that the rule is a comparison of bytes.
 use mathlib.Core.Path.{_≡_, refl, sym, ap, _∙_, fun-ext}
 use mathlib.Core.Bool.{true, _&&_}
 use mathlib.Core.List.{List, [], _∷_, _++_}
@@ -10,10 +10,10 @@ use lib.Dec.{eqb}
 use lib.ListN.{length, getD}
 use lib.Seq.{ext-getD}
 use borrow.Author.Tests.{eq-eqb, ne-eqb, lt-ltb, le-ltb, eqb-true}
-use Rattle.rules.specs.Bytes.{byteAt, bitOf, part}
+use Rattle.rules.specs.Bytes.{byteAt, bitOf, part, same}
 use Rattle.rules.specs.Map.{mapBit, count, taken, bitsRule, mapRule, byteOf, bytesOf, mapOf}
 use Rattle.rules.proofs.Tests.{both, same-test}
-use Rattle.rules.proofs.Bytes.{part-at}
+use Rattle.rules.proofs.Bytes.{part-length, part-at, same-is, is-same}
 
 pub count-none : (k : ℕ) → count k [] ≡ 0
 unfolding count
@@ -122,17 +122,6 @@ module _ (bit : ℕ → ℕ) (sector0 : List ℕ) where
   at-bits (suc many) k f =
       rw (eq-eqb (mapBit sector0 k) (bit k) (f k (omega arith) (omega arith))) (at-bits many (k + 1) (λ i low high. f i (omega arith) (omega arith)))
 
-pub bits-none : (bit : ℕ → ℕ) (sector0 : List ℕ) (k : ℕ) → bitsRule bit sector0 0 k ≡ true
-unfolding bitsRule
-bits-none bit sector0 k = refl
-
--- it asks of no other bits than those from k on
-pub bits-agree : (bit other : ℕ → ℕ) (sector0 : List ℕ) (many k : ℕ) → ((i : ℕ) → k ≤ i → i < k + many → bit i ≡ other i)
-    → bitsRule bit sector0 many k ≡ bitsRule other sector0 many k
-unfolding bitsRule
-bits-agree bit other sector0 zero k f = refl
-bits-agree bit other sector0 (suc many) k f = rw (f k (omega arith) (omega arith), bits-agree bit other sector0 many (k + 1) (λ i low high. f i (omega arith) (omega arith)))
-
 pub map-at : (n : ℕ) (holders sector0 : List ℕ) → mapRule n holders sector0 ≡ true → (k : ℕ) → k < 1600 → mapBit sector0 k ≡ taken n holders k
 unfolding mapRule
 map-at n holders sector0 e k h = bits-at (taken n holders) sector0 1600 0 e k (omega arith) (omega arith)
@@ -194,34 +183,6 @@ map-bit sector0 i j h =
     let m : (8 * i + j) % 8 ≡ j = omega arith in
     rw (d, m)
 
--- the rule, a byte at a time
-pub bits-byte : (bit : ℕ → ℕ) (sector0 : List ℕ) (i : ℕ) → ((k : ℕ) → bit k ≤ 1) → byteAt sector0 (56 + i) < 256 → (many : ℕ)
-    → bitsRule bit sector0 (8 + many) (8 * i) ≡ (eqb (byteAt sector0 (56 + i)) (byteOf bit (8 * i)) && bitsRule bit sector0 many (8 * i + 8))
-bits-byte bit sector0 i once small many =
-    same-test (bitsRule bit sector0 (8 + many) (8 * i)) (eqb (byteAt sector0 (56 + i)) (byteOf bit (8 * i)) && bitsRule bit sector0 many (8 * i + 8)) to from
-  where
-    to : bitsRule bit sector0 (8 + many) (8 * i) ≡ true → (eqb (byteAt sector0 (56 + i)) (byteOf bit (8 * i)) && bitsRule bit sector0 many (8 * i + 8)) ≡ true
-    to e =
-        let f = bits-at bit sector0 (8 + many) (8 * i) e in
-        let here = byte-of-bits bit (byteAt sector0 (56 + i)) (8 * i) small (λ j h. sym (map-bit sector0 i j h) ∙ f (8 * i + j) (omega arith) (omega arith)) in
-        rw (eq-eqb (byteAt sector0 (56 + i)) (byteOf bit (8 * i)) here) (at-bits bit sector0 many (8 * i + 8) (λ k low high. f k (omega arith) (omega arith)))
-
-    in-byte : byteAt sector0 (56 + i) ≡ byteOf bit (8 * i) → (k : ℕ) → 8 * i ≤ k → k < 8 * i + 8 → mapBit sector0 k ≡ bit k
-    in-byte here k low high =
-        let z : 8 * i + (k - 8 * i) ≡ k = omega arith in
-        let e = map-bit sector0 i (k - 8 * i) (omega arith) ∙ ap (λ (b : ℕ). bitOf b (k - 8 * i)) here ∙ byte-bit bit once (8 * i) (k - 8 * i) (omega arith) in
-        rw z at e
-
-    from : (eqb (byteAt sector0 (56 + i)) (byteOf bit (8 * i)) && bitsRule bit sector0 many (8 * i + 8)) ≡ true → bitsRule bit sector0 (8 + many) (8 * i) ≡ true
-    from e =
-        let parts = both (eqb (byteAt sector0 (56 + i)) (byteOf bit (8 * i))) (bitsRule bit sector0 many (8 * i + 8)) e in
-        at-bits bit sector0 (8 + many) (8 * i)
-        (λ k low high.
-        elim (decLt k (8 * i + 8)) [
-          | yes h ↦ in-byte (eqb-true (byteAt sector0 (56 + i)) (byteOf bit (8 * i)) (parts .0)) k low h
-          | no h ↦ bits-at bit sector0 many (8 * i + 8) (parts .1) k (omega arith) (omega arith)
-        ])
-
 pub bytes-length : (bit : ℕ → ℕ) (many k : ℕ) → length (bytesOf bit many k) ≡ many
 unfolding bytesOf
 bytes-length bit zero k = refl
@@ -261,3 +222,13 @@ map-of-bytes n holders sector0 long small f =
     part-at sector0 56 200 i i′
     ∙ byte-of-bits (taken n holders) (byteAt sector0 (56 + i)) (8 * i) (small (56 + i)) (λ j l. sym (map-bit sector0 i j l) ∙ f (8 * i + j) (omega arith))
     ∙ sym (bytes-at (taken n holders) 200 0 i i′ ∙ ap (byteOf (taken n holders)) (omega arith)))
+
+-- the map's rule is the comparison of its 200 bytes with those of the holders
+pub map-compared : (n : ℕ) (hs sector0 : List ℕ) → length sector0 ≡ 256 → ((i : ℕ) → byteAt sector0 i < 256) → ((k : ℕ) → count k hs ≤ 1)
+    → same (part sector0 56 200) (mapOf n hs) ≡ mapRule n hs sector0
+map-compared n hs sector0 long small once =
+    same-test (same (part sector0 56 200) (mapOf n hs)) (mapRule n hs sector0)
+    (λ e. at-map n hs sector0 (map-of-bits n hs sector0 once (same-is (part sector0 56 200) (mapOf n hs) e)))
+    (λ e.
+    let bytes = map-of-bytes n hs sector0 (part-length sector0 56 200 (omega (arith, long))) small (map-at n hs sector0 e) in
+    rw bytes (is-same (mapOf n hs)))

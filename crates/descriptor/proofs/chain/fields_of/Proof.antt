@@ -1,5 +1,4 @@
 -- `descriptor::chain::fields_of` meets its contract: a sum of bytes by their places is zero where each of them is, and twelve bits of it are the definition's sums. Assumes nothing.
-use mathlib.Core.Path.{_≡_}
 use mathlib.Core.Bool.{_&&_}
 use Prim.Native.Nat.{_+_, _*_}
 use native.Mathlib.Omega.{arith}
