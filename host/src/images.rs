@@ -5,7 +5,7 @@ use crate::comparison::Part;
 use crate::outside::Outside;
 use crate::random::Random;
 use crate::reference::{self, Descriptor, Form, Kind};
-use crate::suites::{edges_of_a_block, of_every_value, Batch, Image};
+use crate::suites::{edges_of_a_block, of_every_value, two_blocks, Batch, Image};
 use crate::table::JUDGE;
 use crate::tally::{hold, Tally};
 use crate::volumes::{Disk, File, MOST_BLOCKS, MOST_FILES, MOST_SECTORS, SECTOR_BYTES};
@@ -73,6 +73,11 @@ impl Part for Images {
         }
         for _ in 0..SMALL_DISKS {
             self.batch(&Batch::of_any_plan(random))?;
+        }
+        for runs in two_blocks() {
+            for in_one_file in [false, true] {
+                self.batch(&Batch::of_two_blocks(runs, in_one_file, random))?;
+            }
         }
         Ok(())
     }

@@ -129,6 +129,16 @@ impl Batch {
         Batch::of_plan(sectors, vec![file], random)
     }
 
+    /// Two blocks, of one file or of a file each: they lie apart, side by side or over one another.
+    pub fn of_two_blocks(runs: [Run; 2], in_one_file: bool, random: &mut Random) -> Self {
+        let chains =
+            if in_one_file { vec![runs.to_vec()] } else { runs.map(|run| vec![run]).to_vec() };
+        let placed = names(chains.len(), random).into_iter().zip(chains).zip(2..);
+        let files =
+            placed.map(|((name, runs), descriptor)| File::new(name, descriptor, runs, random));
+        Batch::of_plan(TWO_BLOCKS_SECTORS, files.collect(), random)
+    }
+
     fn of_plan(sectors: usize, files: Vec<File>, random: &mut Random) -> Self {
         let disk = Disk::of_files(sectors, files, random);
         Batch { number: number_of_plan(&disk), disk, changes: Vec::new() }
@@ -242,6 +252,20 @@ fn every_index_bit(random: &mut Random) -> Vec<Batch> {
     let full = Shape::full(MOST_FILES + 50, MOST_FILES, 1, Order::Ascending).build(random);
     let batch = |disk| Batch::of_sound(disk, |damage| damage.every_index_bit());
     [one_file(0x00, 1, random), full].into_iter().map(batch).collect()
+}
+
+const TWO_BLOCKS_SECTORS: usize = 52;
+
+/// Two blocks in every way in which bytes of the map can part them: the first begins at each bit of
+/// a byte and covers up to three bytes, the second begins anywhere from before it to behind it.
+pub fn two_blocks() -> impl Iterator<Item = [Run; 2]> {
+    let firsts = (16..24).flat_map(|start| (1..=17).map(move |length| Run { start, length }));
+    firsts.flat_map(|first| {
+        [1, 8, 9].into_iter().flat_map(move |length| {
+            let starts = first.start - length - 1..=first.sectors().end + 1;
+            starts.map(move |start| [first, Run { start, length }])
+        })
+    })
 }
 
 /// Single blocks at the edges of the disk, of the fields and of what they may cover: for each the

@@ -43,7 +43,7 @@ lay-map-requires : tie.Need-lay-map-requires
 lay-map-requires c κs =
     let laid = c .before .before .before in
     let p = start (made laid) .pre in
-    (part-length (laid .lay .last .0) 56 200 (omega (arith, long laid)), omega (arith, p .0), p .1)
+    (part-length (laid .lay .last .0) 56 200 (omega (arith, long laid)), omega (arith, p .0), omega (arith, p .1))
 
 returns : tie.Need-returns
 unfolding run
