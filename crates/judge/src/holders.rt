@@ -1,4 +1,4 @@
-// The holders: test 5.
+// The holders: test 5. Sector after sector is claimed on the marks; a place takes with it those behind it that share its byte.
 ghost use mathlib.Core.Path.{_≡_};
 ghost use mathlib.Core.Bool.{false};
 ghost use Prim.Native.Nat.{_+_, _%_, _≤_, _<_};

@@ -1,5 +1,5 @@
-// The judge: the number 0 to 6 of any image. Each function here answers what the rules' definition of the same name says,
-// for any bytes; `judge` puts them in the table's order.
+// The judge: the number 0 to 6 of any image. Each test answers what the rules' definition of the same name says; `judge` puts
+// them in the table's order, and a test may ask for what those before it have found.
 ghost use mathlib.Core.Path.{_≡_};
 ghost use Rattle.rules.specs.Verdict.{verdict};
 
