@@ -13,8 +13,8 @@ use Rattle.rules.specs.Bytes.{bitOf}
 use Rattle.rules.specs.Map.{count, taken, byteOf}
 use Rattle.rules.specs.Chain.{run}
 use Rattle.rules.proofs.Tests.{both}
-use Rattle.rules.proofs.Map.{count-none, count-here, count-other, taken-below, taken-past, byte-of-bits}
-use Rattle.rules.proofs.Chain.{run-holds}
+use Rattle.rules.proofs.Map.{count-none, taken-below, taken-past, byte-of-bits}
+use Rattle.rules.proofs.Chain.{run-holds, run-counts, run-once}
 
 -- a test of every number below m, and what it says of one
 every : (ℕ → Bool) → ℕ → Bool
@@ -67,14 +67,7 @@ run-outside k s many out =
     ]
 
 run-inside : (k s many : ℕ) → s ≤ k → k < s + many → count k (run s many) ≡ 1
-unfolding run
-run-inside k s zero low high = absurd (omega arith)
-run-inside k s (suc many) low high =
-    elim (ℕ-discrete s k) [
-      | yes here ↦
-          rw here (omega (arith, count-here k (run (k + 1) many), run-outside k (k + 1) many (λ l. absurd (omega arith))))
-      | no there ↦ count-other k s (run (s + 1) many) there ∙ run-inside k (s + 1) many (omega (arith, there)) (omega arith)
-    ]
+run-inside k s many low high = omega (arith, run-counts k s many low high, run-once k s many)
 
 -- a sector is held exactly if it is below `used`; none is, where it is not past the end
 beside-past : (n used : ℕ) → used ≤ n → (k : ℕ) → (taken n (run 0 used) k + taken used [] k ≡ 1 + taken n [] k) × (taken n (run 0 used) k ≤ 1)
