@@ -3,14 +3,16 @@
 ghost use mathlib.Core.Path.{_≡_};
 ghost use Prim.Native.Nat.{_+_};
 ghost use lib.ListN.{length};
+ghost use Rattle.rules.specs.Name.{wrongPlace};
 ghost use Rattle.rules.specs.Chain.{blocks, extended};
 ghost use Rattle.rules.specs.Descriptor.{sectorsOf, chainOf, withChain};
 ghost use Rattle.rules.specs.Map.{marked};
 ghost use Rattle.rules.specs.Sectors.{sectorOf, written};
 ghost use Rattle.rules.specs.Sound.{IsFile};
 ghost use Rattle.rules.specs.Choice.{dataChoice};
-ghost use Rattle.rules.specs.Outcome.{Meets};
+ghost use Rattle.rules.specs.Outcome.{NamedSays, Meets};
 ghost use Rattle.rules.specs.Calls.Append.{appendWrites, appending, appendOf};
+ghost use Rattle.rules.specs.declared.WrongPlace.the-variants.{None};
 ghost use Rattle.extension.specs.Built.{Extendable};
 use extension::Tip;
 use extension::extend;
@@ -20,7 +22,7 @@ use map::bits::mark;
 use map::choice::Search;
 use map::free::free_count_of;
 use opening::find;
-use rules::Answer;
+use rules::NamedAnswer;
 use rules::Opened;
 use sector::buffer::copy;
 use sector::buffer::lay;
@@ -67,22 +69,22 @@ fn write_longer(image: &mut [u8], k: usize, bytes: &[u8], tip: Tip, new: usize)
 }
 
 // Of the file whose descriptor is in sector k.
-fn append_at(image: &mut [u8], k: usize, bytes: &[u8]) -> Answer
+fn append_at(image: &mut [u8], k: usize, bytes: &[u8]) -> NamedAnswer
     requires { ⌜ IsFile (now image) k ⌝ }
-    ensures { λ r. ⌜ Meets (appending (now (image .entry)) (now (bytes .entry)) k) r (now (image .entry)) (now (image .exit)) ⌝ }
+    ensures { λ r. ⌜ Meets (NamedSays None) (appending (now (image .entry)) (now (bytes .entry)) k) r (now (image .entry)) (now (image .exit)) ⌝ }
 {
     let status = byte(sector_of(image, k), 12);
     if status / 8 % 2 == 1 {
-        return Answer::Refused(10);
+        return NamedAnswer::Refused(10);
     }
     if status % 2 == 1 {
-        return Answer::Refused(14);
+        return NamedAnswer::Refused(14);
     }
     if bytes.len() != 256 {
-        return Answer::Refused(15);
+        return NamedAnswer::Refused(15);
     }
     if free_count_of(sector_of(image, 0)) == 0 {
-        return Answer::Refused(12);
+        return NamedAnswer::Refused(12);
     }
     let search = Search::first();
     let found = search.next(sector_of(image, 0));
@@ -90,19 +92,20 @@ fn append_at(image: &mut [u8], k: usize, bytes: &[u8]) -> Answer
     let tip = tip_of(part(sector_of(image, k), 28, 228));
     let with = tip_with(tip, new);
     if with.used > 76 {
-        return Answer::Refused(13);
+        return NamedAnswer::Refused(13);
     }
     write_longer(image, k, bytes, tip, new);
-    Answer::Done
+    NamedAnswer::Done
 }
 
-pub fn append(image: &mut [u8], name: &[u8], bytes: &[u8]) -> Answer
-    ensures { λ r. ⌜ Meets (appendOf (now (image .entry)) (now (name .entry)) (now (bytes .entry))) r (now (image .entry)) (now (image .exit)) ⌝ }
+pub fn append(image: &mut [u8], name: &[u8], bytes: &[u8]) -> NamedAnswer
+    ensures { λ r. ⌜ Meets (NamedSays (wrongPlace (now (name .entry)))) (appendOf (now (image .entry)) (now (name .entry)) (now (bytes .entry))) r (now (image .entry)) (now (image .exit)) ⌝ }
 {
     let opened = find(image, name);
     match opened {
-        Opened::Refused(number) => Answer::Refused(number),
-        Opened::Absent => Answer::Refused(8),
+        Opened::Refused(number) => NamedAnswer::Refused(number),
+        Opened::Misnamed(place) => NamedAnswer::Misnamed(place),
+        Opened::Absent => NamedAnswer::Refused(8),
         Opened::At(_, k) => append_at(image, k, bytes),
     }
 }

@@ -1,7 +1,7 @@
 // The bench cases of document 01 that are run and compared: a line for each, with the case's number in
 // the document, what is done, and what came of it: the number that the library gives, a sector, or yes or
-// no. `stdout` has the lines that the document wants, and case M's catalogue; then a case for a request of
-// document 02, named by it.
+// no. `stdout` has the lines that the document wants, and case M's catalogue; then cases for requests of
+// document 02, named by them.
 //
 // A case is a function that makes its volume in an array of its own, so no case leans on another. Its
 // answer is whether its lines could be written.
@@ -18,27 +18,30 @@ use judge::judge;
 use libc::STDOUT_FILENO;
 use listing::listing;
 use packing::pack;
+use renaming::rename;
 use rules::Amount;
 use rules::Answer;
+use rules::NamedAnswer;
+use rules::RenameAnswer;
 use sector::bytes::all_are;
 use sector::bytes::part;
 use sector::bytes::sector_of;
 use storing::store;
 
-fn write_line(words: &[u8], unit: &[u8], number: u32) -> bool {
+fn write_line(words: &[u8], unit: &[u8], number: u64) -> bool {
     io::write_all(STDOUT_FILENO, words)
         && io::write_all(STDOUT_FILENO, unit)
-        && io::print_decimal(STDOUT_FILENO, number as u64)
+        && io::print_decimal(STDOUT_FILENO, number)
         && io::write_all(STDOUT_FILENO, b"\n")
 }
 
 // The number that a call gives back.
 fn write_number(words: &[u8], number: u32) -> bool {
-    write_line(words, b": number ", number)
+    write_line(words, b": number ", number as u64)
 }
 
 fn write_sector(words: &[u8], sector: u32) -> bool {
-    write_line(words, b": sector ", sector)
+    write_line(words, b": sector ", sector as u64)
 }
 
 fn write_answer(words: &[u8], yes: bool) -> bool {
@@ -61,19 +64,27 @@ fn one_side(sectors_per_track: u8, tracks: u8) -> Geometry {
     }
 }
 
-fn number_of(answer: Answer) -> u32 {
+fn number_of(answer: NamedAnswer) -> u32 {
+    match answer {
+        NamedAnswer::Done => 0,
+        NamedAnswer::Refused(number) => number,
+        NamedAnswer::Misnamed(_) => 7,
+    }
+}
+
+fn pack_number(answer: Answer) -> u32 {
     match answer {
         Answer::Done => 0,
         Answer::Refused(number) => number,
     }
 }
 
-// The number of a call that refuses, or else the judge's of the image that the call left.
-fn number_after(answer: Answer, image: &[u8]) -> u32 {
-    match answer {
-        Answer::Done => judge(image),
-        Answer::Refused(number) => number,
+// A call's number where it refuses, or else the judge's of the image that it left.
+fn number_after(number: u32, image: &[u8]) -> u32 {
+    if number != 0 {
+        return number;
     }
+    judge(image)
 }
 
 fn case_10_two_sectors() -> bool {
@@ -84,7 +95,10 @@ fn case_10_two_sectors() -> bool {
 fn case_10_three_sectors() -> bool {
     let mut image = [0u8; 768];
     let answer = format(&mut image, 3, b"BENCH     ", one_side(3, 1));
-    write_number(b"10 768 bytes, formatted", number_after(answer, &image))
+    write_number(
+        b"10 768 bytes, formatted",
+        number_after(number_of(answer), &image),
+    )
 }
 
 // The place of a sector of the file whose descriptor is in sector 2.
@@ -98,7 +112,10 @@ fn case_11() -> bool {
     let bytes = [0x41u8; 300];
     let stored = store(&mut image, b"TWO       ", &bytes);
     write_number(b"11 35 sectors, formatted", number_of(formatted))
-        && write_number(b"11 two sectors stored", number_after(stored, &image))
+        && write_number(
+            b"11 two sectors stored",
+            number_after(number_of(stored), &image),
+        )
         && write_sector(b"11 the first lies in", place_in_file(&image, 0))
         && write_sector(b"11 the second lies in", place_in_file(&image, 1))
 }
@@ -162,7 +179,10 @@ fn case_13() -> bool {
     let stored = store(&mut image, b"LONG      ", &bytes[0..32768]);
     let refused = store(&mut image, b"LONGER    ", &bytes);
     write_number(b"13 200 sectors, formatted", number_of(formatted))
-        && write_number(b"13 32768 bytes stored", number_after(stored, &image))
+        && write_number(
+            b"13 32768 bytes stored",
+            number_after(number_of(stored), &image),
+        )
         && write_number(b"13 32769 bytes stored", number_of(refused))
 }
 
@@ -176,9 +196,9 @@ fn case_14() -> bool {
     let packed = pack(&image, &mut target);
     write_number(b"14 35 sectors, formatted", number_of(formatted))
         && write_number(b"14 a program stored", number_of(stored))
-        && write_number(b"14 and deleted", number_after(deleted, &image))
+        && write_number(b"14 and deleted", number_after(number_of(deleted), &image))
         && write_answer(b"14 all E5 from sector 2 on", all_are(0xE5, &image, 512))
-        && write_number(b"14 packed", number_after(packed, &target))
+        && write_number(b"14 packed", number_after(pack_number(packed), &target))
         && write_answer(
             b"14 all E5 from sector 2 on, packed",
             all_are(0xE5, &target, 512),
@@ -206,7 +226,10 @@ fn case_m() -> bool {
     write_number(b"M formatted", number_of(formatted))
         && write_number(b"M ALPHA stored", number_of(stored))
         && write_number(b"M NOTES created", number_of(created))
-        && write_number(b"M a sector appended", number_after(appended, &image))
+        && write_number(
+            b"M a sector appended",
+            number_after(number_of(appended), &image),
+        )
         && write_listing(&image)
 }
 
@@ -223,9 +246,55 @@ fn ask_2() -> bool {
     write_number(b"Ask 2 200 sectors, formatted", number_of(formatted))
         && write_number(b"Ask 2 512 bytes stored", number_of(full))
         && write_number(b"Ask 2 no bytes stored", number_of(none))
-        && write_number(b"Ask 2 32768 bytes stored", number_after(long, &image))
-        && write_number(b"Ask 2 packed", number_after(packed, &target))
+        && write_number(
+            b"Ask 2 32768 bytes stored",
+            number_after(number_of(long), &image),
+        )
+        && write_number(b"Ask 2 packed", number_after(pack_number(packed), &target))
         && write_listing(&target)
+}
+
+// What a call that takes a name says: where the name is wrong, or its number.
+fn write_named(words: &[u8], answer: NamedAnswer) -> bool {
+    match answer {
+        NamedAnswer::Misnamed(place) => write_line(words, b": wrong at ", place as u64),
+        NamedAnswer::Done => write_number(words, 0),
+        NamedAnswer::Refused(number) => write_number(words, number),
+    }
+}
+
+fn write_renamed(words: &[u8], answer: RenameAnswer) -> bool {
+    match answer {
+        RenameAnswer::OldMisnamed(place) => {
+            write_line(words, b": the old name wrong at ", place as u64)
+        }
+        RenameAnswer::NewMisnamed(place) => {
+            write_line(words, b": the new name wrong at ", place as u64)
+        }
+        RenameAnswer::Done => write_number(words, 0),
+        RenameAnswer::Refused(number) => write_number(words, number),
+    }
+}
+
+// Names that break the rule, by formatting, and by a rename, which tests its old name wholly before the new one.
+fn ask_4() -> bool {
+    let mut image = [0u8; 768];
+    let led = format(&mut image, 3, b" A        ", one_side(3, 1));
+    let dotted = format(&mut image, 3, b"A .       ", one_side(3, 1));
+    let blank = format(&mut image, 3, b"          ", one_side(3, 1));
+    let short = format(&mut image, 3, b"BENCH", one_side(3, 1));
+    let formatted = format(&mut image, 3, b"BENCH     ", one_side(3, 1));
+    let both = rename(&mut image, b"OLD.      ", b"NEW NAME  ");
+    let new = rename(&mut image, b"OLD       ", b"NEW NAME  ");
+    let absent = rename(&mut image, b"OLD       ", b"NEW       ");
+    write_named(b"Ask 4 a space and A", led)
+        && write_named(b"Ask 4 A, a space and a dot", dotted)
+        && write_named(b"Ask 4 ten spaces", blank)
+        && write_named(b"Ask 4 five bytes", short)
+        && write_named(b"Ask 4 a name", formatted)
+        && write_renamed(b"Ask 4 OLD. to NEW NAME", both)
+        && write_renamed(b"Ask 4 OLD to NEW NAME", new)
+        && write_renamed(b"Ask 4 OLD to NEW", absent)
 }
 
 fn write_cases() -> bool {
@@ -237,6 +306,7 @@ fn write_cases() -> bool {
         && case_14()
         && case_m()
         && ask_2()
+        && ask_4()
 }
 
 // Whether the cases are to be run: no argument is one.

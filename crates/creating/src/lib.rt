@@ -5,18 +5,19 @@ ghost use mathlib.Core.Bool.{true};
 ghost use Prim.Native.Nat.{_*_, _<_};
 ghost use lib.ListN.{length};
 ghost use Rattle.rules.specs.Bytes.{splice};
-ghost use Rattle.rules.specs.Name.{nameRule};
+ghost use Rattle.rules.specs.Name.{nameRule, wrongPlace};
 ghost use Rattle.rules.specs.Descriptor.{newDescriptor};
 ghost use Rattle.rules.specs.Sound.{Sound};
-ghost use Rattle.rules.specs.Outcome.{Meets};
+ghost use Rattle.rules.specs.Outcome.{NamedSays, Meets};
 ghost use Rattle.rules.specs.Calls.Create.{createStatus, creating, createOf};
+ghost use Rattle.rules.specs.declared.WrongPlace.the-variants.{None};
 use descriptor::header::new_descriptor;
 use index::enter;
 use map::bits::mark;
 use map::choice::descriptor_choice;
 use map::free::free_count_of;
 use opening::find;
-use rules::Answer;
+use rules::NamedAnswer;
 use rules::Opened;
 use sector::buffer::write_sector;
 use sector::bytes::sector_of;
@@ -69,25 +70,25 @@ fn create_new(
     status: u8,
     record_length: u8,
     records_per_sector: u8,
-) -> Answer
+) -> NamedAnswer
     requires { ⌜ Sound (now image) × (nameRule (now name) ≡ true) ⌝ }
-    ensures { λ r. ⌜ Meets (creating (now (image .entry)) (now (name .entry)) status «record_length» «records_per_sector») r (now (image .entry)) (now (image .exit)) ⌝ }
+    ensures { λ r. ⌜ Meets (NamedSays None) (creating (now (image .entry)) (now (name .entry)) status «record_length» «records_per_sector») r (now (image .entry)) (now (image .exit)) ⌝ }
 {
     if !create_status(status) {
-        return Answer::Refused(15);
+        return NamedAnswer::Refused(15);
     }
     // the 127th number of sector 1
     if word(image, 508) != 0 {
-        return Answer::Refused(11);
+        return NamedAnswer::Refused(11);
     }
     if free_count_of(sector_of(image, 0)) == 0 {
-        return Answer::Refused(12);
+        return NamedAnswer::Refused(12);
     }
     let k = descriptor_choice(sector_of(image, 0));
     write_descriptor(image, k, name, status, records_per_sector, record_length);
     mark(&mut image[0..256], k);
     enter(image, name, k);
-    Answer::Done
+    NamedAnswer::Done
 }
 
 pub fn create(
@@ -96,13 +97,14 @@ pub fn create(
     status: u8,
     record_length: u8,
     records_per_sector: u8,
-) -> Answer
-    ensures { λ r. ⌜ Meets (createOf (now (image .entry)) (now (name .entry)) status «record_length» «records_per_sector») r (now (image .entry)) (now (image .exit)) ⌝ }
+) -> NamedAnswer
+    ensures { λ r. ⌜ Meets (NamedSays (wrongPlace (now (name .entry)))) (createOf (now (image .entry)) (now (name .entry)) status «record_length» «records_per_sector») r (now (image .entry)) (now (image .exit)) ⌝ }
 {
     let opened = find(image, name);
     match opened {
-        Opened::Refused(number) => Answer::Refused(number),
-        Opened::At(_, _) => Answer::Refused(9),
+        Opened::Refused(number) => NamedAnswer::Refused(number),
+        Opened::Misnamed(place) => NamedAnswer::Misnamed(place),
+        Opened::At(_, _) => NamedAnswer::Refused(9),
         Opened::Absent => create_new(image, name, status, record_length, records_per_sector),
     }
 }

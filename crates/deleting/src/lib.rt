@@ -3,16 +3,18 @@
 ghost use mathlib.Core.Path.{_≡_};
 ghost use mathlib.Core.List.{_∷_};
 ghost use lib.ListN.{length};
+ghost use Rattle.rules.specs.Name.{wrongPlace};
 ghost use Rattle.rules.specs.Sectors.{sectorOf};
 ghost use Rattle.rules.specs.Map.{markedAll};
 ghost use Rattle.rules.specs.Volume.{placesIn};
 ghost use Rattle.rules.specs.Sound.{IsFile};
-ghost use Rattle.rules.specs.Outcome.{Meets};
+ghost use Rattle.rules.specs.Outcome.{NamedSays, Meets};
 ghost use Rattle.rules.specs.Calls.Delete.{deleting, deleteOf};
+ghost use Rattle.rules.specs.declared.WrongPlace.the-variants.{None};
 use index::index_without;
 use map::bits::clear_file;
 use opening::find;
-use rules::Answer;
+use rules::NamedAnswer;
 use rules::Opened;
 use sector::buffer::copy;
 use sector::buffer::write_sector;
@@ -30,12 +32,12 @@ fn map_without(sector0: &mut [u8], image: &[u8], k: usize)
 }
 
 // Of that file.
-fn delete_at(image: &mut [u8], k: usize) -> Answer
+fn delete_at(image: &mut [u8], k: usize) -> NamedAnswer
     requires { ⌜ IsFile (now image) k ⌝ }
-    ensures { λ r. ⌜ Meets (deleting (now (image .entry)) k) r (now (image .entry)) (now (image .exit)) ⌝ }
+    ensures { λ r. ⌜ Meets (NamedSays None) (deleting (now (image .entry)) k) r (now (image .entry)) (now (image .exit)) ⌝ }
 {
     if byte(sector_of(image, k), 12) / 8 % 2 == 1 {
-        return Answer::Refused(10);
+        return NamedAnswer::Refused(10);
     }
     let mut index = [0u8; 256];
     index_without(&mut index, sector_of(image, 1), k);
@@ -43,16 +45,17 @@ fn delete_at(image: &mut [u8], k: usize) -> Answer
     map_without(&mut sector0, image, k);
     write_sector(image, 1, &index);
     write_sector(image, 0, &sector0);
-    Answer::Done
+    NamedAnswer::Done
 }
 
-pub fn delete(image: &mut [u8], name: &[u8]) -> Answer
-    ensures { λ r. ⌜ Meets (deleteOf (now (image .entry)) (now (name .entry))) r (now (image .entry)) (now (image .exit)) ⌝ }
+pub fn delete(image: &mut [u8], name: &[u8]) -> NamedAnswer
+    ensures { λ r. ⌜ Meets (NamedSays (wrongPlace (now (name .entry)))) (deleteOf (now (image .entry)) (now (name .entry))) r (now (image .entry)) (now (image .exit)) ⌝ }
 {
     let opened = find(image, name);
     match opened {
-        Opened::Refused(number) => Answer::Refused(number),
-        Opened::Absent => Answer::Refused(8),
+        Opened::Refused(number) => NamedAnswer::Refused(number),
+        Opened::Misnamed(place) => NamedAnswer::Misnamed(place),
+        Opened::Absent => NamedAnswer::Refused(8),
         Opened::At(_, k) => delete_at(image, k),
     }
 }

@@ -1,4 +1,4 @@
--- Two versions that meet demand 2 do the same at every call: the number is that of the first ground; a refusal leaves everything and carries its number alone; and what a call that was done
+-- Two versions that meet demand 2 do the same at every call: the number is that of the first ground; a refusal leaves everything and carries what is asked of it; and what a call that was done
 -- gives and leaves is fixed by its meaning.
 use mathlib.Core.Path.{_≡_, refl, sym, ap, _∙_}
 use mathlib.Core.Logic.{inl, inr}
@@ -17,11 +17,16 @@ use Rattle.rules.specs.declared.Amount.{Amount}
 use Rattle.rules.specs.declared.Amount.the-variants as amounts
 use Rattle.rules.specs.declared.Summary.{Summary}
 use Rattle.rules.specs.declared.Summary.the-variants as summaries
+use Rattle.rules.specs.declared.NamedAnswer.the-variants as answered
+use Rattle.rules.specs.declared.NamedAmount.{NamedAmount}
+use Rattle.rules.specs.declared.NamedAmount.the-variants as loads
+use Rattle.rules.specs.declared.RenameAnswer.the-variants as renames
 use Rattle.rules.specs.declared.Entry.{Entry}
 use Rattle.rules.specs.declared.Row.{Row}
+use Rattle.rules.proofs.Misnamed.{wrong-one, wrong-unnamed}
 use Rattle.rules.proofs.Verdict.{sound}
 use Rattle.demands.specs.Call as call
-use Rattle.demands.specs.Call.{Form, Answered, answerNumber, amountNumber, summaryNumber, numberIn, Plain, Look, Call, formOf, Result, Version, numberOf}
+use Rattle.demands.specs.Call.{Names, Form, AnsweredTo, Answered, answerNumber, amountNumber, summaryNumber, namedNumber, loadedNumber, numberIn, NamedCarries, LoadCarries, Carries, Look, Call, namesOf, formOf, Result, Version, numberOf}
 use Rattle.demands.specs.Ours.{seen, ours}
 use Rattle.demands.specs.Grounds.{Ground, First, faults, lookGrounds, grounds}
 use Rattle.demands.specs.Demand2.{FreeIs, Shows, Means, Frame, Demand2}
@@ -90,21 +95,62 @@ summary-one (summaries.Given x y z) b e some = absurd (some refl)
 summary-one (summaries.Refused n) (summaries.Given x y z) e some = absurd (some e)
 summary-one (summaries.Refused n) (summaries.Refused m) e some = ap summaries.Refused e
 
+-- of a call that takes names: with 7 the place is the one where the name is wrong
+named-one : (names : Names) (a b : AnsweredTo names) → namedNumber names a ≡ namedNumber names b → NamedCarries names a → NamedCarries names b → a ≡ b
+unfolding namedNumber NamedCarries
+named-one (call.one name) answered.Done answered.Done e p q = refl
+named-one (call.one name) answered.Done (answered.Refused n) e p q = absurd (q .0 (sym e))
+named-one (call.one name) answered.Done (answered.Misnamed there) e p q = absurd (omega (arith, e))
+named-one (call.one name) (answered.Refused n) answered.Done e p q = absurd (p .0 e)
+named-one (call.one name) (answered.Refused n) (answered.Refused m) e p q = ap answered.Refused e
+named-one (call.one name) (answered.Refused n) (answered.Misnamed there) e p q = absurd (p .1 e)
+named-one (call.one name) (answered.Misnamed here) answered.Done e p q = absurd (omega (arith, e))
+named-one (call.one name) (answered.Misnamed here) (answered.Refused m) e p q = absurd (q .1 (sym e))
+named-one (call.one name) (answered.Misnamed here) (answered.Misnamed there) e p q = ap answered.Misnamed (wrong-one name here there p q)
+named-one (call.both old new) renames.Done renames.Done e p q = refl
+named-one (call.both old new) renames.Done (renames.Refused n) e p q = absurd (q .0 (sym e))
+named-one (call.both old new) renames.Done (renames.OldMisnamed there) e p q = absurd (omega (arith, e))
+named-one (call.both old new) renames.Done (renames.NewMisnamed there) e p q = absurd (omega (arith, e))
+named-one (call.both old new) (renames.Refused n) renames.Done e p q = absurd (p .0 e)
+named-one (call.both old new) (renames.Refused n) (renames.Refused m) e p q = ap renames.Refused e
+named-one (call.both old new) (renames.Refused n) (renames.OldMisnamed there) e p q = absurd (p .1 e)
+named-one (call.both old new) (renames.Refused n) (renames.NewMisnamed there) e p q = absurd (p .1 e)
+named-one (call.both old new) (renames.OldMisnamed here) renames.Done e p q = absurd (omega (arith, e))
+named-one (call.both old new) (renames.OldMisnamed here) (renames.Refused m) e p q = absurd (q .1 (sym e))
+named-one (call.both old new) (renames.OldMisnamed here) (renames.OldMisnamed there) e p q = ap renames.OldMisnamed (wrong-one old here there p q)
+named-one (call.both old new) (renames.OldMisnamed here) (renames.NewMisnamed there) e p q = absurd (wrong-unnamed old here p (q .0))
+named-one (call.both old new) (renames.NewMisnamed here) renames.Done e p q = absurd (omega (arith, e))
+named-one (call.both old new) (renames.NewMisnamed here) (renames.Refused m) e p q = absurd (q .1 (sym e))
+named-one (call.both old new) (renames.NewMisnamed here) (renames.OldMisnamed there) e p q = absurd (wrong-unnamed old there q (p .0))
+named-one (call.both old new) (renames.NewMisnamed here) (renames.NewMisnamed there) e p q = ap renames.NewMisnamed (wrong-one new here there (p .1) (q .1))
+
+loaded-one : (name : List ℕ) (a b : NamedAmount) → loadedNumber a ≡ loadedNumber b → (loadedNumber a ≡ 0 → ⊥) → LoadCarries name a → LoadCarries name b → a ≡ b
+unfolding loadedNumber LoadCarries
+loaded-one name (loads.Given v) b e some p q = absurd (some refl)
+loaded-one name (loads.Refused n) (loads.Given v) e some p q = absurd (some e)
+loaded-one name (loads.Refused n) (loads.Refused m) e some p q = ap loads.Refused e
+loaded-one name (loads.Refused n) (loads.Misnamed there) e some p q = absurd (p .1 e)
+loaded-one name (loads.Misnamed here) (loads.Given v) e some p q = absurd (some e)
+loaded-one name (loads.Misnamed here) (loads.Refused m) e some p q = absurd (q .1 (sym e))
+loaded-one name (loads.Misnamed here) (loads.Misnamed there) e some p q = ap loads.Misnamed (wrong-one name here there p q)
+
 -- a refusal, by the form of the answer
-refused-one : (form : Form) (a b : Answered form) → numberIn form a ≡ numberIn form b → (numberIn form a ≡ 0 → ⊥) → Plain form a → Plain form b → a ≡ b
+refused-one : (form : Form) (a b : Answered form) → numberIn form a ≡ numberIn form b → (numberIn form a ≡ 0 → ⊥) → Carries form a → Carries form b → a ≡ b
 refused-one call.number a b e some p q = e
 refused-one call.answer a b e some p q = answer-one a b e p q
 refused-one call.amount a b e some p q = amount-one a b e some
 refused-one call.summary a b e some p q = summary-one a b e some
 refused-one call.row a b e some p q =
     entry-one a b (answer-one (a .answer) (b .answer) e (p .0) (q .0)) (p .1 (not-done (a .answer) some) ∙ sym (q .1 (not-done (b .answer) (λ z. some (e ∙ z)))))
+refused-one (call.named names) a b e some p q = named-one names a b e p q
+refused-one (call.loaded name) a b e some p q = loaded-one name a b e some p q
 
 -- a look that was done, by what it shows
 free-one : (image : List ℕ) (a b : ℕ) → FreeIs image a → FreeIs image b → a ≡ b
 free-one image a b one two = omega (arith, one .is, two .is)
 
 shown-one : {form : Form} (look : Look form) (buffer image : List ℕ) → Sound image → (r r′ : Result form) → numberIn form (r .answer) ≡ numberIn form (r′ .answer)
-    → Plain form (r .answer) → Plain form (r′ .answer) → Shows look buffer image r → Shows look buffer image r′ → (r .answer ≡ r′ .answer) × (r .buffer ≡ r′ .buffer)
+    → Carries form (r .answer) → Carries form (r′ .answer) → Shows look buffer image r → Shows look buffer image r′ → (r .answer ≡ r′ .answer) × (r .buffer ≡ r′ .buffer)
 unfolding Shows
 shown-one call.judge buffer image is r r′ e p q s t = (e, s ∙ sym t)
 shown-one call.freeCount buffer image is r r′ e p q s t =
@@ -114,7 +160,7 @@ shown-one call.summarize buffer image is r r′ e p q s t = (
   s .1 ∙ sym (t .1),
 )
 shown-one (call.entry place) buffer image is r r′ e p q s t = (s .0 ∙ sym (t .0), s .1 ∙ sym (t .1))
-shown-one (call.read name offset) buffer image is r r′ e p q s t = (answer-one (r .answer) (r′ .answer) e p q, s ∙ sym t)
+shown-one (call.read name offset) buffer image is r r′ e p q s t = (named-one (call.one name) (r .answer) (r′ .answer) e p q, s ∙ sym t)
 shown-one (call.load name) buffer image is r r′ e p q s t = (s .0 ∙ sym (t .0), s .1 ∙ sym (t .1))
 shown-one call.list buffer image is r r′ e p q s t =
     let same = lists-one image (s .text) (t .text) (s .lists) (t .lists) in
@@ -138,7 +184,7 @@ module _ (v w : Version) (meets : Demand2 v) (meets′ : Demand2 w) (image : Lis
   refused c some =
       let first = meets .refuses c image some in
       let second = meets′ .refuses c image (λ zero. some (number-one c ∙ zero)) in
-      result-one c (refused-one (formOf c) (v c image .answer) (w c image .answer) (number-one c) some (meets .plain c image) (meets′ .plain c image))
+      result-one c (refused-one (formOf c) (v c image .answer) (w c image .answer) (number-one c) some (meets .carries c image) (meets′ .carries c image))
       (first .1 ∙ sym (second .1)) (first .0 ∙ sym (second .0))
 
   done : (c : Call) → numberOf v c image ≡ 0 → v c image ≡ w c image
@@ -147,7 +193,7 @@ module _ (v w : Version) (meets : Demand2 v) (meets′ : Demand2 w) (image : Lis
       let c = call.look look buffer in
       let is = done-sound image (numberOf v c image) (lookGrounds look buffer image) zero (meets .progress c image) in
       let shown =
-      shown-one look buffer image is (v c image) (w c image) (number-one c) (meets .plain c image) (meets′ .plain c image)
+      shown-one look buffer image is (v c image) (w c image) (number-one c) (meets .carries c image) (meets′ .carries c image)
       (meets .means c image is zero) (meets′ .means c image is (sym (number-one c) ∙ zero))
       in
       result-one c (shown .0) (shown .1) (meets .frame c image is ∙ sym (meets′ .frame c image is))
@@ -156,14 +202,14 @@ module _ (v w : Version) (meets : Demand2 v) (meets′ : Demand2 w) (image : Lis
       let is = done-sound image (numberOf v c image) _ zero (meets .progress c image) in
       let first = meets .means c image is zero in
       let second = meets′ .means c image is (sym (number-one c) ∙ zero) in
-      result-one c (answer-one (v c image .answer) (w c image .answer) (number-one c) (meets .plain c image) (meets′ .plain c image))
+      result-one c (named-one (namesOf name change) (v c image .answer) (w c image .answer) (number-one c) (meets .carries c image) (meets′ .carries c image))
       (nothing-one (v c image .buffer) (w c image .buffer) (meets .lengths c image .1) (meets′ .lengths c image .1))
       (touches-one image (v c image .image) (w c image .image) name _ (first .0) (second .0) is change (first .1) (second .1))
   done (call.format n name geometry) zero =
       let c = call.format n name geometry in
       let first = meets .formats n name geometry image zero in
       let second = meets′ .formats n name geometry image (sym (number-one c) ∙ zero) in
-      result-one c (answer-one (v c image .answer) (w c image .answer) (number-one c) (meets .plain c image) (meets′ .plain c image))
+      result-one c (named-one (call.one name) (v c image .answer) (w c image .answer) (number-one c) (meets .carries c image) (meets′ .carries c image))
       (nothing-one (v c image .buffer) (w c image .buffer) (meets .lengths c image .1) (meets′ .lengths c image .1))
       (formats-one n name geometry (v c image .image) (w c image .image) (meets .lengths c image .0 ∙ sym (meets′ .lengths c image .0)) (first .1) (second .1))
 

@@ -9,7 +9,7 @@ use lib.ListN.{length, replicate}
 use borrow.Author.Tests.{eqb-true, ltb-true}
 use Rattle.rules.specs.Bytes.{allAre, same, over, splice, withBit}
 use Rattle.rules.specs.Sectors.{sectorOf, written, joined}
-use Rattle.rules.specs.Name.{nameByte, padded, nameRule, precedes}
+use Rattle.rules.specs.Name.{nameByte, padded, nameRule, wrongFrom, wrongPlace, precedes}
 use Rattle.rules.specs.Label.{labelRule}
 use Rattle.rules.specs.Map.{mapBit, count, taken, bitsRule, mapRule, byteOf, bytesOf, mapOf, zeroBits, freeCount, marked, markedAll}
 use Rattle.rules.specs.Chain.{blockBytes, blockOf, endsChain, blocks, blocksRule, chainRule, run, placesFrom, places, extended, extendedAll, blocksBytes}
@@ -21,7 +21,8 @@ use Rattle.rules.specs.Calls.Pack.{labelArea, oneBlock, packedDescriptor, packe
 use Rattle.rules.specs.Verdict.{sizeRule, descriptorsRule, heldTwice, volumeTests, verdict}
 use Rattle.rules.specs.Choice.{lowestFree, descriptorChoice, dataChoice, dataChoices}
 use Rattle.rules.specs.Tests.{firstOf, unlessMet}
-use Rattle.rules.specs.Opening.{findIn, opening, nameTests, openOf, changing, adding}
+use Rattle.rules.specs.Outcome.{ifWrong}
+use Rattle.rules.specs.Opening.{findIn, onSound, underName, openOf, changing, adding}
 use Rattle.rules.specs.Calls.Format.{newLabel, formatted}
 use Rattle.rules.specs.Calls.Create.{createStatus, entered, createTests, creating, createOf}
 use Rattle.rules.specs.Calls.Append.{longerBlocks, appendTests, appendWrites, appending, appendOf}
@@ -74,7 +75,7 @@ passed m e =
     }
 
 all-pass : tests caseM ≡ true
-unfolding headerIn contentsIn fileIn catalogue joined labelArea oneBlock packedDescriptor packedDescriptors packedData dataSectors packedSectors packed same holds tableOf caseM over splice allAre withBit sectorOf written nameByte padded nameRule precedes labelRule mapBit count taken bitsRule mapRule byteOf bytesOf mapOf zeroBits freeCount marked markedAll blockBytes blockOf endsChain blocks blocksRule chainRule run placesFrom places extended extendedAll blocksBytes statusRule programLength kindOf kindRule nameOf chainOf fileKind descriptorRule newDescriptor withChain numbers rangeRule indexRule numbersBytes indexOf without files nameIn placesIn fileHolders holders placed sizeRule descriptorsRule heldTwice volumeTests verdict firstOf unlessMet lowestFree descriptorChoice dataChoice dataChoices findIn opening nameTests openOf changing adding newLabel formatted createStatus entered createTests creating createOf longerBlocks appendTests appendWrites appending appendOf dataWrites newSectors newBlocks storeTests storing storeOf digits decimal unpadded kindWord kindLength diskLine fileLine fileLines listingText named tests ready
+unfolding headerIn contentsIn fileIn catalogue joined labelArea oneBlock packedDescriptor packedDescriptors packedData dataSectors packedSectors packed same holds tableOf caseM over splice allAre withBit sectorOf written nameByte padded nameRule precedes labelRule mapBit count taken bitsRule mapRule byteOf bytesOf mapOf zeroBits freeCount marked markedAll blockBytes blockOf endsChain blocks blocksRule chainRule run placesFrom places extended extendedAll blocksBytes statusRule programLength kindOf kindRule nameOf chainOf fileKind descriptorRule newDescriptor withChain numbers rangeRule indexRule numbersBytes indexOf without files nameIn placesIn fileHolders holders placed sizeRule descriptorsRule heldTwice volumeTests verdict firstOf unlessMet lowestFree descriptorChoice dataChoice dataChoices wrongFrom wrongPlace ifWrong findIn onSound underName openOf changing adding newLabel formatted createStatus entered createTests creating createOf longerBlocks appendTests appendWrites appending appendOf dataWrites newSectors newBlocks storeTests storing storeOf digits decimal unpadded kindWord kindLength diskLine fileLine fileLines listingText named tests ready
 all-pass = refl
 
 pub computed : Shown caseM

@@ -1,4 +1,5 @@
 -- The proofs of what specs/ states.
+pub mod Names
 mod Computed
 pub mod Bench
 pub mod Formatting
@@ -20,10 +21,10 @@ pub mod Renames
 mod Deciding
 mod Faults
 mod Opening
+mod Carried
 pub mod Progress
 mod Refusals
 mod Shown
-mod Plain
 pub mod Ours
 pub mod Demand2
 pub mod Unique

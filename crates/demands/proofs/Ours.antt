@@ -8,10 +8,11 @@ use native.Mathlib.Decide.{ℕ-discrete}
 use lib.ListN.{length}
 use Rattle.rules.specs.Bytes.{part, splice}
 use Rattle.rules.specs.Sectors.{sectorOf, written}
+use Rattle.rules.specs.Name.{wrongPlace}
 use Rattle.rules.specs.Map.{freeCount}
 use Rattle.rules.specs.Verdict.{volumeTests, verdict}
 use Rattle.rules.specs.Sound.{Sound}
-use Rattle.rules.specs.Outcome.{Outcome, Report, answerOf, amountOf}
+use Rattle.rules.specs.Outcome.{Outcome, Report, amountOf, byNumber, namedAmountOf}
 use Rattle.rules.specs.Opening.{openOf}
 use Rattle.rules.specs.Calls.Format.{Geometry, formatted, formatTests, formatNumber, afterFormat}
 use Rattle.rules.specs.Calls.Summary.{freeCountOf, summaryOf, summaryAnswer}
@@ -31,8 +32,8 @@ use Rattle.rules.proofs.Outcome.{reported-given}
 use Rattle.demands.specs.Effects.{Kept}
 use Rattle.demands.specs.Does.{Does, FormatCall}
 use Rattle.demands.specs.Call as call
-use Rattle.demands.specs.Call.{Form, answerNumber, numberIn, Look, Change, Call, lent, numberOf, run}
-use Rattle.demands.specs.Ours.{seen, outcome, ours}
+use Rattle.demands.specs.Call.{Names, Form, namedNumber, numberIn, Look, Change, Call, namesOf, lent, numberOf, run}
+use Rattle.demands.specs.Ours.{answered, seen, outcome, ours}
 use Rattle.demands.specs.Demand3.{packs}
 use Rattle.demands.specs.Grounds.{First, grounds}
 use Rattle.demands.specs.Demand2.{FreeIs, FreeGiven, Summarized, Shows, Means, Frame, Demand2}
@@ -46,21 +47,21 @@ use Rattle.demands.proofs.Deletes.{deletes}
 use Rattle.demands.proofs.Renames.{renames}
 use Rattle.demands.proofs.Refusals.{Writes, Puts, reported-puts, on-file-puts, change-writes}
 use Rattle.demands.proofs.Demand3.{packing-demand}
-use Rattle.demands.proofs.Plain.{answer-number, amount-number, summary-number, plain}
+use Rattle.demands.proofs.Carried.{answer-number, amount-number, summary-number, named-number, loaded-number, carried}
 use Rattle.demands.proofs.Lines.{listing-lists}
 use Rattle.demands.proofs.Shown.{catalogue-length, entry-bytes, entry-answers, read-is, load-is, listing-is}
 
 -- what a refusal leaves: of the image, and of the buffer lent
-refused-image : (image : List ℕ) (outcome : Outcome) → Writes outcome → (answerNumber (answerOf (outcome .number)) ≡ 0 → ⊥) → written image (outcome .writes) ≡ image
+refused-image : (names : Names) (image : List ℕ) (outcome : Outcome) → Writes outcome → (namedNumber names (answered names (outcome .number)) ≡ 0 → ⊥) → written image (outcome .writes) ≡ image
 unfolding written
-refused-image image outcome writes some = rw (writes .none (λ z. some (answer-number (outcome .number) ∙ z)))
+refused-image names image outcome writes some = rw (writes .none (λ z. some (named-number names (outcome .number) ∙ z)))
 
 refused-buffer : (buffer : List ℕ) (report : Report) → Puts report → (report .number ≡ 0 → ⊥) → splice buffer 0 (report .bytes) ≡ buffer
 refused-buffer buffer report puts some = rw (puts .none some) (splice-none buffer 0)
 
-refused-format : (image : List ℕ) (n : ℕ) (name : List ℕ) (g : Geometry) → (answerNumber (answerOf (formatNumber image n name)) ≡ 0 → ⊥) → afterFormat image n name g ≡ image
+refused-format : (image : List ℕ) (n : ℕ) (name : List ℕ) (g : Geometry) → (namedNumber (call.one name) (answered (call.one name) (formatNumber image n name)) ≡ 0 → ⊥) → afterFormat image n name g ≡ image
 unfolding afterFormat
-refused-format image n name g some = unless-met (formatTests image n name) _ image (λ z. some (answer-number (formatNumber image n name) ∙ z))
+refused-format image n name g some = unless-met (formatTests image n name) _ image (λ z. some (named-number (call.one name) (formatNumber image n name) ∙ z))
 
 look-refuses : {form : Form} (look : Look form) (buffer image : List ℕ) → (numberIn form (seen look buffer image .answer) ≡ 0 → ⊥) → seen look buffer image .buffer ≡ buffer
 unfolding seen summaryOf entryOf readOf reading loadOf loading listingOf verdict packs
@@ -69,16 +70,18 @@ look-refuses call.freeCount buffer image some = splice-none buffer 0
 look-refuses call.summarize buffer image some = refused-buffer buffer (summaryOf image) (reported-puts _ _ _) (λ z. some (summary-number image ∙ z))
 look-refuses (call.entry place) buffer image some = refused-buffer buffer (entryOf image place (length buffer)) (reported-puts _ _ _) (λ z. some (answer-number _ ∙ z))
 look-refuses (call.read name offset) buffer image some =
-    refused-buffer buffer (readOf image name offset (length buffer)) (on-file-puts (openOf image name) (reading image offset (length buffer)) (λ k. reported-puts _ _ _)) (λ z. some (answer-number _ ∙ z))
+    refused-buffer buffer (readOf image name offset (length buffer)) (on-file-puts (openOf image name) (reading image offset (length buffer)) (λ k. reported-puts _ _ _))
+    (λ z. some (named-number (call.one name) _ ∙ z))
 look-refuses (call.load name) buffer image some =
-    refused-buffer buffer (loadOf image name (length buffer)) (on-file-puts (openOf image name) (loading image (length buffer)) (λ k. reported-puts _ _ _)) (λ z. some (amount-number _ ∙ z))
+    refused-buffer buffer (loadOf image name (length buffer)) (on-file-puts (openOf image name) (loading image (length buffer)) (λ k. reported-puts _ _ _))
+    (λ z. some (loaded-number (wrongPlace name) _ ∙ z))
 look-refuses call.list buffer image some = refused-buffer buffer (listingOf image (length buffer)) (reported-puts _ _ _) (λ z. some (amount-number _ ∙ z))
 look-refuses call.pack buffer image some = packing-demand .refuses image buffer (λ z. some (answer-number (packNumber image buffer) ∙ z))
 
 pub refuses : (c : Call) (image : List ℕ) → (numberOf ours c image ≡ 0 → ⊥) → (ours c image .image ≡ image) × (ours c image .buffer ≡ lent c)
 unfolding ours
 refuses (call.look look buffer) image some = (refl, look-refuses look buffer image some)
-refuses (call.change name change) image some = (refused-image image (outcome change image name) (change-writes change image name) some, refl)
+refuses (call.change name change) image some = (refused-image (namesOf name change) image (outcome change image name) (change-writes change image name) some, refl)
 refuses (call.format n name geometry) image some = (refused-format image n name geometry some, refl)
 
 -- the lengths of what is lent
@@ -119,7 +122,7 @@ pub formats : (n : ℕ) (name : List ℕ) (geometry : Geometry) (image : List �
     numberOf ours c image ≡ 0 → Means c image (ours c image)
 unfolding ours Means FormatCall
 formats n name geometry image e =
-    let zero = sym (answer-number (formatNumber image n name)) ∙ e in
+    let zero = sym (named-number (call.one name) (formatNumber image n name)) ∙ e in
     (format-call image n name geometry zero, format-bytes image n name geometry zero)
 
 -- the reading calls
@@ -141,7 +144,7 @@ summary-means image buffer is = (
 
 shows : {form : Form} (look : Look form) (buffer image : List ℕ) → Sound image → numberIn form (seen look buffer image .answer) ≡ 0
     → Shows look buffer image (record { answer = seen look buffer image .answer; buffer = seen look buffer image .buffer; image = image })
-unfolding seen Shows packs amountOf
+unfolding seen Shows packs amountOf namedAmountOf byNumber
 shows call.judge buffer image is e = splice-none buffer 0
 shows call.freeCount buffer image is e = (free-means image is, splice-none buffer 0)
 shows call.summarize buffer image is e = summary-means image buffer is
@@ -149,10 +152,10 @@ shows (call.entry place) buffer image is e =
     let zero = sym (answer-number (entryOf image place (length buffer) .number)) ∙ e in
     (entry-answers image is place (length buffer) zero, ap (splice buffer 0) (entry-bytes image is place (length buffer) zero))
 shows (call.read name offset) buffer image is e =
-    ap (splice buffer 0) (read-is image name offset (length buffer) (sym (answer-number (readOf image name offset (length buffer) .number)) ∙ e))
+    ap (splice buffer 0) (read-is image name offset (length buffer) (sym (named-number (call.one name) (readOf image name offset (length buffer) .number)) ∙ e))
 shows (call.load name) buffer image is e =
-    let loaded = load-is image name (length buffer) (sym (amount-number (loadOf image name (length buffer))) ∙ e) in
-    (ap amountOf loaded, ap (λ (r : Report). splice buffer 0 (r .bytes)) loaded)
+    let loaded = load-is image name (length buffer) (sym (loaded-number (wrongPlace name) (loadOf image name (length buffer))) ∙ e) in
+    (ap (namedAmountOf (wrongPlace name)) loaded, ap (λ (r : Report). splice buffer 0 (r .bytes)) loaded)
 shows call.list buffer image is e =
     let listed = listing-is image (length buffer) (sym (amount-number (listingOf image (length buffer))) ∙ e) in
     record { text = listingText image; lists = listing-lists image is; is = ap amountOf listed; put = ap (λ (r : Report). splice buffer 0 (r .bytes)) listed }
@@ -174,7 +177,7 @@ does (call.rename new) = renames new
 pub means : (c : Call) (image : List ℕ) → Sound image → numberOf ours c image ≡ 0 → Means c image (ours c image)
 unfolding ours Means
 means (call.look look buffer) image is e = shows look buffer image is e
-means (call.change name change) image is e = does change image name (sym (answer-number (outcome change image name .number)) ∙ e)
+means (call.change name change) image is e = does change image name (sym (named-number (namesOf name change) (outcome change image name .number)) ∙ e)
 means (call.format n name geometry) image is e = formats n name geometry image e
 
 -- the frame: of a call that was done, and of a refusal
@@ -222,4 +225,4 @@ sound-run (c ∷ calls) image is = sound-run calls (ours c image .image) (sound-
 
 pub demand2-but-progress : ((c : Call) (image : List ℕ) → First (numberOf ours c image) (grounds c image)) → Demand2 ours
 demand2-but-progress progress =
-    record { plain = plain; lengths = lengths; refuses = refuses; sound = sound-run; formats = formats; frame = frame; means = means; progress = progress }
+    record { carries = λ c image. carried c image (progress c image); lengths = lengths; refuses = refuses; sound = sound-run; formats = formats; frame = frame; means = means; progress = progress }

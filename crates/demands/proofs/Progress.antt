@@ -8,18 +8,18 @@ use lib.Dec.{ltb}
 use lib.ListN.{length}
 use borrow.Author.Tests.{ltb-true, ltb-false}
 use Rattle.rules.specs.Sectors.{sectorOf}
-use Rattle.rules.specs.Name.{nameRule}
+use Rattle.rules.specs.Name.{wrongPlace}
 use Rattle.rules.specs.Map.{freeCount, marked}
 use Rattle.rules.specs.Chain.{blocks}
 use Rattle.rules.specs.Descriptor.{chainOf}
-use Rattle.rules.specs.Volume.{placesIn}
+use Rattle.rules.specs.Volume.{files, placesIn}
 use Rattle.rules.specs.Sound.{Sound}
 use Rattle.rules.specs.Choice.{descriptorChoice, dataChoice}
 use Rattle.rules.specs.declared.Block.{Block}
-use Rattle.rules.specs.Tests.{Test, refuse, firstOf, unlessMet}
+use Rattle.rules.specs.Tests.{Test, firstOf}
 use Rattle.rules.specs.Verdict.{volumeTests, verdict}
 use Rattle.rules.specs.Outcome.{Report, Outcome, tested}
-use Rattle.rules.specs.Opening.{opening, nameTests, openOf, onFile, changing, adding}
+use Rattle.rules.specs.Opening.{findIn, openOf, onFile, changing, adding}
 use Rattle.rules.specs.Calls.Summary.{freeCountOf}
 use Rattle.rules.specs.Calls.Entry.{entryTests, entryOf}
 use Rattle.rules.specs.Calls.Read.{readTests, reading, readOf}
@@ -33,27 +33,28 @@ use Rattle.rules.specs.Calls.Overwrite.{overwriteTests, overwriting, overwriteO
 use Rattle.rules.specs.Calls.Protect.{settingBit, setBitOf}
 use Rattle.rules.specs.Calls.Store.{newSectors, newBlocks, storeTests, storing, storeOf}
 use Rattle.rules.specs.Calls.Delete.{deleteTests, deleting, deleteOf}
-use Rattle.rules.specs.Calls.Rename.{renameTests, renaming, namesTests, renameOf}
+use Rattle.rules.specs.Calls.Rename.{renameTests, renaming, openBoth, renameOf}
+use Rattle.rules.specs.declared.WrongPlace.the-variants.{None}
 use Rattle.rules.specs.declared.Opened.{Opened}
-use Rattle.rules.specs.declared.Opened.the-variants.{At, Absent, Refused}
+use Rattle.rules.specs.declared.Opened.the-variants.{At, Absent, Refused, Misnamed}
 use Rattle.rules.proofs.Name.{name-is, is-name}
 use Rattle.rules.proofs.Verdict.{sound}
 use Rattle.rules.proofs.Choice.{choices-length}
-use Rattle.rules.proofs.Opening.{IsOpened, name-passed}
+use Rattle.rules.proofs.Opening.{IsOpened}
 use Rattle.rules.proofs.Listed.{opened-listed}
 use Rattle.demands.specs.Call as call
-use Rattle.demands.specs.Call.{Form, numberIn, Look, Change, Call, numberOf}
+use Rattle.demands.specs.Call.{Form, numberIn, Look, Change, Call, namesOf, numberOf}
 use Rattle.demands.specs.Ours.{seen, outcome, ours}
 use Rattle.demands.specs.Grounds.{Ground, ground, First, faults, lookGrounds, changeGrounds, grounds, isProtected, Has, Present, Overfull, NewOverfull, TextOver}
 use Rattle.demands.specs.Taking.{Takes}
-use Rattle.demands.proofs.Plain.{answer-number, amount-number, summary-number}
+use Rattle.demands.proofs.Carried.{answer-number, amount-number, summary-number, named-number, loaded-number}
 use Rattle.demands.proofs.Taking.{lowest-one, takes-one, descriptor-lowest, append-takes, new-takes}
 use Rattle.demands.proofs.Lines.{listing-lists, lists-one}
 use Rattle.demands.proofs.Deciding.{Decides, Decide, first-after, first-ground, decide-both, broken, equal, unequal, below, at-most}
 use Rattle.demands.proofs.Faults.{sized-is, is-sized, faults-decided}
 use Rattle.demands.proofs.Creates.{status-among, among-status}
-use Rattle.demands.proofs.Renames.{renamings, names-passed}
-use Rattle.demands.proofs.Opening.{of-file, unnamed, name-decided, absent-first, present-first}
+use Rattle.demands.proofs.Renames.{renamings}
+use Rattle.demands.proofs.Opening.{of-file, unnamed, sound-first, name-first, absent-first, present-first}
 
 -- calls that name no file: the tests of the volume, and more behind them
 volume-first : (image : List ℕ) (tests : List Test) (gs : List {1} Ground) → (Sound image → Decide tests gs) → First (firstOf (volumeTests image ++ tests)) (faults image ++ gs)
@@ -61,31 +62,34 @@ unfolding verdict
 volume-first image tests gs decided =
     first-ground (volumeTests image ++ tests) (faults image ++ gs) (decide-both (volumeTests image) tests (faults image) gs (faults-decided image) (λ zero. decided (sound image zero)))
 
--- calls on a file, by what they make of the opening; and calls that take a new name
-module _ (image name : List ℕ) (more : List {1} Ground) where
-  file-first : (result : Opened → ℕ) → ((number : ℕ) → result (Refused number) ≡ number) → result Absent ≡ 8
-      → ((p k : ℕ) → IsOpened image name p k → First (result (At p k)) more)
-      → First (result (openOf image name)) (faults image ++ (unnamed name ∷ (ground 8 (Present image name → ⊥) ∷ more)))
-  unfolding openOf faults
-  file-first result refused eight found =
-      absent-first (nameTests image name) image name _ (name-decided image name) (name-passed image name) result refused more eight (λ zero. found)
+-- calls on a file, by the number that they make of what was opened; and calls that take a new name
+module _ (image name : List ℕ) (result : Opened → ℕ) (refused : (number : ℕ) → result (Refused number) ≡ number) (misnamed : (place : ℕ) → result (Misnamed place) ≡ 7) where
+  opened-first : (more : List {1} Ground) → (Sound image → wrongPlace name ≡ None → First (result (findIn image name 0 (files image))) more)
+      → First (result (openOf image name)) (faults image ++ (unnamed name ∷ more))
+  unfolding openOf
+  opened-first more found = sound-first result image _ _ refused (λ is. name-first result name _ more misnamed (found is))
 
+  file-first : (more : List {1} Ground) → result Absent ≡ 8 → ((p k : ℕ) → IsOpened image name p k → First (result (At p k)) more)
+      → First (result (openOf image name)) (faults image ++ (unnamed name ∷ (ground 8 (Present image name → ⊥) ∷ more)))
+  file-first more eight found = opened-first _ (λ is kept. absent-first result image name is kept more eight found)
+
+module _ (image name : List ℕ) (more : List {1} Ground) where
   changing-first : (act : ℕ → Outcome) → ((p k : ℕ) → IsOpened image name p k → First (act k .number) more)
       → First (changing (openOf image name) act .number) (faults image ++ (unnamed name ∷ (ground 8 (Present image name → ⊥) ∷ more)))
   unfolding changing
-  changing-first act = file-first (λ (o : Opened). changing o act .number) (λ number. refl) refl
+  changing-first act = file-first image name (λ (o : Opened). changing o act .number) (λ number. refl) (λ place. refl) more refl
 
   reading-first : (act : ℕ → Report) → ((p k : ℕ) → IsOpened image name p k → First (act k .number) more)
       → First (onFile (openOf image name) act .number) (faults image ++ (unnamed name ∷ (ground 8 (Present image name → ⊥) ∷ more)))
   unfolding onFile
-  reading-first act = file-first (λ (o : Opened). onFile o act .number) (λ number. refl) refl
+  reading-first act = file-first image name (λ (o : Opened). onFile o act .number) (λ number. refl) (λ place. refl) more refl
 
   adding-first : (addition : Outcome) → (Sound image → First (addition .number) more)
       → First (adding (openOf image name) addition .number) (faults image ++ (unnamed name ∷ (ground 9 (Present image name) ∷ more)))
-  unfolding openOf faults adding
+  unfolding adding
   adding-first addition first =
-      present-first (nameTests image name) image name _ (name-decided image name) (name-passed image name) (λ (o : Opened). adding o addition .number) (λ number. refl) more (λ p k. refl)
-      (λ zero. first (name-passed image name zero .0))
+      let result : Opened → ℕ = λ o. adding o addition .number in
+      opened-first image name result (λ number. refl) (λ place. refl) _ (λ is kept. present-first result image name is kept more (λ p k. refl) (λ absent. first is))
 
 -- 13: the blocks that the call makes are the only ones of the facts
 overfull-decided : (image first places : List ℕ) (before : List Block) (ks : List ℕ) (chain : List Block) → Takes image first places before ks chain
@@ -139,11 +143,11 @@ look-first call.summarize buffer image = rw (summary-number image) (judged-first
 look-first (call.entry place) buffer image =
     rw (answer-number (entryOf image place (length buffer) .number)) (volume-first image _ _ (λ is. (refl, at-most, λ _. (refl, below, λ _. tt))))
 look-first (call.read name offset) buffer image =
-    rw (answer-number (readOf image name offset (length buffer) .number))
+    rw (named-number (call.one name) (readOf image name offset (length buffer) .number))
     (reading-first image name _ (reading image offset (length buffer))
     (λ p k o. first-ground (readTests image offset (length buffer) k) _ (refl, of-file image name p k o _ at-most, λ _. (refl, below, λ _. tt))))
 look-first (call.load name) buffer image =
-    rw (amount-number (loadOf image name (length buffer)))
+    rw (loaded-number (wrongPlace name) (loadOf image name (length buffer)))
     (reading-first image name _ (loading image (length buffer))
     (λ p k o. first-ground (loadTests image (length buffer) k) _ (refl, of-file image name p k o _ unequal, λ _. (refl, of-file image name p k o _ below, λ _. tt))))
 look-first call.list buffer image = rw (amount-number (listingOf image (length buffer))) (volume-first image _ _ (λ is. (refl, text-decided image is, λ _. tt)))
@@ -160,14 +164,18 @@ unfolding renameTests Decide
 protected-first image name p k o = first-ground (renameTests image k) _ (refl, of-file image name p k o _ equal, λ _. tt)
 
 rename-first : (image old new : List ℕ) → First (renameOf image old new .number) (grounds (call.change old (call.rename new)) image)
-unfolding grounds changeGrounds faults renameOf renaming namesTests renameTests changing adding opening unlessMet firstOf Decide
+unfolding grounds changeGrounds renameOf openBoth renaming changing adding
 rename-first image old new =
-    absent-first (namesTests image old new) image old (faults image ++ (unnamed old ∷ (unnamed new ∷ [])))
-    (decide-both (nameTests image old) (refuse 7 (not (nameRule new)) ∷ []) (faults image ++ (unnamed old ∷ [])) (unnamed new ∷ []) (name-decided image old) (λ _. (refl, broken (name-is new) (is-name new), λ _. tt)))
-    (λ zero. names-passed image old new zero .0) (λ (o : Opened). changing o (renaming image new) .number) (λ number. refl) _ refl
-    (λ zero p k o.
-    present-first [] image new [] tt (λ _. (o .whole, names-passed image old new zero .1)) (λ (o : Opened). adding o (tested (renameTests image k) (renamings image new k)) .number) (λ number. refl) _
-    (λ p k. refl) (λ none. protected-first image old p k o))
+    let result : Opened → ℕ = λ o. changing o (renaming image new) .number in
+    sound-first result image _ _ (λ number. refl)
+    (λ is.
+    name-first result old _ _ (λ place. refl)
+    (λ kept.
+    name-first result new _ _ (λ place. refl)
+    (λ kept-new.
+    absent-first result image old is kept _ refl
+    (λ p k o.
+    present-first (λ (o : Opened). adding o (tested (renameTests image k) (renamings image new k)) .number) image new is kept-new _ (λ p k. refl) (λ absent. protected-first image old p k o)))))
 
 change-first : (change : Change) (image name : List ℕ) → First (outcome change image name .number) (grounds (call.change name change) image)
 unfolding outcome grounds changeGrounds Decide createOf creating createTests appendOf appending appendTests overwriteOf overwriting overwriteTests setBitOf settingBit storeOf storing storeTests deleteOf deleting deleteTests
@@ -200,8 +208,8 @@ change-first (call.rename new) image name = rename-first image name new
 pub progress : (c : Call) (image : List ℕ) → First (numberOf ours c image) (grounds c image)
 unfolding ours grounds formatTests Decide
 progress (call.look look buffer) image = look-first look buffer image
-progress (call.change name change) image = rw (answer-number (outcome change image name .number)) (change-first change image name)
+progress (call.change name change) image = rw (named-number (namesOf name change) (outcome change image name .number)) (change-first change image name)
 progress (call.format n name g) image =
-    rw (answer-number (firstOf (formatTests image n name)))
+    rw (named-number (call.one name) (firstOf (formatTests image n name)))
     (first-ground (formatTests image n name) _
     (refl, broken (sized-is image) (is-sized image), λ _. (refl, unequal, λ _. (refl, broken (name-is name) (is-name name), λ _. tt))))

@@ -5,16 +5,16 @@ use Prim.Native.Nat.{ℕ}
 use Rattle.rules.specs.Sectors.{Write}
 use Rattle.rules.specs.Tests.{Test}
 use Rattle.rules.specs.Outcome.{Report, Outcome, refusal, reported, tested}
-use Rattle.rules.specs.Opening.{findIn, opening, openOf, onFile, changing, adding}
+use Rattle.rules.specs.Opening.{findIn, openOf, onFile, changing, adding}
 use Rattle.rules.specs.Calls.Create.{creating, createOf}
 use Rattle.rules.specs.Calls.Append.{appending, appendOf}
 use Rattle.rules.specs.Calls.Overwrite.{overwriting, overwriteOf}
 use Rattle.rules.specs.Calls.Protect.{settingBit, setBitOf}
 use Rattle.rules.specs.Calls.Store.{storing, storeOf}
 use Rattle.rules.specs.Calls.Delete.{deleting, deleteOf}
-use Rattle.rules.specs.Calls.Rename.{renaming, renameOf}
+use Rattle.rules.specs.Calls.Rename.{renaming, openBoth, renameOf}
 use Rattle.rules.specs.declared.Opened.{Opened}
-use Rattle.rules.specs.declared.Opened.the-variants.{At, Absent, Refused}
+use Rattle.rules.specs.declared.Opened.the-variants.{At, Absent, Refused, Misnamed}
 use Rattle.rules.proofs.Tests.{unless-met}
 use Rattle.demands.specs.Call as call
 use Rattle.demands.specs.Call.{Change}
@@ -42,18 +42,21 @@ unfolding changing
 changing-writes (At p k) change each = each k
 changing-writes Absent change each = refusal-writes 8
 changing-writes (Refused number) change each = refusal-writes number
+changing-writes (Misnamed place) change each = refusal-writes 7
 
 adding-writes : (o : Opened) (addition : Outcome) → Writes addition → Writes (adding o addition)
 unfolding adding
 adding-writes (At p k) addition is = refusal-writes 9
 adding-writes Absent addition is = is
 adding-writes (Refused number) addition is = refusal-writes number
+adding-writes (Misnamed place) addition is = refusal-writes 7
 
 pub on-file-puts : (o : Opened) (reading : ℕ → Report) → ((k : ℕ) → Puts (reading k)) → Puts (onFile o reading)
 unfolding onFile
 on-file-puts (At p k) reading each = each k
 on-file-puts Absent reading each = record { none = λ some. refl }
 on-file-puts (Refused number) reading each = record { none = λ some. refl }
+on-file-puts (Misnamed place) reading each = record { none = λ some. refl }
 
 -- every change
 set-writes : (j bit : ℕ) (image name : List ℕ) → Writes (setBitOf j bit image name)
@@ -69,4 +72,4 @@ change-writes call.protect image name = set-writes 3 1 image name
 change-writes call.unprotect image name = set-writes 3 0 image name
 change-writes (call.store bytes) image name = adding-writes (openOf image name) _ (tested-writes _ _)
 change-writes call.delete image name = changing-writes (openOf image name) (deleting image) (λ k. tested-writes _ _)
-change-writes (call.rename new) image name = changing-writes (opening _ image name) (renaming image new) (λ k. adding-writes (findIn image new 0 _) _ (tested-writes _ _))
+change-writes (call.rename new) image name = changing-writes (openBoth image name new) (renaming image new) (λ k. adding-writes (findIn image new 0 _) _ (tested-writes _ _))

@@ -1,13 +1,11 @@
 -- Rename: the file goes and comes under another name. That changes ten bytes in its descriptor and the place of its number in sector 1; the new name is no file's, so the names ascend
 -- again, and the chain stands as it stood, so the holders are the same and the map needs no change.
 use mathlib.Core.Path.{_≡_, refl, ap, _∙_}
-use mathlib.Core.Bool.{true, not}
+use mathlib.Core.Bool.{true}
 use mathlib.Core.List.{List, [], _∷_}
 use Prim.Native.Nat.{ℕ, _≤_, _<_}
 use native.Mathlib.Omega.{arith}
-use native.Mathlib.Decide.{ℕ-discrete}
 use lib.ListN.{length}
-use borrow.Author.Tests.{not-false}
 use Rattle.rules.specs.Bytes.{byteAt, splice}
 use Rattle.rules.specs.Sectors.{Write, sectorOf, sectorCount, written}
 use Rattle.rules.specs.Name.{nameRule, IsName}
@@ -17,11 +15,11 @@ use Rattle.rules.specs.Descriptor.{nameOf, chainOf, IsDescriptor}
 use Rattle.rules.specs.Index.{indexOf, without}
 use Rattle.rules.specs.Volume.{files, nameIn, placesIn, placed, headerIn, contentsIn, fileIn, catalogue}
 use Rattle.rules.specs.Sound.{Sound}
-use Rattle.rules.specs.Tests.{refuse, firstOf, Passed}
-use Rattle.rules.specs.Outcome.{write, tested}
-use Rattle.rules.specs.Opening.{findIn, opening, nameTests, changing}
-use Rattle.rules.specs.Calls.Rename.{renameTests, renaming, namesTests, renameOf}
-use Rattle.rules.proofs.Tests.{all-passed, none-met, passed-both, unless-passed}
+use Rattle.rules.specs.Outcome.{Bare, write, tested}
+use Rattle.rules.specs.Opening.{findIn}
+use Rattle.rules.specs.Calls.Rename.{renameTests, renaming, openBoth, renameOf}
+use Rattle.rules.specs.declared.Opened.the-variants.{At, Refused}
+use Rattle.rules.proofs.Tests.{unless-passed}
 use Rattle.rules.proofs.Splice.{splice-length, splice-front, splice-take, splice-above}
 use Rattle.rules.proofs.Sectors.{sector-length}
 use Rattle.rules.proofs.Name.{name-is}
@@ -29,7 +27,8 @@ use Rattle.rules.proofs.Descriptor.{chain-same, front-changed}
 use Rattle.rules.proofs.Map.{count-none, count-here, count-more, count-apart}
 use Rattle.rules.proofs.Indexed.{without-length, placed-length, index-length}
 use Rattle.rules.proofs.Staying.{map-agree}
-use Rattle.rules.proofs.Opening.{name-passed, opening-met, find-looks, opened-by, refused-by, unfound, changed-done, added-done, place-many}
+use Rattle.rules.proofs.Misnamed.{none-rule}
+use Rattle.rules.proofs.Opening.{IsOpened, wasLooked, sound-passed, name-passed, find-refused, under-refused, refused-bare, found-is, unfound, changed-done, added-done, place-many}
 use Rattle.rules.proofs.Written.{Whole, written-length, Apart, written-apart, written-at}
 use Rattle.rules.proofs.Listed.{sector-inside, listed-range, listed-descriptor, rest-apart, opened-listed}
 use Rattle.rules.proofs.Replaced.{at, Replaced, stayed, index-anew, same-mapped}
@@ -38,7 +37,6 @@ use Rattle.demands.specs.Catalogue.{putIn, takenOut, named}
 use Rattle.demands.specs.Call.{rename}
 use Rattle.demands.specs.Ours.{outcome}
 use Rattle.demands.specs.Effects.{effect, Done, renamed}
-use Rattle.demands.specs.Grounds.{Has}
 use Rattle.demands.specs.Touches.{Numbers, Stays, Touches}
 use Rattle.demands.specs.Does.{Does}
 use Rattle.demands.proofs.Filed.{named-file}
@@ -152,29 +150,31 @@ module _ (image old new : List ℕ) (k : ℕ) (is : Sound image) (there : 1 ≤ 
         others = λ j inside apart. let some = count-apart j 1 (k ∷ []) apart in others j (count-apart j k [] (some .1) .0) (some .0);
       }
 
--- numbers 1 to 7 passed: a sound volume, and both names keep the rule
-pub names-passed : (image old new : List ℕ) → firstOf (namesTests image old new) ≡ 0 → (Sound image × (nameRule old ≡ true)) × (nameRule new ≡ true)
-unfolding namesTests Passed
-names-passed image old new e =
-    let passed = passed-both (nameTests image old) (refuse 7 (not (nameRule new)) ∷ []) (all-passed (namesTests image old new) e) in
-    (name-passed image old (none-met (nameTests image old) (passed .0)), not-false (nameRule new) (passed .1 .0))
+-- a file that was found under its old name: the volume is sound, and both names keep the rule
+both-opened : (image old new : List ℕ) (p k : ℕ) → openBoth image old new ≡ At p k → IsOpened image old p k × (nameRule new ≡ true)
+unfolding openBoth wasLooked
+both-opened image old new p k e =
+    let volume = sound-passed image _ (At p k) refl e in
+    let first = name-passed old _ (At p k) refl (volume .1) in
+    let second = name-passed new _ (At p k) refl (first .1) in
+    (found-is image old p k (volume .0) (first .0) (second .1), none-rule new (second .0))
+
+both-refused : (image old new : List ℕ) (number : ℕ) → openBoth image old new ≡ Refused number → Bare number number
+unfolding openBoth
+both-refused image old new =
+    refused-bare image _ (λ number e. under-refused old _ number (under-refused new _ number (find-refused image old number)) e)
 
 -- number 0: the old name is found and the new one is not, and the file is not protected
-ruled-done : (image old new : List ℕ) → firstOf (namesTests image old new) ≡ 0 → renameOf image old new .number ≡ 0
-    →
-    let after = written image (renameOf image old new .writes) in
-    Done image after old (effect (putIn (renamed new (named old (catalogue image))) (takenOut old (catalogue image))) 0 0)
-    × Has image old (λ k. Stays image after new k (1 ∷ (k ∷ [])) × Numbers image after [] [])
-unfolding renameOf renaming
-ruled-done image old new ruled-by e =
-    let tests = namesTests image old new in
-    let ruled = names-passed image old new ruled-by in
-    let was = changed-done (opening tests image old) (renaming image new) (λ number found. refused-by tests image old number found .1) e in
+pub renames : (new : List ℕ) → Does (rename new)
+unfolding outcome renameOf renaming Touches
+renames new image old e =
+    let was = changed-done (openBoth image old new) (renaming image new) (both-refused image old new) e in
     let k = was .sector in
-    let opened = opened-by tests image old (λ z. ruled .0) (was .place) k (was .found-at) in
+    let both = both-opened image old new (was .place) k (was .found-at) in
+    let opened = both .0 in
     let there = opened-listed image old (was .place) k opened in
-    let added = added-done (findIn image new 0 (files image)) (tested (renameTests image k) (renamings image new k)) (λ number found. absurd (find-looks image new 0 (files image) number found)) (was .number) in
-    let is-name = name-is new (ruled .1) in
+    let added = added-done (findIn image new 0 (files image)) (tested (renameTests image k) (renamings image new k)) (λ number found. absurd (find-refused image new number found)) (was .number) in
+    let is-name = name-is new (both .1) in
     let absent = unfound image new 0 (files image) (added .absent) in
     rw (was .is, added .is, unless-passed (renameTests image k) (renamings image new k) [] (added .number)) (
       renamed-done image old new k (opened .whole) there (opened .named) is-name absent,
@@ -183,11 +183,3 @@ ruled-done image old new ruled-by e =
         still-listed image _ k (numbers-after (replaced image old new k (opened .whole) there (opened .named) is-name absent) (sector1 image old new k (opened .whole) there (opened .named) is-name absent)),
       ),
     )
-
-pub renames : (new : List ℕ) → Does (rename new)
-unfolding outcome renameOf changing Touches
-renames new image old e =
-    elim (ℕ-discrete (firstOf (namesTests image old new)) 0) [
-      | yes none ↦ ruled-done image old new none e
-      | no some ↦ absurd (some (rw (opening-met (namesTests image old new) image old (firstOf (namesTests image old new)) refl some) at e))
-    ]

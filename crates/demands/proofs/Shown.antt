@@ -21,7 +21,7 @@ use Rattle.rules.specs.Calls.Listing.{listingText, listingTests, listingOf}
 use Rattle.rules.specs.declared.Entry.{Entry}
 use Rattle.rules.specs.declared.Answer.the-variants.{Done}
 use Rattle.rules.specs.declared.Opened.{Opened}
-use Rattle.rules.specs.declared.Opened.the-variants.{At, Absent, Refused}
+use Rattle.rules.specs.declared.Opened.the-variants.{At, Absent, Refused, Misnamed}
 use Rattle.rules.proofs.Tests.{all-passed, passed-both, unless-passed}
 use Rattle.rules.proofs.Volume.{contents-count, content-at, header-at, header-name}
 use Rattle.rules.proofs.Outcome.{reported-given}
@@ -71,7 +71,8 @@ read-done image name reading = go (openOf image name) refl
     go : (o : Opened) → openOf image name ≡ o → onFile o reading .number ≡ 0 → Read image name reading
     go (At p k) found e = record { place = p; sector = k; opened = opened-is image name p k found; is = rw found; number = e }
     go Absent found e = absurd (omega (arith, e))
-    go (Refused number) found e = absurd (open-refused image name number found e)
+    go (Refused number) found e = absurd (open-refused image name number found .1 e)
+    go (Misnamed place) found e = absurd (omega (arith, e))
 
 -- it is the file that the catalogue has under that name
 opened-named : (image name : List ℕ) (p k : ℕ) → IsOpened image name p k → named name (catalogue image) ≡ fileIn image k

@@ -2,6 +2,7 @@
 use mathlib.Core.Path.{_≡_, sym, _∙_}
 use mathlib.Core.List.{List, []}
 use Prim.Native.Nat.{ℕ}
+use Rattle.rules.specs.Name.{wrongPlace}
 use Rattle.rules.specs.Verdict.{volumeTests, verdict}
 use Rattle.rules.specs.Outcome.{Report, answerOf}
 use Rattle.rules.specs.Calls.Summary.{freeCountOf, summaryOf, SummarySays, summaryAnswer}
@@ -13,11 +14,11 @@ use Rattle.rules.specs.declared.Summary.{Summary}
 use Rattle.rules.specs.declared.Summary.the-variants as summary
 use Rattle.rules.proofs.Tests.{unless-passed, unless-met}
 use Rattle.rules.proofs.Splice.{splice-none}
-use Rattle.rules.proofs.Outcome.{says-answer, says-amount}
+use Rattle.rules.proofs.Outcome.{says-answer, says-amount, says-named, says-named-amount, says-rename}
 use Rattle.demands.specs.Call as call
-use Rattle.demands.specs.Call.{Form, Answered, Look, Result}
-use Rattle.demands.specs.Ours.{seen, ours}
-use Rattle.demands.specs.Unique.{LookPromised, Promised, IsOurs, Unique}
+use Rattle.demands.specs.Call.{Names, Form, AnsweredTo, Answered, Look, Result, namesOf, formOf}
+use Rattle.demands.specs.Ours.{answered, seen, ours}
+use Rattle.demands.specs.Unique.{LookPromised, Says, Promised, IsOurs, Unique}
 
 says-summary : (image : List ℕ) (given : Summary) → SummarySays image given (summaryOf image) → given ≡ summaryAnswer image
 unfolding SummarySays summaryOf summaryAnswer verdict
@@ -30,19 +31,24 @@ same-entry entry row report said = go (entry .answer) (entry .row) (says-answer 
     go : (answer : Answer) (is : Row) → answer ≡ answerOf (report .number) → is ≡ row → _≡_ {A = Entry} (record { answer = answer; row = is }) (record { answer = answerOf (report .number); row = row })
     go answer is e f = rw (e, f)
 
+says-names : (names : Names) (given : AnsweredTo names) (number : ℕ) → Says names given number → given ≡ answered names number
+unfolding Says answered
+says-names (call.one name) given number said = says-named (wrongPlace name) given number said
+says-names (call.both old new) given number said = says-rename (wrongPlace old) (wrongPlace new) given number said
+
 pub same-result : (form : Form) (answer answer′ : Answered form) (buffer buffer′ image image′ : List ℕ) → answer ≡ answer′ → buffer ≡ buffer′ → image ≡ image′
     → _≡_ {A = Result form} (record { answer = answer; buffer = buffer; image = image }) (record { answer = answer′; buffer = buffer′; image = image′ })
 same-result form answer answer′ buffer buffer′ image image′ a b i = rw (a, b, i)
 
 look-ours : {form : Form} (look : Look form) (buffer image : List ℕ) (given : Answered form) (after : List ℕ) → LookPromised look buffer image given after
     → (given ≡ seen look buffer image .answer) × (after ≡ seen look buffer image .buffer)
-unfolding LookPromised seen
+unfolding LookPromised seen Says
 look-ours call.judge buffer image given after p = (p .0, p .1 ∙ sym (splice-none buffer 0))
 look-ours call.freeCount buffer image given after p = (says-amount given (freeCountOf image) (p .0), p .1 ∙ sym (splice-none buffer 0))
 look-ours call.summarize buffer image given after p = (says-summary image given (p .said), p .left)
 look-ours (call.entry place) buffer image given after p = (same-entry given _ _ (p .said), p .left)
-look-ours (call.read name offset) buffer image given after p = (says-answer given _ (p .said), p .left)
-look-ours (call.load name) buffer image given after p = (says-amount given _ (p .said), p .left)
+look-ours (call.read name offset) buffer image given after p = (says-names (call.one name) given _ (p .said), p .left)
+look-ours (call.load name) buffer image given after p = (says-named-amount (wrongPlace name) given _ (p .said), p .left)
 look-ours call.list buffer image given after p = (says-amount given _ (p .said), p .left)
 look-ours call.pack buffer image given after p = (says-answer given _ (p .0), p .1)
 
@@ -51,8 +57,8 @@ unfolding IsOurs Promised ours
 is-ours (call.look {form} look buffer) image r p =
     let seen-so = look-ours look buffer image (r .answer) (r .buffer) (p .0) in
     same-result form (r .answer) _ (r .buffer) _ (r .image) image (seen-so .0) (seen-so .1) (p .1)
-is-ours (call.change name change) image r p = same-result call.answer (r .answer) _ (r .buffer) [] (r .image) _ (says-answer (r .answer) _ (p .0 .said)) (p .1) (p .0 .left)
-is-ours (call.format n name geometry) image r p = same-result call.answer (r .answer) _ (r .buffer) [] (r .image) _ (says-answer (r .answer) _ (p .0)) (p .2) (p .1)
+is-ours (call.change name change) image r p = same-result (formOf (call.change name change)) (r .answer) _ (r .buffer) [] (r .image) _ (says-names (namesOf name change) (r .answer) _ (p .0 .said)) (p .1) (p .0 .left)
+is-ours (call.format n name geometry) image r p = same-result (formOf (call.format n name geometry)) (r .answer) _ (r .buffer) [] (r .image) _ (says-names (call.one name) (r .answer) _ (p .0)) (p .2) (p .1)
 
 pub unique : Unique
 unfolding Unique IsOurs

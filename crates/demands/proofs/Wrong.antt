@@ -39,7 +39,7 @@ use Rattle.demands.specs.Demand2.{FreeIs, Shows, Means, Demand2}
 use Rattle.demands.specs.Unique.{OnlyOurs}
 use Rattle.demands.specs.Wrong.{NeverDone, OneNumber, DoesNothing, InventsFree, OnlyReports, Instance, after, Wipes, MovesData, TakesHigher, WrongVersions}
 use Rattle.demands.proofs.Formatting.{formatting}
-use Rattle.demands.proofs.Plain.{answer-number, amount-number}
+use Rattle.demands.proofs.Carried.{named-number, amount-number}
 use Rattle.demands.proofs.Computed.{secondSector, computed}
 use Rattle.demands.proofs.Touched.{behind-system, of-first}
 use Rattle.demands.proofs.Complete.{only-ours}
@@ -84,7 +84,7 @@ module _ (version : Version) (all : Demand2 version) where
 
   appends : numberOf version appending caseM ≡ 0
   unfolding ours outcome
-  appends = number-ours appending caseM ∙ answer-number (appendOf caseM notes secondSector .number) ∙ computed .appended
+  appends = number-ours appending caseM ∙ named-number (call.one notes) (appendOf caseM notes secondSector .number) ∙ computed .appended
 
   append-marks : version appending caseM .image ≡ caseM → ⊥
   unfolding Means

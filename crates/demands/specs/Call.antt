@@ -3,23 +3,41 @@
 use mathlib.Core.Path.{_≡_}
 use mathlib.Core.List.{List, [], _∷_}
 use Prim.Native.Nat.{ℕ}
+use Rattle.rules.specs.Name.{IsName, WrongAt}
 use Rattle.rules.specs.Calls.Format.{Geometry}
 use Rattle.rules.specs.Calls.Entry.{noRow}
 use Rattle.rules.specs.declared.Answer.{Answer}
 use Rattle.rules.specs.declared.Amount.{Amount}
 use Rattle.rules.specs.declared.Summary.{Summary}
 use Rattle.rules.specs.declared.Entry.{Entry}
+use Rattle.rules.specs.declared.NamedAnswer.{NamedAnswer}
+use Rattle.rules.specs.declared.NamedAmount.{NamedAmount}
+use Rattle.rules.specs.declared.RenameAnswer.{RenameAnswer}
 use Rattle.rules.specs.declared.Answer.the-variants as answers
 use Rattle.rules.specs.declared.Amount.the-variants as amounts
 use Rattle.rules.specs.declared.Summary.the-variants as summaries
+use Rattle.rules.specs.declared.NamedAnswer.the-variants as answered
+use Rattle.rules.specs.declared.NamedAmount.the-variants as loads
+use Rattle.rules.specs.declared.RenameAnswer.the-variants as renames
 
--- the forms of an answer: the judge's number, done or refused, an amount, a summary, a row of the catalogue
+-- the names that a call takes: one, or a rename's two
+pub data Names : Type 0 where
+  one : (name : List ℕ) → Names
+  both : (old new : List ℕ) → Names
+
+-- the forms of an answer: the judge's number, done or refused, an amount, a summary, a row of the catalogue; and of a call that takes names, by those, done or refused, and an amount
 pub data Form : Type 0 where
   number : Form
   answer : Form
   amount : Form
   summary : Form
   row : Form
+  named : Names → Form
+  loaded : (name : List ℕ) → Form
+
+abbrev pub AnsweredTo : Names → Type 0
+AnsweredTo (one name) = NamedAnswer
+AnsweredTo (both old new) = RenameAnswer
 
 abbrev pub Answered : Form → Type 0
 Answered number = ℕ
@@ -27,6 +45,8 @@ Answered answer = Answer
 Answered amount = Amount
 Answered summary = Summary
 Answered row = Entry
+Answered (named names) = AnsweredTo names
+Answered (loaded name) = NamedAmount
 
 -- the paper's number of an answer, case by case
 unfoldable pub answerNumber : Answer → ℕ
@@ -41,20 +61,57 @@ unfoldable pub summaryNumber : Summary → ℕ
 summaryNumber (summaries.Given sectors listed free) = 0
 summaryNumber (summaries.Refused refused) = refused
 
+unfoldable pub namedNumber : (names : Names) → AnsweredTo names → ℕ
+namedNumber (one name) answered.Done = 0
+namedNumber (one name) (answered.Refused refused) = refused
+namedNumber (one name) (answered.Misnamed place) = 7
+namedNumber (both old new) renames.Done = 0
+namedNumber (both old new) (renames.Refused refused) = refused
+namedNumber (both old new) (renames.OldMisnamed place) = 7
+namedNumber (both old new) (renames.NewMisnamed place) = 7
+
+unfoldable pub loadedNumber : NamedAmount → ℕ
+loadedNumber (loads.Given value) = 0
+loadedNumber (loads.Refused refused) = refused
+loadedNumber (loads.Misnamed place) = 7
+
 abbrev pub numberIn : (form : Form) → Answered form → ℕ
 numberIn number given = given
 numberIn answer given = answerNumber given
 numberIn amount given = amountNumber given
 numberIn summary given = summaryNumber given
 numberIn row given = answerNumber (given .answer)
+numberIn (named names) given = namedNumber names given
+numberIn (loaded name) given = loadedNumber given
 
--- no refusal has the number 0, so that 0 always stands for done; and a refusal carries its number alone: beside it stands no row
-abbrev pub Plain : (form : Form) → Answered form → Type 0
-Plain number given = Unit {0}
-Plain answer given = given ≡ answers.Refused 0 → ⊥
-Plain amount given = given ≡ amounts.Refused 0 → ⊥
-Plain summary given = given ≡ summaries.Refused 0 → ⊥
-Plain row given = (given .answer ≡ answers.Refused 0 → ⊥) × ((given .answer ≡ answers.Done → ⊥) → given .row ≡ noRow)
+-- what an answer carries, case by case: a refusal its number; with 7, and with 7 alone, the place where the name is wrong, and of a rename which of the two that is. No refusal has the
+-- number 0, so that 0 always stands for done
+abbrev Alone : ℕ → Type 0
+Alone refused = (refused ≡ 0 → ⊥) × (refused ≡ 7 → ⊥)
+
+unfoldable pub NamedCarries : (names : Names) → AnsweredTo names → Type 0
+NamedCarries (one name) answered.Done = Unit {0}
+NamedCarries (one name) (answered.Refused refused) = Alone refused
+NamedCarries (one name) (answered.Misnamed place) = WrongAt name place
+NamedCarries (both old new) renames.Done = Unit {0}
+NamedCarries (both old new) (renames.Refused refused) = Alone refused
+NamedCarries (both old new) (renames.OldMisnamed place) = WrongAt old place
+NamedCarries (both old new) (renames.NewMisnamed place) = IsName old × WrongAt new place
+
+unfoldable pub LoadCarries : (name : List ℕ) → NamedAmount → Type 0
+LoadCarries name (loads.Given value) = Unit {0}
+LoadCarries name (loads.Refused refused) = Alone refused
+LoadCarries name (loads.Misnamed place) = WrongAt name place
+
+-- beside a refusal stands no row
+abbrev pub Carries : (form : Form) → Answered form → Type 0
+Carries number given = Unit {0}
+Carries answer given = given ≡ answers.Refused 0 → ⊥
+Carries amount given = given ≡ amounts.Refused 0 → ⊥
+Carries summary given = given ≡ summaries.Refused 0 → ⊥
+Carries row given = (given .answer ≡ answers.Refused 0 → ⊥) × ((given .answer ≡ answers.Done → ⊥) → given .row ≡ noRow)
+Carries (named names) given = NamedCarries names given
+Carries (loaded name) given = LoadCarries name given
 
 -- a call that leaves the image as it is; a name and numbers are any
 pub data Look : Form → Type 0 where
@@ -62,8 +119,8 @@ pub data Look : Form → Type 0 where
   freeCount : Look amount
   summarize : Look summary
   entry : (place : ℕ) → Look row
-  read : (name : List ℕ) (offset : ℕ) → Look answer
-  load : (name : List ℕ) → Look amount
+  read : (name : List ℕ) (offset : ℕ) → Look (named (one name))
+  load : (name : List ℕ) → Look (loaded name)
   list : Look amount
   pack : Look answer
 
@@ -84,11 +141,22 @@ pub data Call : Type 0 where
   change : (name : List ℕ) → Change → Call
   format : (n : ℕ) (name : List ℕ) (geometry : Geometry) → Call
 
+-- the names of a change
+abbrev pub namesOf : (name : List ℕ) → Change → Names
+namesOf name (create status recordLength recordsPerSector) = one name
+namesOf name (append bytes) = one name
+namesOf name (overwrite offset bytes) = one name
+namesOf name protect = one name
+namesOf name unprotect = one name
+namesOf name (store bytes) = one name
+namesOf name delete = one name
+namesOf name (rename new) = both name new
+
 -- what a call answers with
 abbrev pub formOf : Call → Form
 formOf (look {form} this buffer) = form
-formOf (change name this) = answer
-formOf (format n name geometry) = answer
+formOf (change name this) = named (namesOf name this)
+formOf (format n name geometry) = named (one name)
 
 -- the buffer lent to be filled, where there is one
 abbrev pub lent : Call → List ℕ

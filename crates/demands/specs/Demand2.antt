@@ -10,6 +10,7 @@ use Rattle.rules.specs.Sound.{Sound}
 use Rattle.rules.specs.Calls.Format.{Geometry}
 use Rattle.rules.specs.declared.Amount.{Amount}
 use Rattle.rules.specs.declared.Amount.the-variants as amount
+use Rattle.rules.specs.declared.NamedAmount.the-variants as loaded
 use Rattle.rules.specs.declared.Answer.the-variants as answer
 use Rattle.rules.specs.declared.Summary.{Summary}
 use Rattle.rules.specs.declared.Summary.the-variants as summary
@@ -20,7 +21,7 @@ use Rattle.demands.specs.Packing.{Packs}
 use Rattle.demands.specs.Formatting.{EmptyVolume, Formats}
 use Rattle.demands.specs.Catalogue.{named, fileOf, lengthIs, rowIs}
 use Rattle.demands.specs.Call as call
-use Rattle.demands.specs.Call.{Form, Look, Call, Result, Version, Plain, formOf, lent, numberOf, run}
+use Rattle.demands.specs.Call.{Form, Look, Call, Result, Version, Carries, formOf, lent, numberOf, run}
 use Rattle.demands.specs.Grounds.{First, grounds}
 
 -- the free count of a volume: n less the holders
@@ -55,7 +56,7 @@ Shows (call.entry place) buffer image r =
 Shows (call.read name offset) buffer image r = r .buffer ≡ splice buffer 0 (getD (named name (catalogue image) .contents) offset [])
 Shows (call.load name) buffer image r =
     let file = named name (catalogue image) in
-    (r .answer ≡ amount.Given (lengthIs file)) × (r .buffer ≡ splice buffer 0 (take (lengthIs file) (joined (file .contents))))
+    (r .answer ≡ loaded.Given (lengthIs file)) × (r .buffer ≡ splice buffer 0 (take (lengthIs file) (joined (file .contents))))
 Shows call.list buffer image r = Listed image buffer (r .answer) (r .buffer)
 Shows call.pack buffer image r = Sound (r .buffer) × Packs image (r .buffer)
 
@@ -72,8 +73,8 @@ Frame (call.change name change) image after = Kept image after name
 Frame (call.format n name geometry) image after = Unit {0}
 
 pub record Demand2 (version : Version) : Type 0 where
-  -- an answer is done or a refusal with its number alone
-  pub plain : (c : Call) (image : List ℕ) → Plain (formOf c) (version c image .answer)
+  -- what a refusal carries: its number; with 7, and with 7 alone, the place where the name is wrong, and of a rename which of its names that is; nothing else
+  pub carries : (c : Call) (image : List ℕ) → Carries (formOf c) (version c image .answer)
   -- the image and the buffer lent keep their lengths
   pub lengths : (c : Call) (image : List ℕ) → (length (version c image .image) ≡ length image) × (length (version c image .buffer) ≡ length (lent c))
   -- a number other than 0 leaves every buffer as it was, whatever the image
@@ -94,5 +95,5 @@ pub record Demand2 (version : Version) : Type 0 where
 unfoldable pub StoredLoads : Type 0
 StoredLoads = (version : Version) → Demand2 version → (name bytes buffer image : List ℕ) → Sound image → length bytes ≤ length buffer →
     let c = call.change name (call.store bytes) in
-    let loaded = version (call.look (call.load name) buffer) (version c image .image) in
-    numberOf version c image ≡ 0 → (loaded .answer ≡ amount.Given (length bytes)) × (loaded .buffer ≡ splice buffer 0 bytes)
+    let program = version (call.look (call.load name) buffer) (version c image .image) in
+    numberOf version c image ≡ 0 → (program .answer ≡ loaded.Given (length bytes)) × (program .buffer ≡ splice buffer 0 bytes)

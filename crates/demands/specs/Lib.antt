@@ -1,4 +1,5 @@
 -- What is shown of the rules: the words of the demands, the demands, and the versions that they shut out.
+pub mod Names
 pub mod Call
 pub mod Ours
 pub mod Catalogue

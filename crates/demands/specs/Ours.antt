@@ -5,7 +5,8 @@ use lib.ListN.{length}
 use Rattle.rules.specs.Bytes.{splice}
 use Rattle.rules.specs.Sectors.{written}
 use Rattle.rules.specs.Verdict.{verdict}
-use Rattle.rules.specs.Outcome.{Outcome, answerOf, amountOf}
+use Rattle.rules.specs.Name.{wrongPlace}
+use Rattle.rules.specs.Outcome.{Outcome, answerOf, amountOf, namedAnswerOf, namedAmountOf, renameAnswerOf}
 use Rattle.rules.specs.Calls.Format.{formatNumber, afterFormat}
 use Rattle.rules.specs.Calls.Summary.{freeCountOf, summaryOf, summaryAnswer}
 use Rattle.rules.specs.Calls.Entry.{entryOf, entryRow}
@@ -21,7 +22,12 @@ use Rattle.rules.specs.Calls.Delete.{deleteOf}
 use Rattle.rules.specs.Calls.Rename.{renameOf}
 use Rattle.rules.specs.Calls.Pack.{packNumber, afterPack}
 use Rattle.demands.specs.Call as call
-use Rattle.demands.specs.Call.{Form, Answered, Look, Change, Version}
+use Rattle.demands.specs.Call.{Names, Form, AnsweredTo, Answered, Look, Change, Version, namesOf}
+
+-- what a call that takes names answers with a number
+unfoldable pub answered : (names : Names) → ℕ → AnsweredTo names
+answered (call.one name) number = namedAnswerOf (wrongPlace name) number
+answered (call.both old new) number = renameAnswerOf (wrongPlace old) (wrongPlace new) number
 
 -- what a look gives: its answer, and the bytes that it puts at the front of the buffer; packing fills the whole of it
 pub record Seen (form : Form) : Type 0 where
@@ -38,8 +44,9 @@ seen call.summarize buffer image = putting (summaryAnswer image) (summaryOf imag
 seen (call.entry place) buffer image =
     putting (record { answer = answerOf (entryOf image place (length buffer) .number); row = entryRow image place (length buffer) }) (entryOf image place (length buffer) .bytes) buffer
 seen (call.read name offset) buffer image =
-    putting (answerOf (readOf image name offset (length buffer) .number)) (readOf image name offset (length buffer) .bytes) buffer
-seen (call.load name) buffer image = putting (amountOf (loadOf image name (length buffer))) (loadOf image name (length buffer) .bytes) buffer
+    putting (answered (call.one name) (readOf image name offset (length buffer) .number)) (readOf image name offset (length buffer) .bytes) buffer
+seen (call.load name) buffer image =
+    putting (namedAmountOf (wrongPlace name) (loadOf image name (length buffer))) (loadOf image name (length buffer) .bytes) buffer
 seen call.list buffer image = putting (amountOf (listingOf image (length buffer))) (listingOf image (length buffer) .bytes) buffer
 seen call.pack buffer image = record { answer = answerOf (packNumber image buffer); buffer = afterPack image buffer }
 
@@ -56,5 +63,5 @@ outcome (call.rename new) image name = renameOf image name new
 
 unfoldable pub ours : Version
 ours (call.look look buffer) image = record { answer = seen look buffer image .answer; buffer = seen look buffer image .buffer; image = image }
-ours (call.change name change) image = record { answer = answerOf (outcome change image name .number); buffer = []; image = written image (outcome change image name .writes) }
-ours (call.format n name geometry) image = record { answer = answerOf (formatNumber image n name); buffer = []; image = afterFormat image n name geometry }
+ours (call.change name change) image = record { answer = answered (namesOf name change) (outcome change image name .number); buffer = []; image = written image (outcome change image name .writes) }
+ours (call.format n name geometry) image = record { answer = answered (call.one name) (formatNumber image n name); buffer = []; image = afterFormat image n name geometry }

@@ -4,8 +4,9 @@ use mathlib.Core.Path.{_≡_}
 use mathlib.Core.List.{List, []}
 use Prim.Native.Nat.{ℕ}
 use lib.ListN.{length}
+use Rattle.rules.specs.Name.{wrongPlace}
 use Rattle.rules.specs.Verdict.{verdict}
-use Rattle.rules.specs.Outcome.{AnswerSays, AmountSays, Meets, Gives, ReadSays}
+use Rattle.rules.specs.Outcome.{AnswerSays, AmountSays, NamedSays, NamedAmountSays, RenameSays, ReadSays, Meets, Gives}
 use Rattle.rules.specs.Calls.Format.{formatNumber, afterFormat}
 use Rattle.rules.specs.Calls.Summary.{freeCountOf, summaryOf, SummarySays}
 use Rattle.rules.specs.Calls.Entry.{entryOf, entryRow, EntrySays}
@@ -14,7 +15,7 @@ use Rattle.rules.specs.Calls.Load.{loadOf}
 use Rattle.rules.specs.Calls.Listing.{listingOf}
 use Rattle.rules.specs.Calls.Pack.{packNumber, afterPack}
 use Rattle.demands.specs.Call as call
-use Rattle.demands.specs.Call.{Form, Answered, Look, Call, Result, Version, formOf}
+use Rattle.demands.specs.Call.{Names, Form, AnsweredTo, Answered, Look, Call, Result, Version, namesOf, formOf}
 use Rattle.demands.specs.Ours.{outcome, ours}
 use Rattle.demands.specs.Demand2.{Demand2}
 
@@ -25,17 +26,22 @@ LookPromised call.freeCount buffer image given after = AmountSays given (freeCou
 LookPromised call.summarize buffer image given after = Gives (SummarySays image) (summaryOf image) given buffer after
 LookPromised (call.entry place) buffer image given after =
     Gives (EntrySays (entryRow image place (length buffer))) (entryOf image place (length buffer)) given buffer after
-LookPromised (call.read name offset) buffer image given after = Gives ReadSays (readOf image name offset (length buffer)) given buffer after
-LookPromised (call.load name) buffer image given after = Gives AmountSays (loadOf image name (length buffer)) given buffer after
+LookPromised (call.read name offset) buffer image given after = Gives (ReadSays (wrongPlace name)) (readOf image name offset (length buffer)) given buffer after
+LookPromised (call.load name) buffer image given after = Gives (NamedAmountSays (wrongPlace name)) (loadOf image name (length buffer)) given buffer after
 LookPromised call.list buffer image given after = Gives AmountSays (listingOf image (length buffer)) given buffer after
 LookPromised call.pack buffer image given after = AnswerSays given (packNumber image buffer) × (after ≡ afterPack image buffer)
+
+-- what the answer of a call that takes names says
+unfoldable pub Says : (names : Names) → AnsweredTo names → ℕ → Type 0
+Says (call.one name) given number = NamedSays (wrongPlace name) given number
+Says (call.both old new) given number = RenameSays (wrongPlace old) (wrongPlace new) given number
 
 -- and of a call
 unfoldable pub Promised : (c : Call) → List ℕ → Result (formOf c) → Type 0
 Promised (call.look look buffer) image r = LookPromised look buffer image (r .answer) (r .buffer) × (r .image ≡ image)
-Promised (call.change name change) image r = Meets (outcome change image name) (r .answer) image (r .image) × (r .buffer ≡ [])
+Promised (call.change name change) image r = Meets (Says (namesOf name change)) (outcome change image name) (r .answer) image (r .image) × (r .buffer ≡ [])
 Promised (call.format n name geometry) image r =
-    AnswerSays (r .answer) (formatNumber image n name) × (r .image ≡ afterFormat image n name geometry) × (r .buffer ≡ [])
+    Says (call.one name) (r .answer) (formatNumber image n name) × (r .image ≡ afterFormat image n name geometry) × (r .buffer ≡ [])
 
 unfoldable pub IsOurs : Type 0
 IsOurs = (c : Call) (image : List ℕ) (r : Result (formOf c)) → Promised c image r → r ≡ ours c image

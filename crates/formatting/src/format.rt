@@ -3,13 +3,15 @@ ghost use mathlib.Core.Path.{_≡_};
 ghost use mathlib.Core.List.{[], _∷_, _++_};
 ghost use Prim.Native.Nat.{_*_, _≤_};
 ghost use lib.ListN.{length};
+ghost use Rattle.rules.specs.Name.{wrongPlace};
 ghost use Rattle.rules.specs.Map.{mapOf};
-ghost use Rattle.rules.specs.Outcome.{AnswerSays};
+ghost use Rattle.rules.specs.Outcome.{NamedSays};
 ghost use Rattle.rules.specs.Calls.Format.{newLabel, formatted, formatNumber, afterFormat};
 ghost use Rattle.formatting.specs.Geometry.{geometryOf};
-use descriptor::name::name_rule;
+use descriptor::name::wrong_place;
 use map::laid::lay_map;
-use rules::Answer;
+use rules::NamedAnswer;
+use rules::WrongPlace;
 use sector::buffer::fill;
 use sector::buffer::lay;
 
@@ -67,27 +69,30 @@ fn write_volume(image: &mut [u8], n: usize, name: &[u8], geometry: Geometry)
 }
 
 // Makes the image an empty volume of n sectors. Nothing of the image is read but its length: 1 where that is not n sectors,
-// n from 3 to 1,600, and 7 for a name that breaks the rule.
-pub fn format(image: &mut [u8], n: usize, name: &[u8], geometry: Geometry) -> Answer
-    ensures { λ r. ⌜ AnswerSays r (formatNumber (now (image .entry)) n (now (name .entry))) ⌝ }
+// n from 3 to 1,600, and 7 for a name that breaks the rule, with the place where it does.
+pub fn format(image: &mut [u8], n: usize, name: &[u8], geometry: Geometry) -> NamedAnswer
+    ensures { λ r. ⌜ NamedSays (wrongPlace (now (name .entry))) r (formatNumber (now (image .entry)) n (now (name .entry))) ⌝ }
     ensures { λ _. ⌜ now (image .exit) ≡ afterFormat (now (image .entry)) n (now (name .entry)) (geometryOf geometry) ⌝ }
 {
     if image.len() % 256 != 0 {
-        return Answer::Refused(1);
+        return NamedAnswer::Refused(1);
     }
     let sectors = image.len() / 256;
     if sectors < 3 {
-        return Answer::Refused(1);
+        return NamedAnswer::Refused(1);
     }
     if sectors > 1600 {
-        return Answer::Refused(1);
+        return NamedAnswer::Refused(1);
     }
     if n != sectors {
-        return Answer::Refused(1);
+        return NamedAnswer::Refused(1);
     }
-    if !name_rule(name) {
-        return Answer::Refused(7);
+    let wrong = wrong_place(name);
+    match wrong {
+        WrongPlace::At(place) => NamedAnswer::Misnamed(place),
+        WrongPlace::None => {
+            write_volume(image, n, name, geometry);
+            NamedAnswer::Done
+        }
     }
-    write_volume(image, n, name, geometry);
-    Answer::Done
 }

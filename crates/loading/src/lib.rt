@@ -4,17 +4,19 @@ ghost use mathlib.Core.Path.{_≡_};
 ghost use mathlib.Core.List.{map};
 ghost use Prim.Native.Nat.{_<_};
 ghost use lib.ListN.{length, take};
+ghost use Rattle.rules.specs.Name.{wrongPlace};
 ghost use Rattle.rules.specs.Bytes.{splice};
 ghost use Rattle.rules.specs.Sectors.{sectorOf, joined};
 ghost use Rattle.rules.specs.Chain.{places};
 ghost use Rattle.rules.specs.Calls.Load.{loading, loadOf};
-ghost use Rattle.rules.specs.Outcome.{AmountSays, Gives};
+ghost use Rattle.rules.specs.Outcome.{NamedAmountSays, Gives};
+ghost use Rattle.rules.specs.declared.WrongPlace.the-variants.{None};
 use descriptor::chain::Cursor;
 use descriptor::chain::Step;
 use descriptor::kind::kind_of;
 use opening::find;
-use rules::Amount;
 use rules::Kind;
+use rules::NamedAmount;
 use rules::Opened;
 use sector::buffer::lay;
 use sector::bytes::byte;
@@ -40,9 +42,9 @@ fn join(image: &[u8], chain: &[u8], size: usize, out: &mut [u8])
 }
 
 // Of the file whose descriptor is in sector k.
-fn load_at(image: &[u8], k: usize, out: &mut [u8]) -> Amount
+fn load_at(image: &[u8], k: usize, out: &mut [u8]) -> NamedAmount
     requires { ⌜ k < 65536 ⌝ }
-    ensures { λ r. ⌜ Gives AmountSays (loading (now (image .entry)) (length (now (out .entry))) k) r (now (out .entry)) (now (out .exit)) ⌝ }
+    ensures { λ r. ⌜ Gives (NamedAmountSays None) (loading (now (image .entry)) (length (now (out .entry))) k) r (now (out .entry)) (now (out .exit)) ⌝ }
 {
     let descriptor = sector_of(image, k);
     let kind = kind_of(
@@ -54,29 +56,30 @@ fn load_at(image: &[u8], k: usize, out: &mut [u8]) -> Amount
     match kind {
         Kind::Program { length } => {
             if out.len() < length {
-                return Amount::Refused(15);
+                return NamedAmount::Refused(15);
             }
             join(image, part(descriptor, 28, 228), length, out);
-            Amount::Given(length)
+            NamedAmount::Given(length)
         }
         Kind::Fixed {
             record_length: _,
             internal: _,
-        } => Amount::Refused(14),
+        } => NamedAmount::Refused(14),
         Kind::Variable {
             record_length: _,
             internal: _,
-        } => Amount::Refused(14),
+        } => NamedAmount::Refused(14),
     }
 }
 
-pub fn load(image: &[u8], name: &[u8], out: &mut [u8]) -> Amount
-    ensures { λ r. ⌜ Gives AmountSays (loadOf (now (image .entry)) (now (name .entry)) (length (now (out .entry)))) r (now (out .entry)) (now (out .exit)) ⌝ }
+pub fn load(image: &[u8], name: &[u8], out: &mut [u8]) -> NamedAmount
+    ensures { λ r. ⌜ Gives (NamedAmountSays (wrongPlace (now (name .entry)))) (loadOf (now (image .entry)) (now (name .entry)) (length (now (out .entry)))) r (now (out .entry)) (now (out .exit)) ⌝ }
 {
     let opened = find(image, name);
     match opened {
-        Opened::Refused(number) => Amount::Refused(number),
-        Opened::Absent => Amount::Refused(8),
+        Opened::Refused(number) => NamedAmount::Refused(number),
+        Opened::Misnamed(place) => NamedAmount::Misnamed(place),
+        Opened::Absent => NamedAmount::Refused(8),
         Opened::At(_, k) => load_at(image, k, out),
     }
 }

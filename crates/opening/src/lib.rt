@@ -1,9 +1,10 @@
-// The one opener of all calls that name a file: at a place, absent, or refused with a number from 1 to 7.
+// The one opener of all calls that name a file: at a place, absent, or refused with a number from 1 to 7, and with 7 where the name is wrong.
 ghost use mathlib.Core.Path.{_≡_};
 ghost use Rattle.rules.specs.Volume.{files};
 ghost use Rattle.rules.specs.Opening.{findIn, openOf};
-use descriptor::name::name_rule;
+use descriptor::name::wrong_place;
 use rules::Opened;
+use rules::WrongPlace;
 use sector::bytes::part;
 use sector::bytes::same;
 use sector::bytes::sector_of;
@@ -29,7 +30,7 @@ pub fn find_in(image: &[u8], name: &[u8]) -> Opened
     }
 }
 
-// The file of that name in a sound volume, or the number 1 to 7 that is due.
+// The file of that name in a sound volume, or the number 1 to 6 that is due, or where the name is wrong.
 pub fn find(image: &[u8], name: &[u8]) -> Opened
     ensures { λ r. ⌜ r ≡ openOf (now (image .entry)) (now (name .entry)) ⌝ }
 {
@@ -37,8 +38,9 @@ pub fn find(image: &[u8], name: &[u8]) -> Opened
     if number != 0 {
         return Opened::Refused(number);
     }
-    if !name_rule(name) {
-        return Opened::Refused(7);
+    let wrong = wrong_place(name);
+    match wrong {
+        WrongPlace::At(place) => Opened::Misnamed(place),
+        WrongPlace::None => find_in(image, name),
     }
-    find_in(image, name)
 }

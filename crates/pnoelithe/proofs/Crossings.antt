@@ -1,35 +1,44 @@
--- What a call answered, and what C is given of it.
-use mathlib.Core.Path.{_≡_, sym, _∙_}
+-- What a call answered, and what C is given of it: the number and the bytes; and what stands behind a pointer, case by case of the answer.
+use mathlib.Core.Path.{_≡_, refl, sym, _∙_}
 use mathlib.Core.List.{List}
 use Prim.Native.Nat.{ℕ}
-use Rattle.rules.specs.Outcome.{Report, Outcome, AnswerSays, AmountSays, Meets, Gives, behind, ReadSays}
-use Rattle.rules.specs.declared.Amount.{Amount}
-use Rattle.rules.specs.declared.Amount.the-variants.{Given, Refused}
-use Rattle.rules.specs.declared.Answer.{Answer}
-use Rattle.rules.specs.declared.Answer.the-variants as answer
-use Rattle.rules.proofs.Outcome.{behind-given, behind-kept}
-use Rattle.pnoelithe.specs.Crossing.{answerNumber, amountNumber, amountBehind, Crosses, ReportCrosses, AmountCrosses}
+use borrow.Author.Tests.{ne-eqb}
+use Rattle.rules.specs.Outcome.{Report, Outcome, Bare, Meets, Gives, behind}
+use Rattle.rules.specs.declared.WrongPlace.{WrongPlace}
+use Rattle.rules.specs.declared.WrongPlace.the-variants.{At}
+use Rattle.rules.proofs.Outcome.{wrong-there, behind-given, behind-kept}
+use Rattle.pnoelithe.specs.Crossing.{behindSeven, placeBehind, Crosses, ReportCrosses, AmountCrosses}
 
--- an answer's number is the one that it says
-pub answer-crossing : (given : Answer) (number r : ℕ) → r ≡ answerNumber given → AnswerSays given number → r ≡ number
-unfolding answerNumber AnswerSays
-answer-crossing answer.Done number r n said = n ∙ sym said
-answer-crossing (answer.Refused refused) number r n said = n ∙ said .0
+-- where the answer crosses as the number that it says, the call does; and what stands behind the pointers afterwards is handed on
+pub writing-crosses : {Given : Type 0} (Says : Given → ℕ → Type 0) (Behind : Type 0) (outcome : Outcome) (given : Given) (r : ℕ) (before after : List ℕ)
+    → (Says given (outcome .number) → (r ≡ outcome .number) × Behind) → Meets Says outcome given before after → Crosses outcome r before after × Behind
+writing-crosses Says Behind outcome given r before after crossing meets =
+    let crossed = crossing (meets .said) in
+    (record { returned = crossed .0; left = meets .left }, crossed .1)
 
-pub writing-crosses : (outcome : Outcome) (given : Answer) (r : ℕ) (before after : List ℕ) → r ≡ answerNumber given → Meets outcome given before after → Crosses outcome r before after
-writing-crosses outcome given r before after n meets = record { returned = answer-crossing given (outcome .number) r n (meets .said); left = meets .left }
-
-pub reading-crosses : (report : Report) (given : Answer) (r : ℕ) (before after : List ℕ) → r ≡ answerNumber given → Gives ReadSays report given before after → ReportCrosses report r before after
-reading-crosses report given r before after n gives = record { returned = answer-crossing given (report .number) r n (gives .said); left = gives .left }
+pub reading-crosses : {Given : Type 0} (Says : Given → Report → Type 0) (Behind : Type 0) (report : Report) (given : Given) (r : ℕ) (before after : List ℕ)
+    → (Says given report → (r ≡ report .number) × Behind) → Gives Says report given before after → ReportCrosses report r before after × Behind
+reading-crosses Says Behind report given r before after crossing gives =
+    let crossed = crossing (gives .said) in
+    (record { returned = crossed .0; left = gives .left }, crossed .1)
 
 -- an amount: its number, and its value behind the pointer
-pub amount-crosses : (report : Report) (amount : Amount) (r before after : ℕ) → AmountSays amount report → r ≡ amountNumber amount → after ≡ amountBehind amount before → AmountCrosses report r before after
-unfolding AmountSays amountNumber amountBehind
-amount-crosses report (Given value) r before after said n b =
-    record { returned = n ∙ sym (said .0); value = b ∙ said .1 ∙ sym (behind-given r (report .value) before n) }
-amount-crosses report (Refused refused) r before after said n b =
-    record { returned = n ∙ said .0; value = b ∙ sym (behind-kept r (report .value) before (λ z. said .1 (sym (said .0) ∙ sym n ∙ z))) }
+pub given-crosses : (report : Report) (value before : ℕ) → (report .number ≡ 0) × (value ≡ report .value) → AmountCrosses report 0 before value
+given-crosses report value before said = record { returned = sym (said .0); value = said .1 ∙ sym (behind-given 0 (report .value) before refl) }
 
 -- behind a pointer stands what stood there, after a refusal
 pub refused-kept : (refused number value before : ℕ) → (refused ≡ number) × (number ≡ 0 → ⊥) → before ≡ behind refused value before
 refused-kept refused number value before said = sym (behind-kept refused value before (λ z. said .1 (sym (said .0) ∙ z)))
+
+pub refused-crosses : (report : Report) (refused before : ℕ) → (refused ≡ report .number) × (report .number ≡ 0 → ⊥) → AmountCrosses report refused before before
+refused-crosses report refused before said = record { returned = said .0; value = refused-kept refused (report .number) (report .value) before said }
+
+-- and what is given with number 7, unless that is the number
+pub bare-kept : (refused number value before : ℕ) → Bare refused number → before ≡ behindSeven refused value before
+unfolding behindSeven
+bare-kept refused number value before said = rw (ne-eqb refused 7 (λ z. said .2 (sym (said .0) ∙ z)))
+
+-- with 7 the place
+pub place-behind : (wrong : WrongPlace) (place before : ℕ) → wrong ≡ At place → place ≡ placeBehind 7 wrong before
+unfolding behindSeven
+place-behind wrong place before there = sym (wrong-there wrong (λ (found : ℕ). found) before place there)

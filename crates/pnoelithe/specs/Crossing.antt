@@ -3,13 +3,12 @@ use mathlib.Core.Path.{_≡_}
 use mathlib.Core.Bool.{Bool, true, false, cond}
 use mathlib.Core.List.{List}
 use Prim.Native.Nat.{ℕ}
+use lib.Dec.{eqb}
 use Rattle.rules.specs.Bytes.{splice}
 use Rattle.rules.specs.Sectors.{written}
-use Rattle.rules.specs.Outcome.{Report, Outcome, behind}
-use Rattle.rules.specs.declared.Answer.{Answer}
-use Rattle.rules.specs.declared.Answer.the-variants as answer
-use Rattle.rules.specs.declared.Amount.{Amount}
-use Rattle.rules.specs.declared.Amount.the-variants.{Given, Refused}
+use Rattle.rules.specs.Outcome.{Report, Outcome, ifWrong, behind}
+use Rattle.rules.specs.declared.WrongPlace.{WrongPlace}
+use Rattle.rules.specs.declared.WrongPlace.the-variants.{At}
 use Rattle.rules.specs.declared.Kind.{Kind}
 use Rattle.rules.specs.declared.Kind.the-variants.{Program, Fixed, Variable}
 
@@ -23,19 +22,21 @@ unfoldable pub flag : Bool → ℕ
 flag true = 1
 flag false = 0
 
--- the number of an answer, and of an amount
-unfoldable pub answerNumber : Answer → ℕ
-answerNumber answer.Done = 0
-answerNumber (answer.Refused number) = number
+-- what is given with number 7 stands behind its pointer afterwards, and with any other number what stood there
+unfoldable pub behindSeven : ℕ → ℕ → ℕ → ℕ
+behindSeven number value before = cond (eqb number 7) value before
 
-unfoldable pub amountNumber : Amount → ℕ
-amountNumber (Given value) = 0
-amountNumber (Refused number) = number
+-- behind `wrong` that is the place where the name is wrong
+abbrev pub placeBehind : ℕ → WrongPlace → ℕ → ℕ
+placeBehind number wrong before = behindSeven number (ifWrong wrong (λ place. place) before) before
 
--- an amount behind its pointer: after a refusal what stood there
-unfoldable pub amountBehind : Amount → ℕ → ℕ
-amountBehind (Given value) before = value
-amountBehind (Refused number) before = before
+-- of a rename: the old name's place where it is wrong, else the new one's
+unfoldable pub firstWrong : WrongPlace → WrongPlace → WrongPlace
+firstWrong old new = ifWrong old At new
+
+-- and behind `which` 0 where the old name is wrong, else 1
+abbrev pub whichBehind : ℕ → WrongPlace → ℕ → ℕ
+whichBehind number old before = behindSeven number (ifWrong old (λ place. 0) 1) before
 
 -- a call that writes: the number that it returns, and the image before and after
 pub record Crosses (outcome : Outcome) (number : ℕ) (before after : List ℕ) : Type 0 where

@@ -1,8 +1,10 @@
 // The C interface, documented in include/pnoelithe.h: thin functions over the calls, each with the promise of the call below it.
-// Each gives its number, 0 where it was done; what a call gives beside it is written behind the pointers lent for it, with number 0 only.
+// Each gives its number, 0 where it was done; what a call gives beside it is written behind the pointers lent for it: with number 0 its
+// values, with 7 where a name is wrong, and with any other nothing.
 ghost use mathlib.Core.Path.{_≡_};
 ghost use lib.ListN.{length};
 ghost use Rattle.rules.specs.Sectors.{sectorOf, sectorCount};
+ghost use Rattle.rules.specs.Name.{wrongPlace};
 ghost use Rattle.rules.specs.Descriptor.{statusOf, sectorsOf, fileKind};
 ghost use Rattle.rules.specs.Map.{freeCount};
 ghost use Rattle.rules.specs.Volume.{files};
@@ -24,7 +26,7 @@ ghost use Rattle.rules.specs.Calls.Store.{storeOf};
 ghost use Rattle.rules.specs.Calls.Delete.{deleteOf};
 ghost use Rattle.rules.specs.Calls.Rename.{renameOf};
 ghost use Rattle.rules.specs.Calls.Pack.{packNumber, afterPack};
-ghost use Rattle.pnoelithe.specs.Crossing.{kindNumber, flag, Crosses, ReportCrosses, AmountCrosses};
+ghost use Rattle.pnoelithe.specs.Crossing.{kindNumber, flag, placeBehind, firstWrong, whichBehind, Crosses, ReportCrosses, AmountCrosses};
 
 mod crossing;
 
@@ -32,6 +34,9 @@ use crossing::amount_number;
 use crossing::answer_number;
 use crossing::flag_of;
 use crossing::kind_number;
+use crossing::named_amount_number;
+use crossing::named_number;
+use crossing::rename_number;
 use descriptor::kind::kind_length;
 use formatting::format::Geometry;
 use rules::Answer;
@@ -55,8 +60,10 @@ pub extern "C" fn pno_format(
     tracks: u8,
     sides: u8,
     density: u8,
+    wrong: &mut usize,
 ) -> u32
-    ensures { λ r. ⌜ (r ≡ formatNumber (now (image .entry)) n (now (name .entry))) × (now (image .exit) ≡ afterFormat (now (image .entry)) n (now (name .entry)) (record { sectorsPerTrack = «sectors_per_track»; tracks = tracks; sides = sides; density = density })) ⌝ }
+    ensures image { λ r. ⌜ (r ≡ formatNumber (now (image .entry)) n (now (name .entry))) × (now (image .exit) ≡ afterFormat (now (image .entry)) n (now (name .entry)) (record { sectorsPerTrack = «sectors_per_track»; tracks = tracks; sides = sides; density = density })) ⌝ }
+    ensures wrong { λ r. ⌜ now (wrong .exit) ≡ placeBehind r (wrongPlace (now (name .entry))) (now (wrong .entry)) ⌝ }
 {
     let geometry = Geometry {
         sectors_per_track,
@@ -64,7 +71,7 @@ pub extern "C" fn pno_format(
         sides,
         density,
     };
-    answer_number(formatting::format::format(image, n, name, geometry))
+    named_number(formatting::format::format(image, n, name, geometry), wrong)
 }
 
 // The number of free sectors.
@@ -140,19 +147,33 @@ pub extern "C" fn pno_entry(
 
 // A sector of a file.
 #[no_mangle]
-pub extern "C" fn pno_read(image: &[u8], name: &[u8], offset: usize, out: &mut [u8]) -> u32
-    ensures { λ r. ⌜ ReportCrosses (readOf (now (image .entry)) (now (name .entry)) offset (length (now (out .entry)))) r (now (out .entry)) (now (out .exit)) ⌝ }
+pub extern "C" fn pno_read(
+    image: &[u8],
+    name: &[u8],
+    offset: usize,
+    out: &mut [u8],
+    wrong: &mut usize,
+) -> u32
+    ensures bytes { λ r. ⌜ ReportCrosses (readOf (now (image .entry)) (now (name .entry)) offset (length (now (out .entry)))) r (now (out .entry)) (now (out .exit)) ⌝ }
+    ensures wrong { λ r. ⌜ now (wrong .exit) ≡ placeBehind r (wrongPlace (now (name .entry))) (now (wrong .entry)) ⌝ }
 {
-    answer_number(reading::read(image, name, offset, out))
+    named_number(reading::read(image, name, offset, out), wrong)
 }
 
 // A program's bytes and their number.
 #[no_mangle]
-pub extern "C" fn pno_load(image: &[u8], name: &[u8], out: &mut [u8], size: &mut usize) -> u32
+pub extern "C" fn pno_load(
+    image: &[u8],
+    name: &[u8],
+    out: &mut [u8],
+    size: &mut usize,
+    wrong: &mut usize,
+) -> u32
     ensures bytes { λ r. ⌜ ReportCrosses (loadOf (now (image .entry)) (now (name .entry)) (length (now (out .entry)))) r (now (out .entry)) (now (out .exit)) ⌝ }
     ensures size { λ r. ⌜ AmountCrosses (loadOf (now (image .entry)) (now (name .entry)) (length (now (out .entry)))) r (now (size .entry)) (now (size .exit)) ⌝ }
+    ensures wrong { λ r. ⌜ now (wrong .exit) ≡ placeBehind r (wrongPlace (now (name .entry))) (now (wrong .entry)) ⌝ }
 {
-    amount_number(loading::load(image, name, out), size)
+    named_amount_number(loading::load(image, name, out), size, wrong)
 }
 
 // The catalogue program's text and its length.
@@ -172,66 +193,91 @@ pub extern "C" fn pno_create(
     status: u8,
     record_length: u8,
     records_per_sector: u8,
+    wrong: &mut usize,
 ) -> u32
-    ensures { λ r. ⌜ Crosses (createOf (now (image .entry)) (now (name .entry)) status «record_length» «records_per_sector») r (now (image .entry)) (now (image .exit)) ⌝ }
+    ensures image { λ r. ⌜ Crosses (createOf (now (image .entry)) (now (name .entry)) status «record_length» «records_per_sector») r (now (image .entry)) (now (image .exit)) ⌝ }
+    ensures wrong { λ r. ⌜ now (wrong .exit) ≡ placeBehind r (wrongPlace (now (name .entry))) (now (wrong .entry)) ⌝ }
 {
-    answer_number(creating::create(image, name, status, record_length, records_per_sector))
+    named_number(
+        creating::create(image, name, status, record_length, records_per_sector),
+        wrong,
+    )
 }
 
 // One sector more of a file.
 #[no_mangle]
-pub extern "C" fn pno_append(image: &mut [u8], name: &[u8], bytes: &[u8]) -> u32
-    ensures { λ r. ⌜ Crosses (appendOf (now (image .entry)) (now (name .entry)) (now (bytes .entry))) r (now (image .entry)) (now (image .exit)) ⌝ }
+pub extern "C" fn pno_append(image: &mut [u8], name: &[u8], bytes: &[u8], wrong: &mut usize) -> u32
+    ensures image { λ r. ⌜ Crosses (appendOf (now (image .entry)) (now (name .entry)) (now (bytes .entry))) r (now (image .entry)) (now (image .exit)) ⌝ }
+    ensures wrong { λ r. ⌜ now (wrong .exit) ≡ placeBehind r (wrongPlace (now (name .entry))) (now (wrong .entry)) ⌝ }
 {
-    answer_number(appending::append(image, name, bytes))
+    named_number(appending::append(image, name, bytes), wrong)
 }
 
 // Another 256 bytes in a sector of a file.
 #[no_mangle]
-pub extern "C" fn pno_overwrite(image: &mut [u8], name: &[u8], offset: usize, bytes: &[u8]) -> u32
-    ensures { λ r. ⌜ Crosses (overwriteOf (now (image .entry)) (now (name .entry)) offset (now (bytes .entry))) r (now (image .entry)) (now (image .exit)) ⌝ }
+pub extern "C" fn pno_overwrite(
+    image: &mut [u8],
+    name: &[u8],
+    offset: usize,
+    bytes: &[u8],
+    wrong: &mut usize,
+) -> u32
+    ensures image { λ r. ⌜ Crosses (overwriteOf (now (image .entry)) (now (name .entry)) offset (now (bytes .entry))) r (now (image .entry)) (now (image .exit)) ⌝ }
+    ensures wrong { λ r. ⌜ now (wrong .exit) ≡ placeBehind r (wrongPlace (now (name .entry))) (now (wrong .entry)) ⌝ }
 {
-    answer_number(overwriting::overwrite(image, name, offset, bytes))
+    named_number(overwriting::overwrite(image, name, offset, bytes), wrong)
 }
 
 // The protection of a file.
 #[no_mangle]
-pub extern "C" fn pno_protect(image: &mut [u8], name: &[u8]) -> u32
-    ensures { λ r. ⌜ Crosses (protectOf (now (image .entry)) (now (name .entry))) r (now (image .entry)) (now (image .exit)) ⌝ }
+pub extern "C" fn pno_protect(image: &mut [u8], name: &[u8], wrong: &mut usize) -> u32
+    ensures image { λ r. ⌜ Crosses (protectOf (now (image .entry)) (now (name .entry))) r (now (image .entry)) (now (image .exit)) ⌝ }
+    ensures wrong { λ r. ⌜ now (wrong .exit) ≡ placeBehind r (wrongPlace (now (name .entry))) (now (wrong .entry)) ⌝ }
 {
-    answer_number(protecting::protect(image, name))
+    named_number(protecting::protect(image, name), wrong)
 }
 
 // And its end.
 #[no_mangle]
-pub extern "C" fn pno_unprotect(image: &mut [u8], name: &[u8]) -> u32
-    ensures { λ r. ⌜ Crosses (unprotectOf (now (image .entry)) (now (name .entry))) r (now (image .entry)) (now (image .exit)) ⌝ }
+pub extern "C" fn pno_unprotect(image: &mut [u8], name: &[u8], wrong: &mut usize) -> u32
+    ensures image { λ r. ⌜ Crosses (unprotectOf (now (image .entry)) (now (name .entry))) r (now (image .entry)) (now (image .exit)) ⌝ }
+    ensures wrong { λ r. ⌜ now (wrong .exit) ≡ placeBehind r (wrongPlace (now (name .entry))) (now (wrong .entry)) ⌝ }
 {
-    answer_number(protecting::unprotect(image, name))
+    named_number(protecting::unprotect(image, name), wrong)
 }
 
 // A program, of these bytes.
 #[no_mangle]
-pub extern "C" fn pno_store(image: &mut [u8], name: &[u8], bytes: &[u8]) -> u32
-    ensures { λ r. ⌜ Crosses (storeOf (now (image .entry)) (now (name .entry)) (now (bytes .entry))) r (now (image .entry)) (now (image .exit)) ⌝ }
+pub extern "C" fn pno_store(image: &mut [u8], name: &[u8], bytes: &[u8], wrong: &mut usize) -> u32
+    ensures image { λ r. ⌜ Crosses (storeOf (now (image .entry)) (now (name .entry)) (now (bytes .entry))) r (now (image .entry)) (now (image .exit)) ⌝ }
+    ensures wrong { λ r. ⌜ now (wrong .exit) ≡ placeBehind r (wrongPlace (now (name .entry))) (now (wrong .entry)) ⌝ }
 {
-    answer_number(storing::store(image, name, bytes))
+    named_number(storing::store(image, name, bytes), wrong)
 }
 
 // A file less.
 #[no_mangle]
-pub extern "C" fn pno_delete(image: &mut [u8], name: &[u8]) -> u32
-    ensures { λ r. ⌜ Crosses (deleteOf (now (image .entry)) (now (name .entry))) r (now (image .entry)) (now (image .exit)) ⌝ }
+pub extern "C" fn pno_delete(image: &mut [u8], name: &[u8], wrong: &mut usize) -> u32
+    ensures image { λ r. ⌜ Crosses (deleteOf (now (image .entry)) (now (name .entry))) r (now (image .entry)) (now (image .exit)) ⌝ }
+    ensures wrong { λ r. ⌜ now (wrong .exit) ≡ placeBehind r (wrongPlace (now (name .entry))) (now (wrong .entry)) ⌝ }
 {
-    answer_number(deleting::delete(image, name))
+    named_number(deleting::delete(image, name), wrong)
 }
 
 // A file under another name.
 #[no_mangle]
-pub extern "C" fn pno_rename(image: &mut [u8], old: &[u8], new: &[u8]) -> u32
-    ensures { λ r. ⌜ Crosses (renameOf (now (image .entry)) (now (old .entry)) (now (new .entry))) r (now (image .entry)) (now (image .exit)) ⌝ }
+pub extern "C" fn pno_rename(
+    image: &mut [u8],
+    old: &[u8],
+    new: &[u8],
+    which: &mut usize,
+    wrong: &mut usize,
+) -> u32
+    ensures image { λ r. ⌜ Crosses (renameOf (now (image .entry)) (now (old .entry)) (now (new .entry))) r (now (image .entry)) (now (image .exit)) ⌝ }
+    ensures which { λ r. ⌜ now (which .exit) ≡ whichBehind r (wrongPlace (now (old .entry))) (now (which .entry)) ⌝ }
+    ensures wrong { λ r. ⌜ now (wrong .exit) ≡ placeBehind r (firstWrong (wrongPlace (now (old .entry))) (wrongPlace (now (new .entry)))) (now (wrong .entry)) ⌝ }
 {
-    answer_number(renaming::rename(image, old, new))
+    rename_number(renaming::rename(image, old, new), which, wrong)
 }
 
 // The packed form of the source, in the target.

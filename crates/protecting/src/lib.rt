@@ -1,38 +1,40 @@
 // Protecting and unprotecting: the 08 bit of a file's status, set where it stands, in byte 12 of the descriptor. Each call takes any image and
 // any arguments, answers with its number, and leaves the image with the writes of the rules' definition laid over it; a refusal has none.
 ghost use Prim.Native.Nat.{_<_};
-ghost use Rattle.rules.specs.Outcome.{Meets};
+ghost use Rattle.rules.specs.Name.{wrongPlace};
+ghost use Rattle.rules.specs.Outcome.{NamedSays, Meets};
 ghost use Rattle.rules.specs.Calls.Protect.{setBitOf, protectOf, unprotectOf};
 use map::bits::with_bit;
 use opening::find;
-use rules::Answer;
+use rules::NamedAnswer;
 use rules::Opened;
 
 // Bit j of the status made `bit`.
-fn set_bit(image: &mut [u8], name: &[u8], j: usize, bit: u8) -> Answer
+fn set_bit(image: &mut [u8], name: &[u8], j: usize, bit: u8) -> NamedAnswer
     requires { ⌜ (j < 8) × (bit < 2) ⌝ }
-    ensures { λ r. ⌜ Meets (setBitOf j bit (now (image .entry)) (now (name .entry))) r (now (image .entry)) (now (image .exit)) ⌝ }
+    ensures { λ r. ⌜ Meets (NamedSays (wrongPlace (now (name .entry)))) (setBitOf j bit (now (image .entry)) (now (name .entry))) r (now (image .entry)) (now (image .exit)) ⌝ }
 {
     let opened = find(image, name);
     match opened {
-        Opened::Refused(number) => Answer::Refused(number),
-        Opened::Absent => Answer::Refused(8),
+        Opened::Refused(number) => NamedAnswer::Refused(number),
+        Opened::Misnamed(place) => NamedAnswer::Misnamed(place),
+        Opened::Absent => NamedAnswer::Refused(8),
         Opened::At(_, k) => {
             let at = 256 * k + 12;
             image[at] = with_bit(image[at], j, bit);
-            Answer::Done
+            NamedAnswer::Done
         }
     }
 }
 
-pub fn protect(image: &mut [u8], name: &[u8]) -> Answer
-    ensures { λ r. ⌜ Meets (protectOf (now (image .entry)) (now (name .entry))) r (now (image .entry)) (now (image .exit)) ⌝ }
+pub fn protect(image: &mut [u8], name: &[u8]) -> NamedAnswer
+    ensures { λ r. ⌜ Meets (NamedSays (wrongPlace (now (name .entry)))) (protectOf (now (image .entry)) (now (name .entry))) r (now (image .entry)) (now (image .exit)) ⌝ }
 {
     set_bit(image, name, 3, 1)
 }
 
-pub fn unprotect(image: &mut [u8], name: &[u8]) -> Answer
-    ensures { λ r. ⌜ Meets (unprotectOf (now (image .entry)) (now (name .entry))) r (now (image .entry)) (now (image .exit)) ⌝ }
+pub fn unprotect(image: &mut [u8], name: &[u8]) -> NamedAnswer
+    ensures { λ r. ⌜ Meets (NamedSays (wrongPlace (now (name .entry)))) (unprotectOf (now (image .entry)) (now (name .entry))) r (now (image .entry)) (now (image .exit)) ⌝ }
 {
     set_bit(image, name, 3, 0)
 }

@@ -3,18 +3,20 @@
 ghost use mathlib.Core.Path.{_≡_};
 ghost use mathlib.Core.Bool.{true};
 ghost use lib.ListN.{replicate};
-ghost use Rattle.rules.specs.Name.{nameRule};
+ghost use Rattle.rules.specs.Name.{nameRule, wrongPlace};
 ghost use Rattle.rules.specs.Index.{indexOf, without};
 ghost use Rattle.rules.specs.Volume.{files, placed};
 ghost use Rattle.rules.specs.Sound.{IsFile};
-ghost use Rattle.rules.specs.Outcome.{Meets};
+ghost use Rattle.rules.specs.Outcome.{RenameSays, Meets};
 ghost use Rattle.rules.specs.Calls.Rename.{renaming, renameOf};
-use descriptor::name::name_rule;
+ghost use Rattle.rules.specs.declared.WrongPlace.the-variants.{None};
+use descriptor::name::wrong_place;
 use index::index_with;
 use index::index_without;
 use opening::find_in;
-use rules::Answer;
 use rules::Opened;
+use rules::RenameAnswer;
+use rules::WrongPlace;
 use sector::buffer::lay;
 use sector::buffer::write_sector;
 use sector::bytes::byte;
@@ -31,45 +33,39 @@ fn moved(index: &mut [u8; 256], image: &[u8], k: usize, new: &[u8])
 }
 
 // Of the file whose descriptor is in sector k.
-fn rename_at(image: &mut [u8], k: usize, new: &[u8]) -> Answer
+fn rename_at(image: &mut [u8], k: usize, new: &[u8]) -> RenameAnswer
     requires { ⌜ IsFile (now image) k × (nameRule (now new) ≡ true) ⌝ }
-    ensures { λ r. ⌜ Meets (renaming (now (image .entry)) (now (new .entry)) k) r (now (image .entry)) (now (image .exit)) ⌝ }
+    ensures { λ r. ⌜ Meets (RenameSays None None) (renaming (now (image .entry)) (now (new .entry)) k) r (now (image .entry)) (now (image .exit)) ⌝ }
 {
-    let present = find_in(image, new);
-    match present {
-        Opened::Refused(number) => Answer::Refused(number),
-        Opened::At(_, _) => Answer::Refused(9),
-        Opened::Absent => {
-            if byte(sector_of(image, k), 12) / 8 % 2 == 1 {
-                return Answer::Refused(10);
-            }
-            let mut index = [0u8; 256];
-            moved(&mut index, image, k, new);
-            // The name is the front of the descriptor; the rest of that sector stays.
-            lay(image, 256 * k, new);
-            write_sector(image, 1, &index);
-            Answer::Done
-        }
+    if let Opened::At(_, _) = find_in(image, new) {
+        return RenameAnswer::Refused(9);
     }
+    if byte(sector_of(image, k), 12) / 8 % 2 == 1 {
+        return RenameAnswer::Refused(10);
+    }
+    let mut index = [0u8; 256];
+    moved(&mut index, image, k, new);
+    // The name is the front of the descriptor; the rest of that sector stays.
+    lay(image, 256 * k, new);
+    write_sector(image, 1, &index);
+    RenameAnswer::Done
 }
 
-pub fn rename(image: &mut [u8], old: &[u8], new: &[u8]) -> Answer
-    ensures { λ r. ⌜ Meets (renameOf (now (image .entry)) (now (old .entry)) (now (new .entry))) r (now (image .entry)) (now (image .exit)) ⌝ }
+pub fn rename(image: &mut [u8], old: &[u8], new: &[u8]) -> RenameAnswer
+    ensures { λ r. ⌜ Meets (RenameSays (wrongPlace (now (old .entry))) (wrongPlace (now (new .entry)))) (renameOf (now (image .entry)) (now (old .entry)) (now (new .entry))) r (now (image .entry)) (now (image .exit)) ⌝ }
 {
     let number = judge::judge(image);
     if number != 0 {
-        return Answer::Refused(number);
+        return RenameAnswer::Refused(number);
     }
-    if !name_rule(old) {
-        return Answer::Refused(7);
+    if let WrongPlace::At(place) = wrong_place(old) {
+        return RenameAnswer::OldMisnamed(place);
     }
-    if !name_rule(new) {
-        return Answer::Refused(7);
+    if let WrongPlace::At(place) = wrong_place(new) {
+        return RenameAnswer::NewMisnamed(place);
     }
-    let opened = find_in(image, old);
-    match opened {
-        Opened::Refused(number) => Answer::Refused(number),
-        Opened::Absent => Answer::Refused(8),
-        Opened::At(_, k) => rename_at(image, k, new),
-    }
+    let Opened::At(_, k) = find_in(image, old) else {
+        return RenameAnswer::Refused(8);
+    };
+    rename_at(image, k, new)
 }

@@ -1,4 +1,4 @@
--- The laws of the definitions, a file for each file of specs/ and in its order (Status and Length have those of Kind), and beside it what is built on it: Replaced, of the image after a change, and
+-- The laws of the definitions, a file for each file of specs/ and in its order (Misnamed has those of a wrong name, Status and Length those of Kind), and beside it what is built on it: Replaced, of the image after a change, and
 -- Altered, Longer, Listed, which lead there.
 pub mod Tests
 pub mod Bytes
@@ -6,6 +6,7 @@ pub mod Splice
 pub mod Pieces
 pub mod Sectors
 pub mod Name
+pub mod Misnamed
 pub mod Label
 pub mod Map
 pub mod Chain

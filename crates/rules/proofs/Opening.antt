@@ -1,37 +1,38 @@
 -- Openings: a file that a call names, a number of sector 1 at a time; what is known of one that was found and of a name that was not; and what a call on it does.
 use mathlib.Core.Path.{_≡_, refl, sym, ap, _∙_}
-use mathlib.Core.Bool.{Bool, true, false, not, cond}
+use mathlib.Core.Bool.{Bool, true, false, cond}
 use mathlib.Core.List.{List, [], _∷_}
 use Prim.Native.Nat.{ℕ, suc, _+_, _-_, _*_, _≤_, _<_}
 use native.Mathlib.Omega.{arith}
 use native.Mathlib.Decide.{decLt, ℕ-discrete}
 use lib.ListN.{length, getD}
-use borrow.Author.Tests.{not-false}
 use Rattle.rules.specs.Bytes.{wordAt, same}
 use Rattle.rules.specs.Sectors.{sectorOf, sectorCount}
-use Rattle.rules.specs.Name.{nameRule}
+use Rattle.rules.specs.Name.{nameRule, wrongPlace}
 use Rattle.rules.specs.Map.{count}
 use Rattle.rules.specs.Descriptor.{sectorsOf, IsDescriptor}
 use Rattle.rules.specs.Index.{numbers}
 use Rattle.rules.specs.Volume.{files, nameIn, placesIn}
-use Rattle.rules.specs.Tests.{Test, refuse, firstOf, Passed}
 use Rattle.rules.specs.Verdict.{volumeTests, verdict}
 use Rattle.rules.specs.Sound.{Sound, fileAt, IsFile}
-use Rattle.rules.specs.Outcome.{Report, refuses, Outcome, refusal, AmountSays, Meets, Gives, ReadSays}
-use Rattle.rules.specs.Opening.{findIn, opening, nameTests, openOf, onFile, changing, adding}
-use Rattle.rules.specs.declared.Answer.{Answer}
-use Rattle.rules.specs.declared.Answer.the-variants as answer
-use Rattle.rules.specs.declared.Amount.the-variants as amount
+use Rattle.rules.specs.Outcome.{Report, refuses, Outcome, refusal, Bare, NamedSays, NamedAmountSays, ReadSays, Meets, Gives}
+use Rattle.rules.specs.Opening.{findIn, onSound, underName, openOf, onFile, changing, adding}
+use Rattle.rules.specs.declared.WrongPlace.{WrongPlace}
+use Rattle.rules.specs.declared.WrongPlace.the-variants as wrong
+use Rattle.rules.specs.declared.NamedAnswer.{NamedAnswer}
+use Rattle.rules.specs.declared.NamedAnswer.the-variants as named
+use Rattle.rules.specs.declared.NamedAmount.the-variants as loaded
 use Rattle.rules.specs.declared.Opened.{Opened}
-use Rattle.rules.specs.declared.Opened.the-variants.{At, Absent, Refused}
-use Rattle.rules.proofs.Tests.{absurd-test, all-passed, passed-both, none-met, unless-passed, unless-met}
+use Rattle.rules.specs.declared.Opened.the-variants.{At, Absent, Refused, Misnamed}
+use Rattle.rules.proofs.Tests.{absurd-test, unless-passed, unless-met}
 use Rattle.rules.proofs.Bytes.{same-is, is-same}
 use Rattle.rules.proofs.Map.{count-none, count-other}
 use Rattle.rules.proofs.Sectors.{sector-length}
 use Rattle.rules.proofs.Index.{number-at, number-past}
 use Rattle.rules.proofs.Volume.{place-inside}
-use Rattle.rules.proofs.Verdict.{sound, unsound-first, sound-first}
-use Rattle.rules.proofs.Outcome.{refusal-meets, amount-refused, read-refused}
+use Rattle.rules.proofs.Verdict.{sound, verdict-small}
+use Rattle.rules.proofs.Misnamed.{rule-none, none-rule}
+use Rattle.rules.proofs.Outcome.{wrong-there, wrong-nowhere, bare, meets-refusal, gives-refusal}
 
 -- the search, a number at a time
 module _ (image name : List ℕ) (p : ℕ) (ks : List ℕ) where
@@ -96,57 +97,107 @@ opened-facts image name p k s r f =
       descriptor = rw is at (s .descriptors p inside);
     }
 
--- looked for only where no test is met, so a file that is there and a name that is not say so
-pub opening-passed : (tests : List Test) (image name : List ℕ) → firstOf tests ≡ 0 → opening tests image name ≡ findIn image name 0 (files image)
-unfolding opening
-opening-passed tests image name e = unless-passed tests _ _ e
+-- looked for on a sound volume
+module _ (image : List ℕ) (looked : Opened) where
+  pub on-unsound : (verdict image ≡ 0 → ⊥) → onSound image looked ≡ Refused (verdict image)
+  unfolding onSound verdict
+  on-unsound some = unless-met (volumeTests image) looked _ some
 
-pub opening-met : (tests : List Test) (image name : List ℕ) (number : ℕ) → firstOf tests ≡ number → (number ≡ 0 → ⊥) → opening tests image name ≡ Refused number
-unfolding opening
-opening-met tests image name number e some = unless-met tests _ _ (λ z. some (sym e ∙ z)) ∙ ap Refused e
+  pub on-sound : verdict image ≡ 0 → onSound image looked ≡ looked
+  unfolding onSound verdict
+  on-sound e = unless-passed (volumeTests image) looked _ e
 
--- a search refuses nothing
-pub find-looks : (image name : List ℕ) (p : ℕ) (ks : List ℕ) (number : ℕ) → findIn image name p ks ≡ Refused number → ⊥
-unfolding findIn
-find-looks image name p [] number e = let z : _≡_ {A = ℕ} 0 1 = cc in omega arith
-find-looks image name p (k ∷ ks) number e = go (same name (nameIn image k)) e (find-looks image name (p + 1) ks number)
+-- and under a name that keeps the rule
+module _ (name : List ℕ) (looked : Opened) where
+  pub under-wrong : (place : ℕ) → wrongPlace name ≡ wrong.At place → underName name looked ≡ Misnamed place
+  unfolding underName
+  under-wrong place e = wrong-there (wrongPlace name) Misnamed looked place e
+
+  pub under-kept : wrongPlace name ≡ wrong.None → underName name looked ≡ looked
+  unfolding underName
+  under-kept e = wrong-nowhere (wrongPlace name) Misnamed looked e
+
+-- whether it was looked for: a file is there, or none is
+unfoldable pub wasLooked : Opened → Bool
+wasLooked (At p k) = true
+wasLooked Absent = true
+wasLooked (Refused number) = false
+wasLooked (Misnamed place) = false
+
+pub find-looks : (image name : List ℕ) (p : ℕ) (ks : List ℕ) → wasLooked (findIn image name p ks) ≡ true
+unfolding findIn wasLooked
+find-looks image name p [] = refl
+find-looks image name p (k ∷ ks) = go (same name (nameIn image k)) (find-looks image name (p + 1) ks)
   where
-    go : (t : Bool) → cond t (At p k) (findIn image name (p + 1) ks) ≡ Refused number → (findIn image name (p + 1) ks ≡ Refused number → ⊥) → ⊥
-    go true e more = let z : _≡_ {A = ℕ} 0 1 = cc in omega arith
-    go false e more = more e
+    go : (t : Bool) → wasLooked (findIn image name (p + 1) ks) ≡ true → wasLooked (cond t (At p k) (findIn image name (p + 1) ks)) ≡ true
+    go true more = refl
+    go false more = more
 
--- an opening by its answer: looked for, or refused
-pub data Looked (tests : List Test) (image name : List ℕ) (opened : Opened) : Type 0 where
-  looked : firstOf tests ≡ 0 → findIn image name 0 (files image) ≡ opened → Looked tests image name opened
-  unseen : (firstOf tests ≡ 0 → ⊥) → opened ≡ Refused (firstOf tests) → Looked tests image name opened
+-- by what was opened: what was looked for, or the number of an unsound volume
+pub data OnSound (image : List ℕ) (looked opened : Opened) : Type 0 where
+  whole : Sound image → looked ≡ opened → OnSound image looked opened
+  broken : (verdict image ≡ 0 → ⊥) → opened ≡ Refused (verdict image) → OnSound image looked opened
 
-pub opening-looked : (tests : List Test) (image name : List ℕ) (opened : Opened) → opening tests image name ≡ opened → Looked tests image name opened
-opening-looked tests image name opened e =
-    elim (ℕ-discrete (firstOf tests) 0) [
-      | yes passed ↦ looked passed (sym (opening-passed tests image name passed) ∙ e)
-      | no some ↦ unseen some (sym e ∙ opening-met tests image name (firstOf tests) refl some)
+pub sound-looked : (image : List ℕ) (looked opened : Opened) → onSound image looked ≡ opened → OnSound image looked opened
+sound-looked image looked opened e =
+    elim (ℕ-discrete (verdict image) 0) [
+      | yes none ↦ whole (sound image none) (sym (on-sound image looked none) ∙ e)
+      | no some ↦ broken some (sym e ∙ on-unsound image looked some)
     ]
 
--- numbers 1 to 7 passed: a sound volume, and a name that keeps the rule
-pub name-passed : (image name : List ℕ) → firstOf (nameTests image name) ≡ 0 → Sound image × (nameRule name ≡ true)
-unfolding verdict nameTests Passed
-name-passed image name e =
-    let passed = passed-both (volumeTests image) (refuse 7 (not (nameRule name)) ∷ []) (all-passed (nameTests image name) e) in
-    (sound image (none-met (volumeTests image) (passed .0)), not-false (nameRule name) (passed .1 .0))
+-- what was looked for, or the place where the name is wrong
+pub data UnderName (name : List ℕ) (looked opened : Opened) : Type 0 where
+  ruled : wrongPlace name ≡ wrong.None → looked ≡ opened → UnderName name looked opened
+  unruled : (place : ℕ) → wrongPlace name ≡ wrong.At place → opened ≡ Misnamed place → UnderName name looked opened
 
--- and the number of the first that is met
-module _ (image name : List ℕ) where
-  pub unsound-number : (verdict image ≡ 0 → ⊥) → firstOf (nameTests image name) ≡ verdict image
-  unfolding nameTests
-  unsound-number some = unsound-first image _ some
+pub name-looked : (name : List ℕ) (looked opened : Opened) → underName name looked ≡ opened → UnderName name looked opened
+name-looked name looked opened e = go (wrongPlace name) refl
+  where
+    go : (w : WrongPlace) → wrongPlace name ≡ w → UnderName name looked opened
+    go wrong.None none = ruled none (sym (under-kept name looked none) ∙ e)
+    go (wrong.At place) there = unruled place there (sym e ∙ under-wrong name looked place there)
 
-  pub unnamed-number : verdict image ≡ 0 → nameRule name ≡ false → firstOf (nameTests image name) ≡ 7
-  unfolding nameTests firstOf
-  unnamed-number e broken = sound-first image _ e ∙ rw broken
+-- so a file that is there and a name that is not say that nothing was refused
+pub sound-passed : (image : List ℕ) (looked opened : Opened) → wasLooked opened ≡ true → onSound image looked ≡ opened → Sound image × (looked ≡ opened)
+unfolding wasLooked
+sound-passed image looked opened was e = go (sound-looked image looked opened e)
+  where
+    go : OnSound image looked opened → Sound image × (looked ≡ opened)
+    go (whole is same) = (is, same)
+    go (broken some is) = absurd-test (sym was ∙ ap wasLooked is)
 
-  pub named-number : verdict image ≡ 0 → nameRule name ≡ true → firstOf (nameTests image name) ≡ 0
-  unfolding nameTests firstOf
-  named-number e kept = sound-first image _ e ∙ rw kept
+pub name-passed : (name : List ℕ) (looked opened : Opened) → wasLooked opened ≡ true → underName name looked ≡ opened → (wrongPlace name ≡ wrong.None) × (looked ≡ opened)
+unfolding wasLooked
+name-passed name looked opened was e = go (name-looked name looked opened e)
+  where
+    go : UnderName name looked opened → (wrongPlace name ≡ wrong.None) × (looked ≡ opened)
+    go (ruled none same) = (none, same)
+    go (unruled place there is) = absurd-test (sym was ∙ ap wasLooked is)
+
+-- and a number is that of an unsound volume
+pub find-refused : (image name : List ℕ) (number : ℕ) → findIn image name 0 (files image) ≡ Refused number → ⊥
+unfolding wasLooked
+find-refused image name number e = absurd-test (sym (find-looks image name 0 (files image)) ∙ ap wasLooked e)
+
+pub under-refused : (name : List ℕ) (looked : Opened) (number : ℕ) → (looked ≡ Refused number → ⊥) → underName name looked ≡ Refused number → ⊥
+under-refused name looked number none e = go (name-looked name looked (Refused number) e)
+  where
+    go : UnderName name looked (Refused number) → ⊥
+    go (ruled kept is) = none is
+    go (unruled place there is) = let z : _≡_ {A = ℕ} 0 1 = cc in omega arith
+
+pub refused-bare : (image : List ℕ) (looked : Opened) → ((number : ℕ) → looked ≡ Refused number → ⊥) → (number : ℕ) → onSound image looked ≡ Refused number → Bare number number
+refused-bare image looked none number e = go (sound-looked image looked (Refused number) e)
+  where
+    go : OnSound image looked (Refused number) → Bare number number
+    go (whole is same) = absurd (none number same)
+    go (broken some is) =
+        let same : number ≡ verdict image = cc in
+        (refl, λ z. some (sym same ∙ z), λ z. omega (arith, same, z, verdict-small image))
+
+-- what was found is a file of that name
+pub found-is : (image name : List ℕ) (p k : ℕ) → Sound image → wrongPlace name ≡ wrong.None → findIn image name 0 (files image) ≡ At p k → IsOpened image name p k
+found-is image name p k is none e = opened-facts image name p k is (none-rule name none) (found image name 0 (files image) p k e)
 
 -- a name that keeps the rule and is no file's, on a sound volume
 pub record IsAbsent (image name : List ℕ) : Type 0 where
@@ -154,50 +205,54 @@ pub record IsAbsent (image name : List ℕ) : Type 0 where
   pub rule : nameRule name ≡ true
   pub absent : findIn image name 0 (files image) ≡ Absent
 
-module _ (tests : List Test) (image name : List ℕ) (ruled : firstOf tests ≡ 0 → Sound image × (nameRule name ≡ true)) where
-  pub opened-by : (p k : ℕ) → opening tests image name ≡ At p k → IsOpened image name p k
-  opened-by p k e = go (opening-looked tests image name (At p k) e)
-    where
-      go : Looked tests image name (At p k) → IsOpened image name p k
-      go (looked passed is) = let r = ruled passed in opened-facts image name p k (r .0) (r .1) (found image name 0 (files image) p k is)
-      go (unseen some is) = absurd (let z : _≡_ {A = ℕ} 0 1 = cc in omega arith)
-
-  pub absent-by : opening tests image name ≡ Absent → IsAbsent image name
-  absent-by e = go (opening-looked tests image name Absent e)
-    where
-      go : Looked tests image name Absent → IsAbsent image name
-      go (looked passed is) = let r = ruled passed in record { whole = r .0; rule = r .1; absent = is }
-      go (unseen some is) = absurd (let z : _≡_ {A = ℕ} 0 1 = cc in omega arith)
-
--- a refusal has the number of the test that was met
-pub refused-by : (tests : List Test) (image name : List ℕ) (number : ℕ) → opening tests image name ≡ Refused number → (number ≡ firstOf tests) × (number ≡ 0 → ⊥)
-refused-by tests image name number e = go (opening-looked tests image name (Refused number) e)
-  where
-    go : Looked tests image name (Refused number) → (number ≡ firstOf tests) × (number ≡ 0 → ⊥)
-    go (looked passed is) = absurd (find-looks image name 0 (files image) number is)
-    go (unseen some is) = let same : number ≡ firstOf tests = cc in (same, λ z. some (sym same ∙ z))
-
 -- of a call that takes one name
 module _ (image name : List ℕ) where
-  pub open-met : (number : ℕ) → firstOf (nameTests image name) ≡ number → (number ≡ 0 → ⊥) → openOf image name ≡ Refused number
-  unfolding openOf
-  open-met number e some = opening-met (nameTests image name) image name number e some
+  abbrev found-there : Opened
+  found-there = findIn image name 0 (files image)
 
-  pub open-passed : firstOf (nameTests image name) ≡ 0 → openOf image name ≡ findIn image name 0 (files image)
+  pub open-unsound : (verdict image ≡ 0 → ⊥) → openOf image name ≡ Refused (verdict image)
   unfolding openOf
-  open-passed e = opening-passed (nameTests image name) image name e
+  open-unsound some = on-unsound image _ some
+
+  pub open-wrong : (place : ℕ) → verdict image ≡ 0 → wrongPlace name ≡ wrong.At place → openOf image name ≡ Misnamed place
+  unfolding openOf
+  open-wrong place e there = on-sound image _ e ∙ under-wrong name _ place there
+
+  pub open-looked : verdict image ≡ 0 → wrongPlace name ≡ wrong.None → openOf image name ≡ findIn image name 0 (files image)
+  unfolding openOf
+  open-looked e none = on-sound image _ e ∙ under-kept name _ none
+
+  open-passed : (opened : Opened) → wasLooked opened ≡ true → openOf image name ≡ opened → Sound image × (wrongPlace name ≡ wrong.None) × (found-there ≡ opened)
+  unfolding openOf
+  open-passed opened was e =
+      let s = sound-passed image _ opened was e in
+      let n = name-passed name _ opened was (s .1) in
+      (s .0, n .0, n .1)
 
   pub opened-is : (p k : ℕ) → openOf image name ≡ At p k → IsOpened image name p k
-  unfolding openOf
-  opened-is = opened-by (nameTests image name) image name (name-passed image name)
+  unfolding wasLooked
+  opened-is p k e = let o = open-passed (At p k) refl e in found-is image name p k (o .0) (o .1) (o .2)
 
   pub absent-is : openOf image name ≡ Absent → IsAbsent image name
-  unfolding openOf
-  absent-is = absent-by (nameTests image name) image name (name-passed image name)
+  unfolding wasLooked
+  absent-is e = let o = open-passed Absent refl e in record { whole = o .0; rule = none-rule name (o .1); absent = o .2 }
 
-  pub open-refused : (number : ℕ) → openOf image name ≡ Refused number → number ≡ 0 → ⊥
+  -- a refusal carries the volume's number, or the place where the name is wrong
+  pub open-refused : (number : ℕ) → openOf image name ≡ Refused number → Bare number number
   unfolding openOf
-  open-refused number e = refused-by (nameTests image name) image name number e .1
+  open-refused = refused-bare image (underName name found-there) (λ number e. under-refused name found-there number (find-refused image name number) e)
+
+  pub open-misnamed : (place : ℕ) → openOf image name ≡ Misnamed place → wrongPlace name ≡ wrong.At place
+  unfolding openOf wasLooked
+  open-misnamed place e = go (sound-looked image _ (Misnamed place) e)
+    where
+      looks : UnderName name found-there (Misnamed place) → wrongPlace name ≡ wrong.At place
+      looks (ruled none is) = absurd-test (sym (find-looks image name 0 (files image)) ∙ ap wasLooked is)
+      looks (unruled found there is) = let same : found ≡ place = cc in there ∙ ap wrong.At same
+
+      go : OnSound image (underName name found-there) (Misnamed place) → wrongPlace name ≡ wrong.At place
+      go (whole is same) = looks (name-looked name _ (Misnamed place) same)
+      go (broken some is) = absurd (let z : _≡_ {A = ℕ} 0 1 = cc in omega arith)
 
 -- a name that the search does not find is no file's
 pub unfound : (image name : List ℕ) (p : ℕ) (ks : List ℕ) → findIn image name p ks ≡ Absent → (j : ℕ) → 1 ≤ count j ks → nameIn image j ≡ name → ⊥
@@ -214,56 +269,129 @@ unfound image name p (k ∷ ks) e j some is = go (same name (nameIn image k)) re
           | no there ↦ more e j (omega (arith, some, count-other j k ks there)) is
         ]
 
--- what a call promises, by what was opened: a reading call on that file
-module _ (before : List ℕ) (opened : Opened) (reading : ℕ → Report) where
-  pub load-refused : (number : ℕ) → opened ≡ Refused number → (number ≡ 0 → ⊥) → Gives AmountSays (onFile opened reading) (amount.Refused number) before before
+-- what a call makes of what was opened
+module _ (opened : Opened) where
+  on-refused : (reading : ℕ → Report) (number : ℕ) → opened ≡ Refused number → onFile opened reading ≡ refuses number
   unfolding onFile
-  load-refused number e some = rw e (amount-refused before (refuses number) number some refl)
+  on-refused reading number e = rw e
 
-  pub load-absent : opened ≡ Absent → Gives AmountSays (onFile opened reading) (amount.Refused 8) before before
+  on-misnamed : (reading : ℕ → Report) (place : ℕ) → opened ≡ Misnamed place → onFile opened reading ≡ refuses 7
   unfolding onFile
-  load-absent e = rw e (amount-refused before (refuses 8) 8 (λ z. omega arith) refl)
+  on-misnamed reading place e = rw e
 
-  pub file-refused : (number : ℕ) → opened ≡ Refused number → (number ≡ 0 → ⊥) → Gives ReadSays (onFile opened reading) (answer.Refused number) before before
+  on-absent : (reading : ℕ → Report) → opened ≡ Absent → onFile opened reading ≡ refuses 8
   unfolding onFile
-  file-refused number e some = rw e (read-refused before (refuses number) number some refl)
+  on-absent reading e = rw e
 
-  pub file-absent : opened ≡ Absent → Gives ReadSays (onFile opened reading) (answer.Refused 8) before before
-  unfolding onFile
-  file-absent e = rw e (read-refused before (refuses 8) 8 (λ z. omega arith) refl)
+  pub changing-refused : (change : ℕ → Outcome) (number : ℕ) → opened ≡ Refused number → changing opened change ≡ refusal number
+  unfolding changing
+  changing-refused change number e = rw e
 
-  pub on-found : {Given : Type 0} (Says : Given → Report → Type 0) (p k : ℕ) → opened ≡ At p k → (given : Given) (after : List ℕ)
-      → Gives Says (reading k) given before after → Gives Says (onFile opened reading) given before after
+  pub changing-misnamed : (change : ℕ → Outcome) (place : ℕ) → opened ≡ Misnamed place → changing opened change ≡ refusal 7
+  unfolding changing
+  changing-misnamed change place e = rw e
+
+  pub changing-absent : (change : ℕ → Outcome) → opened ≡ Absent → changing opened change ≡ refusal 8
+  unfolding changing
+  changing-absent change e = rw e
+
+  pub changing-found : (change : ℕ → Outcome) (p k : ℕ) → opened ≡ At p k → changing opened change ≡ change k
+  unfolding changing
+  changing-found change p k e = rw e
+
+  adding-refused : (addition : Outcome) (number : ℕ) → opened ≡ Refused number → adding opened addition ≡ refusal number
+  unfolding adding
+  adding-refused addition number e = rw e
+
+  adding-misnamed : (addition : Outcome) (place : ℕ) → opened ≡ Misnamed place → adding opened addition ≡ refusal 7
+  unfolding adding
+  adding-misnamed addition place e = rw e
+
+  pub adding-present : (addition : Outcome) (p k : ℕ) → opened ≡ At p k → adding opened addition ≡ refusal 9
+  unfolding adding
+  adding-present addition p k e = rw e
+
+  pub adding-absent : (addition : Outcome) → opened ≡ Absent → adding opened addition ≡ addition
+  unfolding adding
+  adding-absent addition e = rw e
+
+-- what it promises: a reading call on the file of that name
+module _ (image name before : List ℕ) (reading : ℕ → Report) where
+  abbrev report : Report
+  report = onFile (openOf image name) reading
+
+  pub load-refused : (number : ℕ) → openOf image name ≡ Refused number → Gives (NamedAmountSays (wrongPlace name)) report (loaded.Refused number) before before
+  unfolding NamedAmountSays
+  load-refused number e = gives-refusal (NamedAmountSays (wrongPlace name)) (loaded.Refused number) before report number (open-refused image name number e) (on-refused _ reading number e)
+
+  pub load-misnamed : (place : ℕ) → openOf image name ≡ Misnamed place → Gives (NamedAmountSays (wrongPlace name)) report (loaded.Misnamed place) before before
+  unfolding NamedAmountSays
+  load-misnamed place e = gives-refusal (NamedAmountSays (wrongPlace name)) (loaded.Misnamed place) before report 7 (refl, open-misnamed image name place e) (on-misnamed _ reading place e)
+
+  pub load-absent : openOf image name ≡ Absent → Gives (NamedAmountSays (wrongPlace name)) report (loaded.Refused 8) before before
+  unfolding NamedAmountSays
+  load-absent e = gives-refusal (NamedAmountSays (wrongPlace name)) (loaded.Refused 8) before report 8 (bare 8 refl) (on-absent _ reading e)
+
+  pub file-refused : (number : ℕ) → openOf image name ≡ Refused number → Gives (ReadSays (wrongPlace name)) report (named.Refused number) before before
+  unfolding NamedSays
+  file-refused number e = gives-refusal (ReadSays (wrongPlace name)) (named.Refused number) before report number (open-refused image name number e) (on-refused _ reading number e)
+
+  pub file-misnamed : (place : ℕ) → openOf image name ≡ Misnamed place → Gives (ReadSays (wrongPlace name)) report (named.Misnamed place) before before
+  unfolding NamedSays
+  file-misnamed place e = gives-refusal (ReadSays (wrongPlace name)) (named.Misnamed place) before report 7 (refl, open-misnamed image name place e) (on-misnamed _ reading place e)
+
+  pub file-absent : openOf image name ≡ Absent → Gives (ReadSays (wrongPlace name)) report (named.Refused 8) before before
+  unfolding NamedSays
+  file-absent e = gives-refusal (ReadSays (wrongPlace name)) (named.Refused 8) before report 8 (bare 8 refl) (on-absent _ reading e)
+
+  pub on-found : {Given : Type 0} (Says : WrongPlace → Given → Report → Type 0) (p k : ℕ) → openOf image name ≡ At p k → (given : Given) (after : List ℕ)
+      → Gives (Says wrong.None) (reading k) given before after → Gives (Says (wrongPlace name)) report given before after
   unfolding onFile
-  on-found Says p k e given after gives = rw e gives
+  on-found Says p k e given after gives = rw (rule-none name (opened-is image name p k e .rule), e) gives
 
 -- a change of it
-module _ (image : List ℕ) (opened : Opened) (change : ℕ → Outcome) where
-  pub change-refused : (number : ℕ) → opened ≡ Refused number → (number ≡ 0 → ⊥) → Meets (changing opened change) (answer.Refused number) image image
-  unfolding changing
-  change-refused number e some = rw e (refusal-meets image (refusal number) number some refl)
+module _ (image name : List ℕ) (change : ℕ → Outcome) where
+  abbrev outcome : Outcome
+  outcome = changing (openOf image name) change
 
-  pub change-absent : opened ≡ Absent → Meets (changing opened change) (answer.Refused 8) image image
-  unfolding changing
-  change-absent e = rw e (refusal-meets image (refusal 8) 8 (λ z. omega arith) refl)
+  pub change-refused : (number : ℕ) → openOf image name ≡ Refused number → Meets (NamedSays (wrongPlace name)) outcome (named.Refused number) image image
+  unfolding NamedSays
+  change-refused number e = meets-refusal (NamedSays (wrongPlace name)) (named.Refused number) image outcome number (open-refused image name number e) (changing-refused _ change number e)
 
-  pub change-found : (p k : ℕ) → opened ≡ At p k → (given : Answer) (after : List ℕ) → Meets (change k) given image after → Meets (changing opened change) given image after
+  pub change-misnamed : (place : ℕ) → openOf image name ≡ Misnamed place → Meets (NamedSays (wrongPlace name)) outcome (named.Misnamed place) image image
+  unfolding NamedSays
+  change-misnamed place e = meets-refusal (NamedSays (wrongPlace name)) (named.Misnamed place) image outcome 7 (refl, open-misnamed image name place e) (changing-misnamed _ change place e)
+
+  pub change-absent : openOf image name ≡ Absent → Meets (NamedSays (wrongPlace name)) outcome (named.Refused 8) image image
+  unfolding NamedSays
+  change-absent e = meets-refusal (NamedSays (wrongPlace name)) (named.Refused 8) image outcome 8 (bare 8 refl) (changing-absent _ change e)
+
+  pub change-found : (p k : ℕ) → openOf image name ≡ At p k → (given : NamedAnswer) (after : List ℕ) → Meets (NamedSays wrong.None) (change k) given image after
+      → Meets (NamedSays (wrongPlace name)) outcome given image after
   unfolding changing
-  change-found p k e given after meets = rw e meets
+  change-found p k e given after meets = rw (rule-none name (opened-is image name p k e .rule), e) meets
 
 -- an addition under its name
-module _ (image : List ℕ) (opened : Opened) (addition : Outcome) where
-  pub add-refused : (number : ℕ) → opened ≡ Refused number → (number ≡ 0 → ⊥) → Meets (adding opened addition) (answer.Refused number) image image
-  unfolding adding
-  add-refused number e some = rw e (refusal-meets image (refusal number) number some refl)
+module _ (image name : List ℕ) (addition : Outcome) where
+  abbrev added : Outcome
+  added = adding (openOf image name) addition
 
-  pub add-present : (p k : ℕ) → opened ≡ At p k → Meets (adding opened addition) (answer.Refused 9) image image
-  unfolding adding
-  add-present p k e = rw e (refusal-meets image (refusal 9) 9 (λ z. omega arith) refl)
+  pub add-refused : (number : ℕ) → openOf image name ≡ Refused number → Meets (NamedSays (wrongPlace name)) added (named.Refused number) image image
+  unfolding NamedSays
+  add-refused number e = meets-refusal (NamedSays (wrongPlace name)) (named.Refused number) image added number (open-refused image name number e) (adding-refused _ addition number e)
 
-  pub add-absent : opened ≡ Absent → (given : Answer) (after : List ℕ) → Meets addition given image after → Meets (adding opened addition) given image after
+  pub add-misnamed : (place : ℕ) → openOf image name ≡ Misnamed place → Meets (NamedSays (wrongPlace name)) added (named.Misnamed place) image image
+  unfolding NamedSays
+  add-misnamed place e = meets-refusal (NamedSays (wrongPlace name)) (named.Misnamed place) image added 7 (refl, open-misnamed image name place e) (adding-misnamed _ addition place e)
+
+  pub add-present : (p k : ℕ) → openOf image name ≡ At p k → Meets (NamedSays (wrongPlace name)) added (named.Refused 9) image image
+  unfolding NamedSays
+  add-present p k e = meets-refusal (NamedSays (wrongPlace name)) (named.Refused 9) image added 9 (bare 9 refl) (adding-present _ addition p k e)
+
+  pub add-absent : openOf image name ≡ Absent → (given : NamedAnswer) (after : List ℕ) → Meets (NamedSays wrong.None) addition given image after
+      → Meets (NamedSays (wrongPlace name)) added given image after
   unfolding adding
-  add-absent e given after meets = rw e meets
+  add-absent e given after meets = rw (rule-none name (absent-is image name e .rule), e) meets
 
 -- the file at a place of the catalogue, by the two bytes of sector 1 there
 pub place-none : (image : List ℕ) (p : ℕ) → Sound image → wordAt (sectorOf image 1) (2 * p) ≡ 0 → length (files image) ≤ p
@@ -322,11 +450,12 @@ pub record Changed (opened : Opened) (change : ℕ → Outcome) : Type 0 where
   pub is : changing opened change ≡ change sector
   pub number : change sector .number ≡ 0
 
-pub changed-done : (opened : Opened) (change : ℕ → Outcome) → ((number : ℕ) → opened ≡ Refused number → number ≡ 0 → ⊥) → changing opened change .number ≡ 0 → Changed opened change
+pub changed-done : (opened : Opened) (change : ℕ → Outcome) → ((number : ℕ) → opened ≡ Refused number → Bare number number) → changing opened change .number ≡ 0 → Changed opened change
 unfolding changing
 changed-done (At p k) change some e = record { place = p; sector = k; found-at = refl; is = refl; number = e }
 changed-done Absent change some e = absurd (omega (arith, e))
-changed-done (Refused number) change some e = absurd (some number refl e)
+changed-done (Refused number) change some e = absurd (some number refl .1 e)
+changed-done (Misnamed place) change some e = absurd (omega (arith, e))
 
 -- an addition that was done: the name was not there
 pub record Added (opened : Opened) (addition : Outcome) : Type 0 where
@@ -334,8 +463,9 @@ pub record Added (opened : Opened) (addition : Outcome) : Type 0 where
   pub is : adding opened addition ≡ addition
   pub number : addition .number ≡ 0
 
-pub added-done : (opened : Opened) (addition : Outcome) → ((number : ℕ) → opened ≡ Refused number → number ≡ 0 → ⊥) → adding opened addition .number ≡ 0 → Added opened addition
+pub added-done : (opened : Opened) (addition : Outcome) → ((number : ℕ) → opened ≡ Refused number → Bare number number) → adding opened addition .number ≡ 0 → Added opened addition
 unfolding adding
 added-done (At p k) addition some e = absurd (omega (arith, e))
 added-done Absent addition some e = record { absent = refl; is = refl; number = e }
-added-done (Refused number) addition some e = absurd (some number refl e)
+added-done (Refused number) addition some e = absurd (some number refl .1 e)
+added-done (Misnamed place) addition some e = absurd (omega (arith, e))

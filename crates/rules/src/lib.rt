@@ -31,16 +31,44 @@ pub struct Row {
     pub protected: bool,
 }
 
+// The place of a name's first wrong byte, from 0 to 9, or 10 where the name is not ten bytes long; none where it keeps the rule.
+pub enum WrongPlace {
+    None,
+    At(usize),
+}
+
 // What a call answers that gives nothing back but its number.
 pub enum Answer {
     Done,
     Refused(u32),
 }
 
+// The same of a call that takes a name: number 7 comes with the place where the name is wrong.
+pub enum NamedAnswer {
+    Done,
+    Refused(u32),
+    Misnamed(usize),
+}
+
+// And of a rename, which takes two: number 7 says which of them it means besides.
+pub enum RenameAnswer {
+    Done,
+    Refused(u32),
+    OldMisnamed(usize),
+    NewMisnamed(usize),
+}
+
 // What a call answers that gives a number: a count of sectors or of bytes.
 pub enum Amount {
     Given(usize),
     Refused(u32),
+}
+
+// The same of a call that takes a name.
+pub enum NamedAmount {
+    Given(usize),
+    Refused(u32),
+    Misnamed(usize),
 }
 
 // What the summary of a volume answers; the disk name goes into a lent array beside it.
@@ -59,9 +87,11 @@ pub struct Entry {
     pub row: Row,
 }
 
-// A file that a call names: its place in the catalogue and its descriptor's sector; absent; or not looked for, with the number of the refusal.
+// A file that a call names: its place in the catalogue and its descriptor's sector; absent; or not looked for, with the number of the
+// refusal or, for 7, with the place where the name is wrong.
 pub enum Opened {
     At(usize, usize),
     Absent,
     Refused(u32),
+    Misnamed(usize),
 }

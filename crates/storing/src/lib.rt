@@ -8,14 +8,15 @@ ghost use lib.Dec.{leb};
 ghost use lib.ListN.{length, replicate};
 ghost use Rattle.rules.specs.Bytes.{wordBytes, over, splice};
 ghost use Rattle.rules.specs.Sectors.{sectorOf, written};
-ghost use Rattle.rules.specs.Name.{nameRule};
+ghost use Rattle.rules.specs.Name.{nameRule, wrongPlace};
 ghost use Rattle.rules.specs.Chain.{places};
 ghost use Rattle.rules.specs.Kind.{sectorsFor};
 ghost use Rattle.rules.specs.Descriptor.{newDescriptor};
 ghost use Rattle.rules.specs.Sound.{Sound};
 ghost use Rattle.rules.specs.Choice.{descriptorChoice};
-ghost use Rattle.rules.specs.Outcome.{Meets};
+ghost use Rattle.rules.specs.Outcome.{NamedSays, Meets};
 ghost use Rattle.rules.specs.Calls.Store.{dataWrites, newBlocks, storing, storeOf};
+ghost use Rattle.rules.specs.declared.WrongPlace.the-variants.{None};
 ghost use Rattle.storing.specs.Program.{programWrites};
 ghost use Rattle.storing.specs.Spread.{Spread};
 use descriptor::chain::Cursor;
@@ -30,7 +31,7 @@ use map::choice::Search;
 use map::choice::descriptor_choice;
 use map::free::free_count_of;
 use opening::find;
-use rules::Answer;
+use rules::NamedAnswer;
 use rules::Opened;
 use sector::buffer::copy;
 use sector::buffer::lay;
@@ -126,36 +127,37 @@ fn write_program(image: &mut [u8], k: usize, name: &[u8], many: usize, bytes: &[
 }
 
 // On a sound volume, under a name that keeps the rule and is not there.
-fn store_new(image: &mut [u8], name: &[u8], bytes: &[u8]) -> Answer
+fn store_new(image: &mut [u8], name: &[u8], bytes: &[u8]) -> NamedAnswer
     requires { ⌜ Sound (now image) × (nameRule (now name) ≡ true) ⌝ }
-    ensures { λ r. ⌜ Meets (storing (now (image .entry)) (now (name .entry)) (now (bytes .entry))) r (now (image .entry)) (now (image .exit)) ⌝ }
+    ensures { λ r. ⌜ Meets (NamedSays None) (storing (now (image .entry)) (now (name .entry)) (now (bytes .entry))) r (now (image .entry)) (now (image .exit)) ⌝ }
 {
     if bytes.len() > 32768 {
-        return Answer::Refused(15);
+        return NamedAnswer::Refused(15);
     }
     // the 127th number of sector 1
     if word(image, 508) != 0 {
-        return Answer::Refused(11);
+        return NamedAnswer::Refused(11);
     }
     let many = (bytes.len() + 255) / 256;
     if free_count_of(sector_of(image, 0)) < 1 + many {
-        return Answer::Refused(12);
+        return NamedAnswer::Refused(12);
     }
     let k = descriptor_choice(sector_of(image, 0));
     if !write_program(image, k, name, many, bytes) {
-        return Answer::Refused(13);
+        return NamedAnswer::Refused(13);
     }
     enter(image, name, k);
-    Answer::Done
+    NamedAnswer::Done
 }
 
-pub fn store(image: &mut [u8], name: &[u8], bytes: &[u8]) -> Answer
-    ensures { λ r. ⌜ Meets (storeOf (now (image .entry)) (now (name .entry)) (now (bytes .entry))) r (now (image .entry)) (now (image .exit)) ⌝ }
+pub fn store(image: &mut [u8], name: &[u8], bytes: &[u8]) -> NamedAnswer
+    ensures { λ r. ⌜ Meets (NamedSays (wrongPlace (now (name .entry)))) (storeOf (now (image .entry)) (now (name .entry)) (now (bytes .entry))) r (now (image .entry)) (now (image .exit)) ⌝ }
 {
     let opened = find(image, name);
     match opened {
-        Opened::Refused(number) => Answer::Refused(number),
-        Opened::At(_, _) => Answer::Refused(9),
+        Opened::Refused(number) => NamedAnswer::Refused(number),
+        Opened::Misnamed(place) => NamedAnswer::Misnamed(place),
+        Opened::At(_, _) => NamedAnswer::Refused(9),
         Opened::Absent => store_new(image, name, bytes),
     }
 }

@@ -128,27 +128,27 @@ returns : tie.Need-returns
 unfolding appending appendTests firstOf unlessMet
 returns c =
     let a = start (c .before) .args in
-    rw (protected (sectorOf (a .image .now) (a .k)) _ (status-is (c .before)) (c .if1 .taken)) (refusal-meets (a .image .now) _ 10 (λ z. omega arith) refl)
+    rw (protected (sectorOf (a .image .now) (a .k)) _ (status-is (c .before)) (c .if1 .taken)) (refusal-meets (a .image .now) _ 10 refl refl)
 
 returns-2 : tie.Need-returns-2
 unfolding appending appendTests firstOf unlessMet
 returns-2 c =
     let e = c .before in
     let a = start (e .before) .args in
-    rw (open-file e, program (sectorOf (a .image .now) (a .k)) _ (status-is (e .before)) (c .if2 .taken)) (refusal-meets (a .image .now) _ 14 (λ z. omega arith) refl)
+    rw (open-file e, program (sectorOf (a .image .now) (a .k)) _ (status-is (e .before)) (c .if2 .taken)) (refusal-meets (a .image .now) _ 14 refl refl)
 
 returns-3 : tie.Need-returns-3
 unfolding appending appendTests firstOf unlessMet
 returns-3 c =
     let e = c .before in
-    rw (open-file (e .before), is-data e, ne-eqb _ _ (c .if3 .taken)) (refusal-meets (start (status e) .args .image .now) _ 15 (λ z. omega arith) refl)
+    rw (open-file (e .before), is-data e, ne-eqb _ _ (c .if3 .taken)) (refusal-meets (start (status e) .args .image .now) _ 15 refl refl)
 
 returns-4 : tie.Need-returns-4
 unfolding appending appendTests firstOf unlessMet
 returns-4 c =
     let l = c .before .before .before .before in
     let e = data-file l in
-    rw (open-file (e .before), is-data e, eq-eqb _ _ (l .if3 .left), lt-ltb (freeCount (sectorOf (start₃ l .args .image .now) 0)) 1 (omega (arith, free-is (c .before), c .if4 .taken))) (refusal-meets (start₃ l .args .image .now) _ 12 (λ z. omega arith) refl)
+    rw (open-file (e .before), is-data e, eq-eqb _ _ (l .if3 .left), lt-ltb (freeCount (sectorOf (start₃ l .args .image .now) 0)) 1 (omega (arith, free-is (c .before), c .if4 .taken))) (refusal-meets (start₃ l .args .image .now) _ 12 refl refl)
 
 next-requires : tie.Need-next-requires
 next-requires c κs = c .before .before .first .ensures .1 _
@@ -179,7 +179,7 @@ returns-5 c =
     let w = c .before .before in
     let p = passed (w .before) in
     let a = start₆ (w .before) .args in
-    rw (p .0, p .1, eq-eqb _ _ (p .2), le-ltb (freeCount _) 1 (p .3), lt-ltb 76 (length (longerBlocks (a .image .now) (a .k))) (omega (arith, used-is w, c .if5 .taken))) (refusal-meets (a .image .now) _ 13 (λ z. omega arith) refl)
+    rw (p .0, p .1, eq-eqb _ _ (p .2), le-ltb (freeCount _) 1 (p .3), lt-ltb 76 (length (longerBlocks (a .image .now) (a .k))) (omega (arith, used-is w, c .if5 .taken))) (refusal-meets (a .image .now) _ 13 refl refl)
 
 write-longer-requires : tie.Need-write-longer-requires
 write-longer-requires c κs =

@@ -3,7 +3,7 @@ use mathlib.Core.Path.{_≡_, sym, _∙_}
 use Rattle.rules.specs.Opening.{openOf}
 use Rattle.rules.specs.Calls.Create.{createOf}
 use Rattle.rules.specs.declared.Opened.the-variants.{Absent}
-use Rattle.rules.proofs.Opening.{open-refused, absent-is, add-refused, add-present, add-absent}
+use Rattle.rules.proofs.Opening.{absent-is, add-refused, add-misnamed, add-present, add-absent}
 use borrow.Author.Needs.{needs}
 use Rattle.creating.proofs.create.Statement.{statement}
 use Rattle.creating.proofs.create.Tie as tie
@@ -24,18 +24,24 @@ unfolding createOf
 returns c =
     let o = c .before in
     let f = o .before .before in
-    let e = sym (f .find .ensures) ∙ o .opened .given .1 in
-    add-refused (start f .args .image .now) _ _ _ e (open-refused _ _ _ e)
+    add-refused (start f .args .image .now) _ _ _ (sym (f .find .ensures) ∙ o .opened .given .1)
 
 returns-2 : tie.Need-returns-2
 unfolding createOf
 returns-2 c =
-    let f = c .before .before in
-    add-present (start f .args .image .now) _ _ _ _ (sym (f .find .ensures) ∙ c .enum-told .given .1)
+    let o = c .before in
+    let f = o .before .before in
+    add-misnamed (start f .args .image .now) _ _ _ (sym (f .find .ensures) ∙ o .opened2 .given .1)
 
 returns-3 : tie.Need-returns-3
 unfolding createOf
 returns-3 c =
+    let f = c .before .before in
+    add-present (start f .args .image .now) _ _ _ _ (sym (f .find .ensures) ∙ c .enum-told .given .1)
+
+returns-4 : tie.Need-returns-4
+unfolding createOf
+returns-4 c =
     let n = c .before .before in
     add-absent _ _ _ (absent (n .before .before)) _ _ (n .create-new .ensures)
 
@@ -47,10 +53,13 @@ create-spec =
     (λ c. search needs)
     (λ c. search needs)
     (λ c. search needs)
+    (λ c. search needs)
     create-new-requires
     (λ c. search needs)
     returns
     (λ c. search needs)
     returns-2
     (λ c. search needs)
-    returns-3)
+    returns-3
+    (λ c. search needs)
+    returns-4)

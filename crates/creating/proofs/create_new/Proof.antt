@@ -1,6 +1,6 @@
 -- `creating::create_new` meets its contract: each refusal gives the number of the first test that failed, the tests before it having passed.
 -- Assumes nothing.
-use mathlib.Core.Path.{_≡_, sym, ap, subst, _∙_}
+use mathlib.Core.Path.{_≡_, refl, sym, ap, subst, _∙_}
 use mathlib.Core.Bool.{true, false}
 use mathlib.Core.List.{List, [], _∷_}
 use Prim.Native.Nat.{ℕ, _*_, _≤_, _<_}
@@ -101,21 +101,21 @@ returns : tie.Need-returns
 returns c =
     let a = c .before .before .before .before .args in
     let s = c .before .create-status in
-    refusal-meets (a .image .now) (creating (a .image .now) (a .name .now) (a .status) (a .record-length) (a .records-per-sector)) 15 (λ z. omega arith)
+    refusal-meets (a .image .now) (creating (a .image .now) (a .name .now) (a .status) (a .record-length) (a .records-per-sector)) 15 refl
     (misasked _ _ _ _ _ (sym (s .ensures) ∙ not-true (s .result) (c .if1 .taken)))
 
 returns-2 : tie.Need-returns-2
 returns-2 c =
     let e = status (c .before) in
     let a = start e .args in
-    refusal-meets (a .image .now) (creating (a .image .now) (a .name .now) (a .status) (a .record-length) (a .records-per-sector)) 11 (λ z. omega arith)
+    refusal-meets (a .image .now) (creating (a .image .now) (a .name .now) (a .status) (a .record-length) (a .records-per-sector)) 11 refl
     (full _ _ _ _ _ (start e .pre .0) (asked e) (λ z. c .if2 .taken (last-is (c .before) ∙ z)))
 
 returns-3 : tie.Need-returns-3
 returns-3 c =
     let room = place (c .before) in
     let a = start₂ room .args in
-    refusal-meets (a .image .now) (creating (a .image .now) (a .name .now) (a .status) (a .record-length) (a .records-per-sector)) 12 (λ z. omega arith)
+    refusal-meets (a .image .now) (creating (a .image .now) (a .name .now) (a .status) (a .record-length) (a .records-per-sector)) 12 refl
     (taken _ _ _ _ _ (start₂ room .pre .0) (asked (status (room .before))) (sym (last-is (room .before)) ∙ room .if2 .left) (sym (free-is (c .before)) ∙ c .if3 .taken))
 
 -- the sector chosen, which was free

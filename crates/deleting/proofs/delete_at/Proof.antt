@@ -33,7 +33,7 @@ returns : tie.Need-returns
 unfolding deleting deleteTests firstOf unlessMet
 returns c =
     let a = c .before .before .before .before .before .args in
-    rw (protected (sectorOf (a .image .now) (a .k)) _ (status-is (c .before)) (c .if1 .taken)) (refusal-meets (a .image .now) _ 10 (λ z. omega arith) refl)
+    rw (protected (sectorOf (a .image .now) (a .k)) _ (status-is (c .before)) (c .if1 .taken)) (refusal-meets (a .image .now) _ 10 refl refl)
 
 slice-aggregate-write-sector : tie.Need-slice-aggregate-write-sector
 slice-aggregate-write-sector c = sym (ap length (c .before .before .before .before .before .before .index-without .ensures) ∙ index-length _)

@@ -1,11 +1,11 @@
 -- `loading::load` meets its contract: a case for each thing that the opener can say. Assumes nothing.
 use mathlib.Core.Path.{_≡_, sym, _∙_}
 use native.Mathlib.Omega.{arith}
-use Rattle.rules.specs.Outcome.{AmountSays}
+use Rattle.rules.specs.Outcome.{NamedAmountSays}
 use Rattle.rules.specs.Opening.{openOf}
 use Rattle.rules.specs.Calls.Load.{loadOf}
 use Rattle.rules.specs.declared.Opened.the-variants.{At}
-use Rattle.rules.proofs.Opening.{opened-is, open-refused, load-refused, load-absent, on-found}
+use Rattle.rules.proofs.Opening.{opened-is, load-refused, load-misnamed, load-absent, on-found}
 use borrow.Author.Needs.{needs}
 use Rattle.loading.proofs.load.Statement.{statement}
 use Rattle.loading.proofs.load.Tie as tie
@@ -13,10 +13,10 @@ use Rattle.loading.proofs.load.Tie as tie
 abbrev start : tie.After-find → tie.Start
 start c = c .before .before .before .before
 
-found : (c : tie.After-opened2) →
+found : (c : tie.After-opened3) →
     let a = start (c .before .before) .args in
-    openOf (a .image .now) (a .name .now) ≡ At (c .opened2 .given .0 .0) (c .opened2 .given .0 .1 .0)
-found c = sym (c .before .before .find .ensures) ∙ c .opened2 .given .1
+    openOf (a .image .now) (a .name .now) ≡ At (c .opened3 .given .0 .0) (c .opened3 .given .0 .1 .0)
+found c = sym (c .before .before .find .ensures) ∙ c .opened3 .given .1
 
 load-at-requires : tie.Need-load-at-requires
 load-at-requires c κs =
@@ -28,20 +28,26 @@ unfolding loadOf
 returns c =
     let o = c .before in
     let f = o .before .before in
-    let e = sym (f .find .ensures) ∙ o .opened .given .1 in
-    load-refused (start f .args .out .now) _ _ _ e (open-refused _ _ _ e)
+    load-refused _ _ (start f .args .out .now) _ _ (sym (f .find .ensures) ∙ o .opened .given .1)
 
 returns-2 : tie.Need-returns-2
 unfolding loadOf
 returns-2 c =
-    let f = c .before .before in
-    load-absent (start f .args .out .now) _ _ (sym (f .find .ensures) ∙ c .enum-told .given .1)
+    let o = c .before in
+    let f = o .before .before in
+    load-misnamed _ _ (start f .args .out .now) _ _ (sym (f .find .ensures) ∙ o .opened2 .given .1)
 
 returns-3 : tie.Need-returns-3
 unfolding loadOf
 returns-3 c =
+    let f = c .before .before in
+    load-absent _ _ (start f .args .out .now) _ (sym (f .find .ensures) ∙ c .enum-told .given .1)
+
+returns-4 : tie.Need-returns-4
+unfolding loadOf
+returns-4 c =
     let done = c .before .before in
-    on-found _ _ _ AmountSays _ _ (found (done .before .before .before)) _ _ (done .load-at .ensures)
+    on-found _ _ _ _ NamedAmountSays _ _ (found (done .before .before .before)) _ _ (done .load-at .ensures)
 
 pub load-spec : {M : Type 1} → statement M
 load-spec =
@@ -51,8 +57,10 @@ load-spec =
     (λ c. search needs)
     (λ c. search needs)
     (λ c. search needs)
+    (λ c. search needs)
     load-at-requires
     returns
     returns-2
+    returns-3
     (λ c. search needs)
-    returns-3)
+    returns-4)

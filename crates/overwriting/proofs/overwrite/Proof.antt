@@ -3,7 +3,7 @@ use mathlib.Core.Path.{_≡_, sym, _∙_}
 use Rattle.rules.specs.Opening.{openOf}
 use Rattle.rules.specs.Calls.Overwrite.{overwriteOf}
 use Rattle.rules.specs.declared.Opened.the-variants.{At}
-use Rattle.rules.proofs.Opening.{open-refused, change-refused, change-absent, change-found, is-file}
+use Rattle.rules.proofs.Opening.{change-refused, change-misnamed, change-absent, change-found, is-file}
 use borrow.Author.Needs.{needs}
 use Rattle.overwriting.proofs.overwrite.Statement.{statement}
 use Rattle.overwriting.proofs.overwrite.Tie as tie
@@ -11,10 +11,10 @@ use Rattle.overwriting.proofs.overwrite.Tie as tie
 abbrev start : tie.After-find → tie.Start
 start c = c .before .before .before .before .before
 
-found : (c : tie.After-opened2) →
+found : (c : tie.After-opened3) →
     let a = start (c .before .before) .args in
-    openOf (a .image .now) (a .name .now) ≡ At (c .opened2 .given .0 .0) (c .opened2 .given .0 .1 .0)
-found c = sym (c .before .before .find .ensures) ∙ c .opened2 .given .1
+    openOf (a .image .now) (a .name .now) ≡ At (c .opened3 .given .0 .0) (c .opened3 .given .0 .1 .0)
+found c = sym (c .before .before .find .ensures) ∙ c .opened3 .given .1
 
 overwrite-at-requires : tie.Need-overwrite-at-requires
 overwrite-at-requires c κs = is-file _ _ _ _ (found (c .before .before))
@@ -24,18 +24,24 @@ unfolding overwriteOf
 returns c =
     let o = c .before in
     let f = o .before .before in
-    let e = sym (f .find .ensures) ∙ o .opened .given .1 in
-    change-refused (start f .args .image .now) _ _ _ e (open-refused _ _ _ e)
+    change-refused (start f .args .image .now) _ _ _ (sym (f .find .ensures) ∙ o .opened .given .1)
 
 returns-2 : tie.Need-returns-2
 unfolding overwriteOf
 returns-2 c =
-    let f = c .before .before in
-    change-absent (start f .args .image .now) _ _ (sym (f .find .ensures) ∙ c .enum-told .given .1)
+    let o = c .before in
+    let f = o .before .before in
+    change-misnamed (start f .args .image .now) _ _ _ (sym (f .find .ensures) ∙ o .opened2 .given .1)
 
 returns-3 : tie.Need-returns-3
 unfolding overwriteOf
 returns-3 c =
+    let f = c .before .before in
+    change-absent (start f .args .image .now) _ _ (sym (f .find .ensures) ∙ c .enum-told .given .1)
+
+returns-4 : tie.Need-returns-4
+unfolding overwriteOf
+returns-4 c =
     let done = c .before .before in
     change-found _ _ _ _ _ (found (done .before .before .before)) _ _ (done .overwrite-at .ensures)
 
@@ -47,10 +53,13 @@ overwrite-spec =
     (λ c. search needs)
     (λ c. search needs)
     (λ c. search needs)
+    (λ c. search needs)
     overwrite-at-requires
     (λ c. search needs)
     returns
     (λ c. search needs)
     returns-2
     (λ c. search needs)
-    returns-3)
+    returns-3
+    (λ c. search needs)
+    returns-4)

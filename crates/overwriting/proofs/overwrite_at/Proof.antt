@@ -74,14 +74,14 @@ returns : tie.Need-returns
 unfolding overwriting overwriteTests firstOf unlessMet
 returns c =
     let a = start (c .before .before) .args in
-    rw (protected (sectorOf (a .image .now) (a .k)) _ (status-is (c .before)) (c .if1 .taken)) (refusal-meets (a .image .now) _ 10 (λ z. omega arith) refl)
+    rw (protected (sectorOf (a .image .now) (a .k)) _ (status-is (c .before)) (c .if1 .taken)) (refusal-meets (a .image .now) _ 10 refl refl)
 
 returns-2 : tie.Need-returns-2
 unfolding overwriting overwriteTests firstOf unlessMet
 returns-2 c =
     let e = c .before in
     let a = start (e .before .before) .args in
-    rw (open-file e, program (sectorOf (a .image .now) (a .k)) _ (status-is (e .before)) (c .if2 .taken)) (refusal-meets (a .image .now) _ 14 (λ z. omega arith) refl)
+    rw (open-file e, program (sectorOf (a .image .now) (a .k)) _ (status-is (e .before)) (c .if2 .taken)) (refusal-meets (a .image .now) _ 14 refl refl)
 
 returns-3 : tie.Need-returns-3
 unfolding overwriting overwriteTests firstOf unlessMet
@@ -89,7 +89,7 @@ returns-3 c =
     let w = c .before in
     let e = w .before in
     let a = start₂ e .args in
-    rw (open-file (e .before), is-data e, le-leb (sectorsOf (sectorOf (a .image .now) (a .k))) (a .offset) (omega (arith, count-is w, c .if3 .taken))) (refusal-meets (a .image .now) _ 15 (λ z. omega arith) refl)
+    rw (open-file (e .before), is-data e, le-leb (sectorsOf (sectorOf (a .image .now) (a .k))) (a .offset) (omega (arith, count-is w, c .if3 .taken))) (refusal-meets (a .image .now) _ 15 refl refl)
 
 returns-4 : tie.Need-returns-4
 unfolding overwriting overwriteTests firstOf unlessMet
@@ -97,7 +97,7 @@ returns-4 c =
     let i = c .before in
     let e = i .before .before in
     let a = start₃ i .args in
-    rw (open-file (e .before), is-data e, lt-leb (sectorsOf (sectorOf (a .image .now) (a .k))) (a .offset) (inside i), ne-eqb _ _ (c .if4 .taken)) (refusal-meets (a .image .now) _ 15 (λ z. omega arith) refl)
+    rw (open-file (e .before), is-data e, lt-leb (sectorsOf (sectorOf (a .image .now) (a .k))) (a .offset) (inside i), ne-eqb _ _ (c .if4 .taken)) (refusal-meets (a .image .now) _ 15 refl refl)
 
 part-copy-end : tie.Need-part-copy-end
 part-copy-end c = omega (arith, reaches c)

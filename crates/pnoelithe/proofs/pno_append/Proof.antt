@@ -1,11 +1,11 @@
--- `pnoelithe::pno_append` meets its contract: what the call answers crosses as its number. Assumes nothing.
+-- `pnoelithe::pno_append` meets its contract: what the call answers crosses as its number, and the place where the name is wrong behind its pointer. Assumes nothing.
 use Rattle.pnoelithe.proofs.Crossings.{writing-crosses}
 use borrow.Author.Needs.{needs}
 use Rattle.pnoelithe.proofs.pno_append.Statement.{statement}
 use Rattle.pnoelithe.proofs.pno_append.Tie as tie
 
 returns : tie.Need-returns
-returns c = writing-crosses _ _ _ _ _ (c .answer-number .ensures) (c .before .before .before .append .ensures)
+returns c = writing-crosses _ _ _ _ _ _ _ (c .named-number .ensures _ _) (c .before .before .before .before .append .ensures)
 
 pub pno-append-spec : {M : Type 1} → statement M
 pno-append-spec = tie.close (tie.spec (λ c κs. search needs) (λ c κs. search needs) (λ c. search needs) returns)

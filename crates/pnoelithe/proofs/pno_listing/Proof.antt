@@ -1,5 +1,4 @@
 -- `pnoelithe::pno_listing` meets its contract: what the call answers crosses as its number, and the length behind its pointer. Assumes nothing.
-use Rattle.pnoelithe.proofs.Crossings.{amount-crosses}
 use borrow.Author.Needs.{needs}
 use Rattle.pnoelithe.proofs.pno_listing.Statement.{statement}
 use Rattle.pnoelithe.proofs.pno_listing.Tie as tie
@@ -7,7 +6,7 @@ use Rattle.pnoelithe.proofs.pno_listing.Tie as tie
 returns : tie.Need-returns
 returns c =
     let called = c .before .before .before .before .listing .ensures in
-    let crossed = amount-crosses _ _ _ _ _ (called .said) (c .amount-number .ensures .0) (c .amount-number .ensures .1) in
+    let crossed = c .amount-number .ensures _ (called .said) in
     (record { returned = crossed .returned; left = called .left }, crossed)
 
 pub pno-listing-spec : {M : Type 1} → statement M

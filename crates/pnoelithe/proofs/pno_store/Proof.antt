@@ -1,11 +1,11 @@
--- `pnoelithe::pno_store` meets its contract: what the call answers crosses as its number. Assumes nothing.
+-- `pnoelithe::pno_store` meets its contract: what the call answers crosses as its number, and the place where the name is wrong behind its pointer. Assumes nothing.
 use Rattle.pnoelithe.proofs.Crossings.{writing-crosses}
 use borrow.Author.Needs.{needs}
 use Rattle.pnoelithe.proofs.pno_store.Statement.{statement}
 use Rattle.pnoelithe.proofs.pno_store.Tie as tie
 
 returns : tie.Need-returns
-returns c = writing-crosses _ _ _ _ _ (c .answer-number .ensures) (c .before .before .before .store .ensures)
+returns c = writing-crosses _ _ _ _ _ _ _ (c .named-number .ensures _ _) (c .before .before .before .before .store .ensures)
 
 pub pno-store-spec : {M : Type 1} → statement M
 pno-store-spec = tie.close (tie.spec (λ c κs. search needs) (λ c κs. search needs) (λ c. search needs) returns)

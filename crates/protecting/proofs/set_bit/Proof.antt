@@ -13,7 +13,7 @@ use Rattle.rules.specs.Calls.Protect.{settingBit, setBitOf}
 use Rattle.rules.specs.declared.Opened.the-variants.{At}
 use Rattle.rules.proofs.Sectors.{sector-byte, sector-set}
 use Rattle.rules.proofs.Outcome.{done-meets}
-use Rattle.rules.proofs.Opening.{open-refused, change-refused, change-absent, change-found, is-file, in-volume}
+use Rattle.rules.proofs.Opening.{change-refused, change-misnamed, change-absent, change-found, is-file, in-volume}
 use borrow.Author.Needs.{needs}
 use Rattle.protecting.proofs.set_bit.Statement.{statement}
 use Rattle.protecting.proofs.set_bit.Tie as tie
@@ -21,15 +21,15 @@ use Rattle.protecting.proofs.set_bit.Tie as tie
 abbrev start : tie.After-find → tie.Start
 start c = c .before .before .before .before
 
-abbrev start₂ : tie.After-opened2 → tie.Start
+abbrev start₂ : tie.After-opened3 → tie.Start
 start₂ c = start (c .before .before)
 
-found : (c : tie.After-opened2) → openOf (start₂ c .args .image .now) (start₂ c .args .name .now) ≡ At (c .opened2 .given .0 .0) (c .opened2 .given .0 .1 .0)
-found c = sym (c .before .before .find .ensures) ∙ c .opened2 .given .1
+found : (c : tie.After-opened3) → openOf (start₂ c .args .image .now) (start₂ c .args .name .now) ≡ At (c .opened3 .given .0 .0) (c .opened3 .given .0 .1 .0)
+found c = sym (c .before .before .find .ensures) ∙ c .opened3 .given .1
 
 -- the status is inside the image
-inside : (c : tie.After-opened2) →
-    let k = c .opened2 .given .0 .1 .0 in
+inside : (c : tie.After-opened3) →
+    let k = c .opened3 .given .0 .1 .0 in
     (k < 1600) × (256 * k + 12 < length (start₂ c .args .image .now))
 inside c =
     let file = is-file _ _ _ _ (found c) in
@@ -40,22 +40,28 @@ unfolding setBitOf
 returns c =
     let o = c .before in
     let f = o .before .before in
-    let e = sym (f .find .ensures) ∙ o .opened .given .1 in
-    change-refused (start f .args .image .now) _ _ _ e (open-refused _ _ _ e)
+    change-refused (start f .args .image .now) _ _ _ (sym (f .find .ensures) ∙ o .opened .given .1)
 
 returns-2 : tie.Need-returns-2
 unfolding setBitOf
 returns-2 c =
+    let o = c .before in
+    let f = o .before .before in
+    change-misnamed (start f .args .image .now) _ _ _ (sym (f .find .ensures) ∙ o .opened2 .given .1)
+
+returns-3 : tie.Need-returns-3
+unfolding setBitOf
+returns-3 c =
     let f = c .before .before in
     change-absent (start f .args .image .now) _ _ (sym (f .find .ensures) ∙ c .enum-told .given .1)
 
-returns-3 : tie.Need-returns-3
+returns-4 : tie.Need-returns-4
 unfolding setBitOf settingBit written
-returns-3 c =
+returns-4 c =
     let o = c .before .before .before in
     let a = start₂ o .args in
     let image = a .image .now in
-    let k = o .opened2 .given .0 .1 .0 in
+    let k = o .opened3 .given .0 .1 .0 in
     let d = sectorOf image k in
     let met = done-meets image _ (write k (set d 12 (withBit (statusOf d) (a .j) (a .bit))) ∷ []) refl in
     let status = c .with-bit .ensures ∙ ap (λ (b : ℕ). withBit b (a .j) (a .bit)) (sym (sector-byte image k 12 (omega arith))) in
@@ -70,6 +76,7 @@ set-bit-spec =
     (λ c. search needs)
     (λ c. search needs)
     (λ c. search needs)
+    (λ c. search needs)
     (λ c. omega (arith, inside (c .before) .0))
     (λ c. omega (arith, inside (c .before) .0))
     (λ c. inside (c .before .before) .1)
@@ -80,4 +87,6 @@ set-bit-spec =
     (λ c. search needs)
     returns-2
     (λ c. search needs)
-    returns-3)
+    returns-3
+    (λ c. search needs)
+    returns-4)

@@ -1,6 +1,7 @@
 -- `reading::read` meets its contract: a case for each thing that the opener can say; of a file that is there, the number of the first test that was met. Assumes nothing.
 use mathlib.Core.Path.{_≡_, refl, sym, ap, _∙_}
-use Prim.Native.Nat.{_<_}
+use mathlib.Core.List.{List}
+use Prim.Native.Nat.{ℕ, _<_}
 use native.Mathlib.Omega.{arith}
 use lib.ListN.{length, getD}
 use borrow.Author.Tests.{le-leb, lt-leb, lt-ltb, le-ltb}
@@ -9,12 +10,14 @@ use Rattle.rules.specs.Sectors.{sectorOf}
 use Rattle.rules.specs.Descriptor.{sectorsOf, chainOf}
 use Rattle.rules.specs.Volume.{placesIn}
 use Rattle.rules.specs.Tests.{firstOf, unlessMet}
-use Rattle.rules.specs.Outcome.{ReadSays}
+use Rattle.rules.specs.Outcome.{Report, refuses, NamedSays, ReadSays, Gives}
 use Rattle.rules.specs.Opening.{openOf}
 use Rattle.rules.specs.Calls.Read.{readTests, reading, readOf}
+use Rattle.rules.specs.declared.WrongPlace.the-variants.{None}
+use Rattle.rules.specs.declared.NamedAnswer.the-variants.{Done, Refused}
 use Rattle.rules.specs.declared.Opened.the-variants.{At}
-use Rattle.rules.proofs.Outcome.{read-refused, read-done}
-use Rattle.rules.proofs.Opening.{opened-is, open-refused, file-refused, file-absent, on-found}
+use Rattle.rules.proofs.Outcome.{bare, gives-refusal, gives-done}
+use Rattle.rules.proofs.Opening.{opened-is, file-refused, file-misnamed, file-absent, on-found}
 use borrow.Author.Needs.{needs}
 use Rattle.reading.proofs.read.Statement.{statement}
 use Rattle.reading.proofs.read.Tie as tie
@@ -23,19 +26,19 @@ use Rattle.reading.proofs.read.Tie as tie
 abbrev start : tie.After-find → tie.Start
 start c = c .before .before .before .before
 
-abbrev start₂ : tie.After-opened2 → tie.Start
+abbrev start₂ : tie.After-opened3 → tie.Start
 start₂ c = start (c .before .before)
 
-abbrev file : tie.After-word → tie.After-opened2
+abbrev file : tie.After-word → tie.After-opened3
 file c = c .before .before .before
 
-found : (c : tie.After-opened2) → openOf (start₂ c .args .image .now) (start₂ c .args .name .now) ≡ At (c .opened2 .given .0 .0) (c .opened2 .given .0 .1 .0)
-found c = sym (c .before .before .find .ensures) ∙ c .opened2 .given .1
+found : (c : tie.After-opened3) → openOf (start₂ c .args .image .now) (start₂ c .args .name .now) ≡ At (c .opened3 .given .0 .0) (c .opened3 .given .0 .1 .0)
+found c = sym (c .before .before .find .ensures) ∙ c .opened3 .given .1
 
-count-is : (c : tie.After-word) → sectorsOf (sectorOf (start₂ (file c) .args .image .now) (file c .opened2 .given .0 .1 .0)) ≡ c .word .result
+count-is : (c : tie.After-word) → sectorsOf (sectorOf (start₂ (file c) .args .image .now) (file c .opened3 .given .0 .1 .0)) ≡ c .word .result
 count-is c = rw (← c .before .sector-of .ensures) (sym (c .word .ensures .0))
 
-inside : (c : tie.Else1) → start₂ (file (c .before)) .args .offset < sectorsOf (sectorOf (start₂ (file (c .before)) .args .image .now) (file (c .before) .opened2 .given .0 .1 .0))
+inside : (c : tie.Else1) → start₂ (file (c .before)) .args .offset < sectorsOf (sectorOf (start₂ (file (c .before)) .args .image .now) (file (c .before) .opened3 .given .0 .1 .0))
 inside c = omega (arith, count-is (c .before), c .if1 .left)
 
 sector-of-requires : tie.Need-sector-of-requires
@@ -43,14 +46,19 @@ sector-of-requires c κs =
     let is = opened-is _ _ _ _ (found (c .before)) in
     omega (arith, is .low, is .whole .size)
 
+-- a test that was met
+refused-15 : (out : List ℕ) (report : Report) → report ≡ refuses 15 → Gives (ReadSays None) report (Refused 15) out out
+unfolding NamedSays
+refused-15 out report e = gives-refusal (ReadSays None) (Refused 15) out report 15 (bare 15 refl) e
+
 returns : tie.Need-returns
 unfolding readOf reading readTests firstOf unlessMet
 returns c =
     let w = c .before in
     let o = file w in
     let a = start₂ o .args in
-    on-found _ _ _ ReadSays _ _ (found o) _ _
-    (rw (le-leb (sectorsOf (sectorOf (a .image .now) (o .opened2 .given .0 .1 .0))) (a .offset) (omega (arith, count-is w, c .if1 .taken))) (read-refused (a .out .now) _ 15 (λ z. omega arith) refl))
+    on-found _ _ _ _ ReadSays _ _ (found o) _ _
+    (rw (le-leb (sectorsOf (sectorOf (a .image .now) (o .opened3 .given .0 .1 .0))) (a .offset) (omega (arith, count-is w, c .if1 .taken))) (refused-15 (a .out .now) _ refl))
 
 returns-2 : tie.Need-returns-2
 unfolding readOf reading readTests firstOf unlessMet
@@ -58,26 +66,32 @@ returns-2 c =
     let l = c .before in
     let o = file (l .before) in
     let a = start₂ o .args in
-    on-found _ _ _ ReadSays _ _ (found o) _ _
-    (rw (lt-leb (sectorsOf (sectorOf (a .image .now) (o .opened2 .given .0 .1 .0))) (a .offset) (inside l), lt-ltb (length (a .out .now)) 256 (c .if2 .taken)) (read-refused (a .out .now) _ 15 (λ z. omega arith) refl))
+    on-found _ _ _ _ ReadSays _ _ (found o) _ _
+    (rw (lt-leb (sectorsOf (sectorOf (a .image .now) (o .opened3 .given .0 .1 .0))) (a .offset) (inside l), lt-ltb (length (a .out .now)) 256 (c .if2 .taken)) (refused-15 (a .out .now) _ refl))
 
 returns-3 : tie.Need-returns-3
 unfolding readOf
 returns-3 c =
     let o = c .before in
     let f = o .before .before in
-    let e = sym (f .find .ensures) ∙ o .opened .given .1 in
-    file-refused (start f .args .out .now) _ _ _ e (open-refused _ _ _ e)
+    file-refused _ _ (start f .args .out .now) _ _ (sym (f .find .ensures) ∙ o .opened .given .1)
 
 returns-4 : tie.Need-returns-4
 unfolding readOf
 returns-4 c =
-    let f = c .before .before in
-    file-absent (start f .args .out .now) _ _ (sym (f .find .ensures) ∙ c .enum-told .given .1)
+    let o = c .before in
+    let f = o .before .before in
+    file-misnamed _ _ (start f .args .out .now) _ _ (sym (f .find .ensures) ∙ o .opened2 .given .1)
 
 returns-5 : tie.Need-returns-5
-unfolding readOf reading readTests firstOf unlessMet placesIn chainOf
+unfolding readOf
 returns-5 c =
+    let f = c .before .before in
+    file-absent _ _ (start f .args .out .now) _ (sym (f .find .ensures) ∙ c .enum-told .given .1)
+
+returns-6 : tie.Need-returns-6
+unfolding readOf reading readTests firstOf unlessMet placesIn chainOf NamedSays
+returns-6 c =
     let y = c .before .before in
     let s2 = y .before in
     let p = s2 .before .before in
@@ -88,9 +102,9 @@ returns-5 c =
     let s = w .before in
     let o = file w in
     let a = start₂ o .args in
-    let k = o .opened2 .given .0 .1 .0 in
-    let given = read-done (a .out .now) _ 0 (sectorOf (a .image .now) (getD (placesIn (a .image .now) k) (a .offset) 0)) refl in
-    on-found _ _ _ ReadSays _ _ (found o) _ _
+    let k = o .opened3 .given .0 .1 .0 in
+    let given = gives-done (ReadSays None) Done (a .out .now) _ 0 (sectorOf (a .image .now) (getD (placesIn (a .image .now) k) (a .offset) 0)) refl refl in
+    on-found _ _ _ _ ReadSays _ _ (found o) _ _
     (rw (lt-leb (sectorsOf (sectorOf (a .image .now) k)) (a .offset) (inside l), le-ltb (length (a .out .now)) 256 (r .if2 .left))
     (record {
       said = given .said;
@@ -105,6 +119,7 @@ read-spec =
     (λ c. search needs)
     (λ c. search needs)
     (λ c. search needs)
+    (λ c. search needs)
     sector-of-requires
     (λ c κs. search needs)
     returns
@@ -115,5 +130,6 @@ read-spec =
     (λ c κs. search needs)
     returns-3
     returns-4
+    returns-5
     (λ c. search needs)
-    returns-5)
+    returns-6)

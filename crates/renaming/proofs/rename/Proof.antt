@@ -1,128 +1,137 @@
--- `renaming::rename` meets its contract: the tests of both names one after the other, then a case for each thing that the search for the old one can say. Assumes nothing.
-use mathlib.Core.Path.{_≡_, sym, _∙_}
-use mathlib.Core.Bool.{true, false, not}
-use mathlib.Core.List.{List, [], _∷_}
+-- `renaming::rename` meets its contract: the judge's number, then the place where the old name is wrong, then the new one's, then a case for each thing that the search for the old one can say. Assumes nothing.
+use mathlib.Core.Path.{_≡_, refl, sym, ap, _∙_}
+use mathlib.Core.List.{List}
 use Prim.Native.Nat.{ℕ}
 use native.Mathlib.Omega.{arith}
-use borrow.Author.Tests.{not-true, not-false}
-use Rattle.rules.specs.Name.{nameRule}
+use Rattle.rules.specs.Name.{wrongPlace}
+use Rattle.rules.specs.Volume.{files}
 use Rattle.rules.specs.Verdict.{verdict}
-use Rattle.rules.specs.Tests.{refuse, firstOf}
-use Rattle.rules.specs.Opening.{nameTests, opening}
-use Rattle.rules.specs.Calls.Rename.{namesTests, renameOf}
-use Rattle.rules.specs.declared.Opened.the-variants.{At}
-use Rattle.rules.proofs.Tests.{first-met, first-passed}
-use Rattle.rules.proofs.Opening.{find-looks, opening-passed, opening-met, unsound-number, unnamed-number, named-number, open-passed, is-file, change-refused, change-absent, change-found}
+use Rattle.rules.specs.Outcome.{RenameSays}
+use Rattle.rules.specs.Opening.{findIn}
+use Rattle.rules.specs.Calls.Rename.{openBoth, renameOf}
+use Rattle.rules.specs.declared.WrongPlace.the-variants as wrong
+use Rattle.rules.specs.declared.RenameAnswer.the-variants as renamed
+use Rattle.rules.specs.declared.Opened.the-variants.{At, Refused, Misnamed}
+use Rattle.rules.proofs.Verdict.{verdict-small}
+use Rattle.rules.proofs.Misnamed.{none-rule}
+use Rattle.rules.proofs.Outcome.{bare, meets-refusal}
+use Rattle.rules.proofs.Opening.{on-unsound, on-sound, under-wrong, under-kept, open-looked, is-file, changing-refused, changing-misnamed, changing-absent, changing-found}
+use Rattle.renaming.proofs.Lost.{lost-absent}
 use borrow.Author.Needs.{needs}
 use Rattle.renaming.proofs.rename.Statement.{statement}
 use Rattle.renaming.proofs.rename.Tie as tie
 
--- which test gives which number
+-- what is opened, test by test
 module _ (image old new : List ℕ) where
-  unsound : (verdict image ≡ 0 → ⊥) → firstOf (namesTests image old new) ≡ verdict image
-  unfolding namesTests
-  unsound some = let first = unsound-number image old some in first-met _ _ (λ z. some (sym first ∙ z)) ∙ first
+  unsound : (verdict image ≡ 0 → ⊥) → openBoth image old new ≡ Refused (verdict image)
+  unfolding openBoth
+  unsound some = on-unsound image _ some
 
   module _ (sound : verdict image ≡ 0) where
-    misnamed : nameRule old ≡ false → firstOf (namesTests image old new) ≡ 7
-    unfolding namesTests
-    misnamed broken = let first = unnamed-number image old sound broken in first-met _ _ (λ z. omega (arith, first, z)) ∙ first
+    misnamed : (place : ℕ) → wrongPlace old ≡ wrong.At place → openBoth image old new ≡ Misnamed place
+    unfolding openBoth
+    misnamed place there = on-sound image _ sound ∙ under-wrong old _ place there
 
-    misnamed-new : nameRule old ≡ true → nameRule new ≡ false → firstOf (namesTests image old new) ≡ 7
-    unfolding namesTests firstOf
-    misnamed-new ruled broken = first-passed (nameTests image old) (refuse 7 (not (nameRule new)) ∷ []) (named-number image old sound ruled) ∙ rw broken
+    module _ (kept : wrongPlace old ≡ wrong.None) where
+      misnamed-new : (place : ℕ) → wrongPlace new ≡ wrong.At place → openBoth image old new ≡ Misnamed place
+      unfolding openBoth
+      misnamed-new place there = on-sound image _ sound ∙ under-kept old _ kept ∙ under-wrong new _ place there
 
-    named-both : nameRule old ≡ true → nameRule new ≡ true → firstOf (namesTests image old new) ≡ 0
-    unfolding namesTests firstOf
-    named-both ruled ruled-new = first-passed (nameTests image old) (refuse 7 (not (nameRule new)) ∷ []) (named-number image old sound ruled) ∙ rw ruled-new
+      looked : wrongPlace new ≡ wrong.None → openBoth image old new ≡ findIn image old 0 (files image)
+      unfolding openBoth
+      looked kept-new = on-sound image _ sound ∙ under-kept old _ kept ∙ under-kept new _ kept-new
 
 -- the ways back: to each test that was passed
 abbrev start : tie.After-judge → tie.Start
 start c = c .before .before .before .before .before
 
-abbrev start₂ : tie.Else2 → tie.Start
-start₂ c = start (c .before .before .before)
+abbrev start₂ : tie.After-wrong-place → tie.Start
+start₂ c = start (c .before .before)
 
-abbrev start₃ : tie.Else3 → tie.Start
-start₃ c = start₂ (c .before .before)
+abbrev tested : tie.After-enum-told → tie.After-wrong-place
+tested c = c .before .before
 
-abbrev ruled : tie.After-find-in → tie.Else3
-ruled c = c .before .before
+abbrev tested-new : tie.After-enum-told2 → tie.After-wrong-place2
+tested-new c = c .before .before
+
+abbrev start₃ : tie.After-wrong-place2 → tie.Start
+start₃ c = start₂ (tested (c .before))
+
+abbrev passed : tie.After-find-in → tie.After-enum-told2
+passed c = c .before .before
+
+abbrev start₄ : tie.After-find-in → tie.Start
+start₄ c = start₃ (tested-new (passed c))
 
 sound : (c : tie.Else1) → verdict (start (c .before) .args .image .now) ≡ 0
 sound c = sym (c .before .judge .ensures) ∙ c .if1 .left
 
-named : (c : tie.Else2) → nameRule (start₂ c .args .old .now) ≡ true
-named c = sym (c .before .name-rule .ensures) ∙ not-false (c .before .name-rule .result) (c .if2 .left)
+kept : (c : tie.After-enum-told) → wrongPlace (start₂ (tested c) .args .old .now) ≡ wrong.None
+kept c = sym (tested c .wrong-place .ensures) ∙ c .enum-told .given .1
 
-named-new : (c : tie.Else3) → nameRule (start₃ c .args .new .now) ≡ true
-named-new c = sym (c .before .name-rule2 .ensures) ∙ not-false (c .before .name-rule2 .result) (c .if3 .left)
+kept-new : (c : tie.After-enum-told2) → wrongPlace (start₃ (tested-new c) .args .new .now) ≡ wrong.None
+kept-new c = sym (tested-new c .wrong-place2 .ensures) ∙ c .enum-told2 .given .1
 
 -- both names passed: what the search gives
-passed : (c : tie.Else3) →
-    let a = start₃ c .args in
-    firstOf (namesTests (a .image .now) (a .old .now) (a .new .now)) ≡ 0
-passed c = let e = c .before .before in named-both _ _ _ (sound (e .before .before)) (named e) (named-new c)
-
 opens : (c : tie.After-find-in) →
-    let a = start₃ (ruled c) .args in
-    opening (namesTests (a .image .now) (a .old .now) (a .new .now)) (a .image .now) (a .old .now) ≡ c .find-in .result
-opens c = opening-passed _ _ _ (passed (ruled c)) ∙ sym (c .find-in .ensures)
-
-found : (c : tie.After-opened2) →
-    let a = start₃ (ruled (c .before .before)) .args in
-    opening (namesTests (a .image .now) (a .old .now) (a .new .now)) (a .image .now) (a .old .now) ≡ At (c .opened2 .given .0 .0) (c .opened2 .given .0 .1 .0)
-found c = opens (c .before .before) ∙ c .opened2 .given .1
+    let a = start₄ c .args in
+    openBoth (a .image .now) (a .old .now) (a .new .now) ≡ c .find-in .result
+opens c =
+    let new = passed c in
+    let old = tested-new new .before in
+    looked _ _ _ (sound (tested old .before)) (kept old) (kept-new new) ∙ sym (c .find-in .ensures)
 
 returns : tie.Need-returns
-unfolding renameOf
+unfolding renameOf RenameSays
 returns c =
     let j = c .before in
-    let a = start j .args in
-    change-refused (a .image .now) _ _ _
-    (opening-met (namesTests (a .image .now) (a .old .now) (a .new .now)) _ _ _ (unsound _ _ _ (λ z. c .if1 .taken (j .judge .ensures ∙ z)) ∙ sym (j .judge .ensures)) (c .if1 .taken)) (c .if1 .taken)
+    let image = start j .args .image .now in
+    let is = j .judge .ensures in
+    meets-refusal (RenameSays _ _) (renamed.Refused _) image _ _
+    (refl, c .if1 .taken, λ z. omega (arith, z, is, verdict-small image))
+    (changing-refused _ _ _ (unsound _ _ _ (λ z. c .if1 .taken (is ∙ z)) ∙ ap Refused (sym is)))
 
 returns-2 : tie.Need-returns-2
-unfolding renameOf
+unfolding renameOf RenameSays
 returns-2 c =
-    let n = c .before in
-    let a = start (n .before .before) .args in
-    let broken = sym (n .name-rule .ensures) ∙ not-true (n .name-rule .result) (c .if2 .taken) in
-    change-refused (a .image .now) _ _ 7 (opening-met (namesTests (a .image .now) (a .old .now) (a .new .now)) _ _ 7 (misnamed _ _ _ (sound (n .before)) broken) (λ z. omega arith)) (λ z. omega arith)
+    let p = c .before in
+    let w = p .before .before in
+    let there = sym (w .wrong-place .ensures) ∙ p .place .given .1 in
+    meets-refusal (RenameSays _ _) (renamed.OldMisnamed _) (start₂ w .args .image .now) _ 7 (refl, there)
+    (changing-misnamed _ _ _ (misnamed _ _ _ (sound (w .before)) _ there))
 
 returns-3 : tie.Need-returns-3
-unfolding renameOf
+unfolding renameOf RenameSays
 returns-3 c =
-    let n = c .before in
-    let e = n .before in
-    let a = start₂ e .args in
-    let broken = sym (n .name-rule2 .ensures) ∙ not-true (n .name-rule2 .result) (c .if3 .taken) in
-    change-refused (a .image .now) _ _ 7 (opening-met (namesTests (a .image .now) (a .old .now) (a .new .now)) _ _ 7 (misnamed-new _ _ _ (sound (e .before .before)) (named e) broken) (λ z. omega arith)) (λ z. omega arith)
+    let p = c .before in
+    let w = p .before .before in
+    let old = w .before in
+    let there = sym (w .wrong-place2 .ensures) ∙ p .place2 .given .1 in
+    meets-refusal (RenameSays _ _) (renamed.NewMisnamed _) (start₃ w .args .image .now) _ 7 (refl, kept old, there)
+    (changing-misnamed _ _ _ (misnamed-new _ _ _ (sound (tested old .before)) (kept old) _ there))
+
+returns-4 : tie.Need-returns-4
+unfolding renameOf RenameSays
+returns-4 c =
+    let f = c .before in
+    meets-refusal (RenameSays _ _) (renamed.Refused 8) (start₄ f .args .image .now) _ 8 (bare 8 refl)
+    (changing-absent _ _ (opens f ∙ lost-absent _ _ _ _ _ (f .find-in .ensures) (c .match3 .keys2)))
 
 rename-at-requires : tie.Need-rename-at-requires
 rename-at-requires c κs =
     let o = c .before .before in
     let f = o .before .before in
-    let r = ruled f in
-    let e = r .before .before in
-    (is-file _ _ _ _ (open-passed _ _ (named-number _ _ (sound (e .before .before)) (named e)) ∙ sym (f .find-in .ensures) ∙ o .opened2 .given .1), named-new r)
-
-returns-4 : tie.Need-returns-4
-returns-4 c =
-    let o = c .before in
-    absurd (find-looks _ _ _ _ _ (sym (o .before .before .find-in .ensures) ∙ o .opened .given .1))
+    let old = tested-new (passed f) .before in
+    (is-file _ _ _ _ (open-looked _ _ (sound (tested old .before)) (kept old) ∙ sym (f .find-in .ensures) ∙ o .k .given .1), none-rule _ (kept-new (passed f)))
 
 returns-5 : tie.Need-returns-5
 unfolding renameOf
 returns-5 c =
-    let f = c .before .before in
-    change-absent (start₃ (ruled f) .args .image .now) _ _ (opens f ∙ c .enum-told .given .1)
-
-returns-6 : tie.Need-returns-6
-unfolding renameOf
-returns-6 c =
     let done = c .before .before in
-    change-found _ _ _ _ _ (found (done .before .before .before)) _ _ (done .rename-at .ensures)
+    let o = done .before .before .before in
+    let f = o .before .before in
+    let new = passed f in
+    rw (kept (tested-new new .before), kept-new new, changing-found _ _ _ _ (opens f ∙ o .k .given .1)) (done .rename-at .ensures)
 
 pub rename-spec : {M : Type 1} → statement M
 rename-spec =
@@ -133,18 +142,18 @@ rename-spec =
     returns
     (λ c κs. search needs)
     (λ c. search needs)
+    (λ c. search needs)
     returns-2
+    (λ c. search needs)
     (λ c κs. search needs)
+    (λ c. search needs)
     (λ c. search needs)
     returns-3
+    (λ c. search needs)
     (λ c κs. search needs)
     (λ c. search needs)
     (λ c. search needs)
-    (λ c. search needs)
+    returns-4
     rename-at-requires
     (λ c. search needs)
-    returns-4
-    (λ c. search needs)
-    returns-5
-    (λ c. search needs)
-    returns-6)
+    returns-5)

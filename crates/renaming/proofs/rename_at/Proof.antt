@@ -1,4 +1,4 @@
--- `renaming::rename_at` meets its contract: a case for each thing that the search for the new name can say; the name laid over the image and sector 1 anew are the definition's writes. Assumes nothing.
+-- `renaming::rename_at` meets its contract: a file of the new name refuses it; where there is none, the name laid over the image and sector 1 anew are the definition's writes. Assumes nothing.
 use mathlib.Core.Path.{_≡_, refl, sym, ap, _∙_}
 use mathlib.Core.List.{List, [], _∷_}
 use Prim.Native.Nat.{ℕ}
@@ -10,16 +10,19 @@ use Rattle.rules.specs.Descriptor.{statusOf}
 use Rattle.rules.specs.Index.{indexOf, without}
 use Rattle.rules.specs.Volume.{files, placed}
 use Rattle.rules.specs.Tests.{firstOf, unlessMet}
-use Rattle.rules.specs.Outcome.{write}
+use Rattle.rules.specs.Outcome.{write, RenameSays}
 use Rattle.rules.specs.Opening.{findIn}
 use Rattle.rules.specs.Calls.Rename.{renameTests, renaming}
+use Rattle.rules.specs.declared.WrongPlace.the-variants.{None}
+use Rattle.rules.specs.declared.RenameAnswer.the-variants.{Done, Refused}
 use Rattle.rules.specs.declared.Opened.the-variants.{Absent}
 use Rattle.rules.proofs.Sectors.{sector-laid}
 use Rattle.rules.proofs.Name.{name-is}
 use Rattle.rules.proofs.Indexed.{index-length}
 use Rattle.rules.proofs.Status.{protected, unprotected}
-use Rattle.rules.proofs.Outcome.{refusal-meets, done-meets}
-use Rattle.rules.proofs.Opening.{find-looks, in-volume, add-present, add-absent}
+use Rattle.rules.proofs.Outcome.{bare, meets-refusal, meets-done}
+use Rattle.rules.proofs.Opening.{in-volume, adding-present, adding-absent}
+use Rattle.renaming.proofs.Lost.{lost-absent}
 use borrow.Author.Needs.{needs}
 use Rattle.renaming.proofs.rename_at.Statement.{statement}
 use Rattle.renaming.proofs.rename_at.Tie as tie
@@ -28,33 +31,39 @@ use Rattle.renaming.proofs.rename_at.Tie as tie
 abbrev start : tie.After-find-in → tie.Start
 start c = c .before .before .before .before
 
-abbrev told : tie.After-byte → tie.After-enum-told2
-told c = c .before .before .before
+abbrev lost : tie.After-byte → tie.At-match-keys2
+lost c = c .before .before .before
 
-abbrev start₂ : tie.After-enum-told2 → tie.Start
-start₂ c = start (c .before .before)
+abbrev start₂ : tie.At-match-keys2 → tie.Start
+start₂ c = start (c .before)
 
 abbrev start₃ : tie.After-byte → tie.Start
-start₃ c = start₂ (told c)
+start₃ c = start₂ (lost c)
 
-absent : (c : tie.After-enum-told2) →
+absent : (c : tie.At-match-keys2) →
     let a = start₂ c .args in
     findIn (a .image .now) (a .new .now) 0 (files (a .image .now)) ≡ Absent
-absent c = sym (c .before .before .find-in .ensures) ∙ c .enum-told2 .given .1
+absent c = let is = c .before .find-in .ensures in sym is ∙ lost-absent _ _ _ _ _ is (c .match .keys2)
 
 status-is : (c : tie.After-byte) → c .byte .result ≡ statusOf (sectorOf (start₃ c .args .image .now) (start₃ c .args .k))
 status-is c = c .byte .ensures .0 ∙ ap (λ (s : List ℕ). byteAt s 12) (c .before .sector-of .ensures)
 
+returns : tie.Need-returns
+unfolding renaming RenameSays
+returns c =
+    let f = c .before .before in
+    meets-refusal (RenameSays None None) (Refused 9) (start f .args .image .now) _ 9 (bare 9 refl) (adding-present _ _ _ _ (sym (f .find-in .ensures) ∙ c .enum-told .given .1))
+
 sector-of-requires : tie.Need-sector-of-requires
 sector-of-requires c κs = let file = start₂ (c .before) .pre .0 in omega (arith, in-volume _ _ file, file .sound .size)
 
-returns : tie.Need-returns
-unfolding renaming renameTests firstOf unlessMet
-returns c =
+returns-2 : tie.Need-returns-2
+unfolding renaming renameTests firstOf unlessMet RenameSays
+returns-2 c =
     let b = c .before in
     let a = start₃ b .args in
-    add-absent (a .image .now) _ _ (absent (told b)) _ _
-    (rw (protected (sectorOf (a .image .now) (a .k)) _ (status-is b) (c .if1 .taken)) (refusal-meets (a .image .now) _ 10 (λ z. omega arith) refl))
+    meets-refusal (RenameSays None None) (Refused 10) (a .image .now) _ 10 (bare 10 refl)
+    (adding-absent _ _ (absent (lost b)) ∙ rw (protected (sectorOf (a .image .now) (a .k)) _ (status-is b) (c .if1 .taken)))
 
 moved-requires : tie.Need-moved-requires
 moved-requires c κs = (refl, start₃ (c .before .before .before) .pre .0)
@@ -65,20 +74,9 @@ mul-lay c = let file = start₃ (c .before .before .before .before .before) .pre
 slice-aggregate-write-sector : tie.Need-slice-aggregate-write-sector
 slice-aggregate-write-sector c = sym (ap length (c .before .before .before .before .before .before .moved .ensures) ∙ index-length _)
 
-returns-2 : tie.Need-returns-2
-returns-2 c =
-    let o = c .before in
-    absurd (find-looks _ _ _ _ _ (sym (o .before .before .find-in .ensures) ∙ o .present .given .1))
-
 returns-3 : tie.Need-returns-3
-unfolding renaming
+unfolding renaming renameTests firstOf unlessMet written RenameSays
 returns-3 c =
-    let f = c .before .before in
-    add-present (start f .args .image .now) _ _ _ _ (sym (f .find-in .ensures) ∙ c .enum-told .given .1)
-
-returns-4 : tie.Need-returns-4
-unfolding renaming renameTests firstOf unlessMet written
-returns-4 c =
     let second = c .before .before in
     let first = second .before .before .before .before .before in
     let index = first .before .before in
@@ -87,11 +85,10 @@ returns-4 c =
     let s = start₃ b in
     let a = s .args in
     let image = a .image .now in
-    let met = done-meets image _ (write (a .k) (splice (sectorOf image (a .k)) 0 (a .new .now)) ∷ (write 1 (indexOf (placed image (a .new .now) (a .k) (without (a .k) (files image)))) ∷ [])) refl in
+    let writes = write (a .k) (splice (sectorOf image (a .k)) 0 (a .new .now)) ∷ (write 1 (indexOf (placed image (a .new .now) (a .k) (without (a .k) (files image)))) ∷ []) in
+    let met = meets-done (RenameSays None None) Done image (renaming image (a .new .now) (a .k)) writes refl (adding-absent _ _ (absent (lost b)) ∙ rw (unprotected (sectorOf image (a .k)) _ (status-is b) (free .if1 .left))) in
     let named = first .lay .ensures ∙ sym (sector-laid image (a .k) (a .new .now) (omega (arith, name-is _ (s .pre .1) .ten))) in
-    add-absent image _ _ (absent (told b)) _ _
-    (rw (unprotected (sectorOf image (a .k)) _ (status-is b) (free .if1 .left))
-    (record { said = met .said; left = rw (second .write-sector .ensures, named, index .moved .ensures) }))
+    record { said = met .said; left = rw (second .write-sector .ensures, named, index .moved .ensures) (met .left) }
 
 pub rename-at-spec : {M : Type 1} → statement M
 rename-at-spec =
@@ -100,19 +97,15 @@ rename-at-spec =
     (λ c κs. search needs)
     (λ c. search needs)
     (λ c. search needs)
-    (λ c. search needs)
+    returns
     sector-of-requires
     (λ c κs. search needs)
     (λ c. search needs)
-    returns
+    returns-2
     moved-requires
     mul-lay
     (λ c κs. search needs)
     slice-aggregate-write-sector
     (λ c κs. search needs)
     (λ c. search needs)
-    returns-2
-    (λ c. search needs)
-    returns-3
-    (λ c. search needs)
-    returns-4)
+    returns-3)

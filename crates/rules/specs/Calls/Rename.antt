@@ -1,17 +1,16 @@
 -- Renaming changes the ten name bytes and the order in sector 1. Both names are tested for 7 first; 9 also where the new name is the old one.
-use mathlib.Core.Bool.{not}
-use mathlib.Core.List.{List, [], _∷_, _++_}
+use mathlib.Core.List.{List, [], _∷_}
 use Prim.Native.Nat.{ℕ}
 use Rattle.rules.specs.Bytes.{splice}
 use Rattle.rules.specs.Sectors.{sectorOf}
-use Rattle.rules.specs.Name.{nameRule}
 use Rattle.rules.specs.Kind.{isProtected}
 use Rattle.rules.specs.Descriptor.{statusOf}
 use Rattle.rules.specs.Index.{indexOf, without}
 use Rattle.rules.specs.Volume.{files, placed}
 use Rattle.rules.specs.Tests.{Test, refuse}
 use Rattle.rules.specs.Outcome.{Outcome, write, tested}
-use Rattle.rules.specs.Opening.{findIn, opening, nameTests, changing, adding}
+use Rattle.rules.specs.Opening.{findIn, onSound, underName, changing, adding}
+use Rattle.rules.specs.declared.Opened.{Opened}
 
 -- of the file at k
 unfoldable pub renameTests : List ℕ → ℕ → List Test
@@ -22,9 +21,9 @@ renaming image new k =
     adding (findIn image new 0 (files image))
     (tested (renameTests image k) (write k (splice (sectorOf image k) 0 new) ∷ (write 1 (indexOf (placed image new k (without k (files image)))) ∷ [])))
 
--- numbers 1 to 7
-unfoldable pub namesTests : List ℕ → List ℕ → List ℕ → List Test
-namesTests image old new = nameTests image old ++ (refuse 7 (not (nameRule new)) ∷ [])
+-- the old name is tested wholly before the new one, and both before the file is looked for
+unfoldable pub openBoth : List ℕ → List ℕ → List ℕ → Opened
+openBoth image old new = onSound image (underName old (underName new (findIn image old 0 (files image))))
 
 unfoldable pub renameOf : List ℕ → List ℕ → List ℕ → Outcome
-renameOf image old new = changing (opening (namesTests image old new) image old) (renaming image new)
+renameOf image old new = changing (openBoth image old new) (renaming image new)

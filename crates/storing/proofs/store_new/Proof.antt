@@ -49,7 +49,7 @@ abbrev choosing : tie.After-write-program → tie.After-descriptor-choice
 choosing c = c .before .before
 
 returns : tie.Need-returns
-returns c = refusal-meets _ _ 15 (λ z. omega arith) (too-long _ _ _ (omega (arith, c .if1 .taken)))
+returns c = refusal-meets _ _ 15 refl (too-long _ _ _ (omega (arith, c .if1 .taken)))
 
 -- the bytes are not too many
 short : (c : tie.Else1) → length (start c .args .bytes .now) ≤ 32768
@@ -66,7 +66,7 @@ returns-2 : tie.Need-returns-2
 returns-2 c =
     let e = length-tested (c .before) in
     let full = place-some (start e .args .image .now) 126 (start e .pre .0) (λ z. c .if2 .taken (word-is (c .before) ∙ z)) in
-    refusal-meets _ _ 11 (λ z. omega arith) (no-place _ _ _ (short e) (full .0))
+    refusal-meets _ _ 11 refl (no-place _ _ _ (short e) (full .0))
 
 -- the tests that have passed
 has-place : (c : tie.Else2) → length (files (start₂ c .args .image .now)) ≤ 126
@@ -80,7 +80,7 @@ has-free c = omega (arith, free-is (c .before), c .if3 .left)
 returns-3 : tie.Need-returns-3
 returns-3 c =
     let passed = place (c .before) in
-    refusal-meets _ _ 12 (λ z. omega arith) (too-few-free _ _ _ (short (length-tested (passed .before))) (has-place passed) (omega (arith, free-is (c .before), c .if3 .taken)))
+    refusal-meets _ _ 12 refl (too-few-free _ _ _ (short (length-tested (passed .before))) (has-place passed) (omega (arith, free-is (c .before), c .if3 .taken)))
 
 -- the sector chosen
 chosen : (c : tie.After-descriptor-choice) → c .descriptor-choice .result ≡ descriptorChoice (sectorOf (at-start c .args .image .now) 0)
@@ -114,7 +114,7 @@ returns-4 c =
     let choice = choosing p in
     let counted = free-tested choice in
     let is = program-is p false (not-true _ (c .if4 .taken)) in
-    let met = refusal-meets (at-start choice .args .image .now) _ 13 (λ z. omega arith) (too-scattered _ _ _ (at-length choice) (has-place (place (counted .before))) (has-free counted) (is .0)) in
+    let met = refusal-meets (at-start choice .args .image .now) _ 13 refl (too-scattered _ _ _ (at-length choice) (has-place (place (counted .before))) (has-free counted) (is .0)) in
     record { said = met .said; left = is .1 ∙ met .left }
 
 returns-5 : tie.Need-returns-5
