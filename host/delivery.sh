@@ -99,7 +99,7 @@ END
         echo '0 done'
         texts
         printf '%s no number of this library\n' 16 17 18 19 20 4294967295
-        echo 'version 0.2.1'
+        echo 'version 0.3.0'
         printf '%s\n' 'KIND 14' 'NOT_PROGRAM 14' 'ARGUMENT 15' 'SIZE 15'
         sizes
     } >"$work/expected"
@@ -108,7 +108,7 @@ END
 
 # The wrapper is copied beside a program, as hosts do. No call is made, so there is nothing to link.
 show_wrapper() {
-    local refusal refusals='Length Label Index Descriptor TwoHolders Map Name NotFound Present
+    local refusal refusals='Length Label Index Descriptor TwoHolders Map Name{place:0} NotFound Present
         Protected IndexFull DiskFull ChainFull Kind Argument'
     if ! command -v rustc >/dev/null; then
         echo "the header is not held to pnoelithe.rs: there is no rustc"
@@ -119,18 +119,25 @@ show_wrapper() {
     {
         echo '#[allow(dead_code)]'
         echo 'mod pnoelithe;'
-        echo 'use pnoelithe::Refusal;'
+        echo 'use pnoelithe::{Refusal, RenameRefusal, Which};'
         echo 'fn main() {'
         for refusal in $refusals; do
             echo "    println!(\"{} {}\", Refusal::$refusal.number(), Refusal::$refusal);"
         done
         sizes | sed 's/\(.*\) .*/    println!("\1 {}", pnoelithe::\1);/'
-        echo '}'
+        cat <<'END'
+    for which in [Some(Which::Old), Some(Which::New), None] {
+        let renaming = RenameRefusal { refusal: Refusal::Name { place: 3 }, which };
+        println!("{}; {:?}", renaming, Refusal::from(renaming));
+    }
+}
+END
     } >"$work/rust/show.rs"
     rustc --edition 2021 -D warnings "$work/rust/show.rs" -o "$work/rust/show"
     {
         texts
         sizes
+        printf '%s breaks its rule; Name { place: 3 }\n' 'the old name' 'the new name' 'a name'
     } >"$work/expected"
     must_print "$work/rust/show"
     echo "the header and pnoelithe.rs have the same texts and sizes"
@@ -147,10 +154,10 @@ write_own_host() {
 int main(void) {
     static uint8_t image[40 * PNO_SECTOR_BYTES], text[PNO_LISTING_MOST];
     const uint8_t disk[] = "OWN       ", name[] = "HELLO     ", bytes[] = {1, 2, 3, 4, 5};
-    size_t length = 0;
-    uint32_t number = pno_format(image, sizeof image, 40, disk, PNO_NAME_BYTES, 9, 40, 1, 1);
+    size_t length = 0, wrong = 0;
+    uint32_t number = pno_format(image, sizeof image, 40, disk, PNO_NAME_BYTES, 9, 40, 1, 1, &wrong);
     if (number == PNO_DONE)
-        number = pno_store(image, sizeof image, name, PNO_NAME_BYTES, bytes, sizeof bytes);
+        number = pno_store(image, sizeof image, name, PNO_NAME_BYTES, bytes, sizeof bytes, &wrong);
     if (number == PNO_DONE)
         number = pno_listing(image, sizeof image, text, sizeof text, &length);
     printf("%s: %s\n", PNO_VERSION, pno_text(number));
@@ -159,7 +166,7 @@ int main(void) {
 }
 END
     cat >"$work/expected" <<'END'
-0.2.1: done
+0.3.0: done
 OWN 40 36
 HELLO PROGRAM 5 1 U
 END
@@ -256,7 +263,7 @@ host_by_pkg_config() {
     read -r -a flags < <(pkg-config --cflags --libs pnoelithe)
     "${compiler[@]}" "${strict[@]}" "$own/host.c" "${flags[@]}" -o "$own/host"
     must_print "${emulator[@]}" "$own/host"
-    echo 0.2.1 >"$work/expected"
+    echo 0.3.0 >"$work/expected"
     must_print pkg-config --modversion pnoelithe
     echo "a host is built by pkg-config"
 }
@@ -296,10 +303,10 @@ int main() {
     std::vector<uint8_t> volume(40 * PNO_SECTOR_BYTES), text(PNO_LISTING_MOST), v;
     const uint8_t name[] = "EMPTY     ", none = 0;
     uint8_t *image = volume.data();
-    size_t image_len = volume.size(), name_len = PNO_NAME_BYTES, length = 0;
-    uint32_t number = pno_format(image, image_len, 40, name, name_len, 9, 40, 1, 1);
+    size_t image_len = volume.size(), name_len = PNO_NAME_BYTES, length = 0, wrong = 0;
+    uint32_t number = pno_format(image, image_len, 40, name, name_len, 9, 40, 1, 1, &wrong);
     if (number == PNO_DONE)
-        number = pno_store(image, image_len, name, name_len, v.empty() ? &none : v.data(), v.size());
+        number = pno_store(image, image_len, name, name_len, v.empty() ? &none : v.data(), v.size(), &wrong);
     if (number == PNO_DONE)
         number = pno_listing(image, image_len, text.data(), text.size(), &length);
     std::printf("%s\n", pno_text(number));

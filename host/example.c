@@ -12,10 +12,12 @@
  *     ./example IMAGE append NAME FILE       FILE at the end of the data file NAME, which is made where
  *                                            there is none; the rest of the last sector is zero
  *     ./example IMAGE delete NAME
+ *     ./example IMAGE rename NAME NEW        the file NAME under the name NEW
  *     ./example IMAGE pack FILE              the packed volume into FILE; IMAGE stays as it is
  *
  * Status 0: all is done. 1: a call is refused, and no file is written. 2: something cannot be read or
- * written, or the words are not those above. Standard error says why.
+ * written, or the words are not those above. Standard error says why, and of a name that breaks its rule
+ * which character does, counted from 1.
  *
  * A file is replaced as a whole: its bytes go to a file pnoelithe-XXXXXX beside it, which takes its name
  * when they are on the medium. Where that fails, the old file is as it was. It is so too where the program
@@ -40,6 +42,15 @@
 static uint8_t image[PNO_IMAGE_MOST + 1]; /* one byte more: an image that is too long has number 1 */
 static size_t image_len;
 static uint8_t bytes[PNO_IMAGE_MOST + 1];
+
+/* A name as it is lent: with its padding; of one that is too long, a byte more than names have. */
+struct name {
+    uint8_t bytes[PNO_NAME_BYTES + 1];
+    size_t len;
+};
+
+/* With number 7: where the name is wrong, and of a rename which of its two names it is. */
+static size_t wrong, which;
 
 /* Ends the program where something cannot be read or written; errno says why. */
 _Noreturn static void fail(const char *verb, const char *path) {
@@ -189,6 +200,15 @@ static void print(const void *text, size_t length) {
         fail("write", "standard output");
 }
 
+static struct name padded(const char *word) {
+    struct name name;
+    size_t length = strlen(word);
+    memset(name.bytes, ' ', sizeof name.bytes);
+    memcpy(name.bytes, word, length < sizeof name.bytes ? length : sizeof name.bytes);
+    name.len = length <= PNO_NAME_BYTES ? PNO_NAME_BYTES : sizeof name.bytes;
+    return name;
+}
+
 static uint32_t list(void) {
     static uint8_t text[PNO_LISTING_MOST];
     size_t length;
@@ -198,7 +218,7 @@ static uint32_t list(void) {
     return number;
 }
 
-static uint32_t judge(const uint8_t *name, const char *path) {
+static uint32_t judge(const struct name *name, const char *path) {
     static const char sound[] = "number 0: a sound volume\n";
     (void)name, (void)path;
     uint32_t number = pno_judge(image, image_len);
@@ -207,19 +227,20 @@ static uint32_t judge(const uint8_t *name, const char *path) {
     return number;
 }
 
-static uint32_t load(const uint8_t *name, const char *path) {
+static uint32_t load(const struct name *name, const char *path) {
     size_t length;
-    uint32_t number = pno_load(image, image_len, name, PNO_NAME_BYTES, bytes, sizeof bytes, &length);
+    uint32_t number =
+        pno_load(image, image_len, name->bytes, name->len, bytes, sizeof bytes, &length, &wrong);
     if (number == PNO_DONE)
         write_file(path, bytes, length);
     return number;
 }
 
-static uint32_t read_sectors(const uint8_t *name, const char *path) {
+static uint32_t read_sectors(const struct name *name, const char *path) {
     uint32_t number;
     size_t length = 0, offset = 0;
-    while ((number = pno_read(image, image_len, name, PNO_NAME_BYTES, offset, bytes + length,
-                              PNO_SECTOR_BYTES)) == PNO_DONE) {
+    while ((number = pno_read(image, image_len, name->bytes, name->len, offset, bytes + length,
+                              PNO_SECTOR_BYTES, &wrong)) == PNO_DONE) {
         length += PNO_SECTOR_BYTES;
         offset++;
     }
@@ -230,31 +251,36 @@ static uint32_t read_sectors(const uint8_t *name, const char *path) {
     return PNO_DONE;
 }
 
-static uint32_t store(const uint8_t *name, const char *path) {
+static uint32_t store(const struct name *name, const char *path) {
     size_t length = read_file(path, bytes, sizeof bytes);
-    return pno_store(image, image_len, name, PNO_NAME_BYTES, bytes, length);
+    return pno_store(image, image_len, name->bytes, name->len, bytes, length, &wrong);
 }
 
 /* Several calls, of which a later one may be refused: the image goes back to its file only if none is. */
-static uint32_t append(const uint8_t *name, const char *path) {
+static uint32_t append(const struct name *name, const char *path) {
     size_t length = read_file(path, bytes, sizeof bytes);
-    uint32_t number = pno_create(image, image_len, name, PNO_NAME_BYTES, DISPLAY_FIXED, 128, 2);
+    uint32_t number = pno_create(image, image_len, name->bytes, name->len, DISPLAY_FIXED, 128, 2, &wrong);
     if (number == PNO_PRESENT)
         number = PNO_DONE;
     for (size_t at = 0; at < length && number == PNO_DONE; at += PNO_SECTOR_BYTES) {
         uint8_t sector[PNO_SECTOR_BYTES] = {0};
         memcpy(sector, bytes + at, length - at < sizeof sector ? length - at : sizeof sector);
-        number = pno_append(image, image_len, name, PNO_NAME_BYTES, sector, sizeof sector);
+        number = pno_append(image, image_len, name->bytes, name->len, sector, sizeof sector, &wrong);
     }
     return number;
 }
 
-static uint32_t delete(const uint8_t *name, const char *path) {
+static uint32_t delete(const struct name *name, const char *path) {
     (void)path;
-    return pno_delete(image, image_len, name, PNO_NAME_BYTES);
+    return pno_delete(image, image_len, name->bytes, name->len, &wrong);
 }
 
-static uint32_t pack(const uint8_t *name, const char *path) {
+static uint32_t rename_file(const struct name *name, const char *path) {
+    struct name other = padded(path);
+    return pno_rename(image, image_len, name->bytes, name->len, other.bytes, other.len, &which, &wrong);
+}
+
+static uint32_t pack(const struct name *name, const char *path) {
     (void)name;
     uint32_t number = pno_pack(image, image_len, bytes, image_len);
     if (number == PNO_DONE)
@@ -262,22 +288,27 @@ static uint32_t pack(const uint8_t *name, const char *path) {
     return number;
 }
 
-/* A name with its padding; one that is too long has none, and is left blank, which no name is. */
-static void pad(uint8_t padded[PNO_NAME_BYTES], const char *name) {
-    size_t length = strlen(name);
-    memset(padded, ' ', PNO_NAME_BYTES);
-    if (length <= PNO_NAME_BYTES)
-        memcpy(padded, name, length);
-}
-
 static const struct command {
     const char *word;
-    int words;  /* of the command line: the first after the command as a name, the last as a path */
+    int words;  /* of the command line: the first after the command as a name, the last as a path or as
+                   the new name */
     int writes; /* the image, which then goes back to its file */
-    uint32_t (*call)(const uint8_t *name, const char *path);
-} commands[] = {{"judge", 3, 0, judge},  {"load", 5, 0, load}, {"read", 5, 0, read_sectors},
-                {"store", 5, 1, store},  {"pack", 4, 0, pack}, {"append", 5, 1, append},
-                {"delete", 4, 1, delete}};
+    uint32_t (*call)(const struct name *name, const char *path);
+} commands[] = {{"judge", 3, 0, judge},   {"load", 5, 0, load}, {"read", 5, 0, read_sectors},
+                {"store", 5, 1, store},   {"pack", 4, 0, pack}, {"append", 5, 1, append},
+                {"delete", 4, 1, delete}, {"rename", 5, 1, rename_file}};
+
+/* Says where a name is wrong: the first word after the command, or of a rename the one behind it. */
+static void explain(char **words) {
+    const char *word = words[3 + which];
+    const char *title = strcmp(words[2], "rename") != 0 ? "name" : which == 0 ? "old name" : "new name";
+    if (wrong == PNO_NAME_BYTES)
+        fprintf(stderr, ": the %s has more than %d characters", title, PNO_NAME_BYTES);
+    else if (word[strspn(word, " ")] == '\0')
+        fprintf(stderr, ": the %s is blank", title);
+    else
+        fprintf(stderr, ": character %zu of the %s", wrong + 1, title);
+}
 
 int main(int argc, char **argv) {
     const struct command *command = NULL;
@@ -285,8 +316,8 @@ int main(int argc, char **argv) {
         if (argc == commands[i].words && strcmp(argv[2], commands[i].word) == 0)
             command = &commands[i];
     if (argc != 2 && command == NULL) {
-        fprintf(stderr, "usage: example IMAGE "
-                        "[judge | (load | read | store | append) NAME FILE | delete NAME | pack FILE]\n");
+        fprintf(stderr, "usage: example IMAGE [judge | (load | read | store | append) NAME FILE | "
+                        "delete NAME | rename NAME NEW | pack FILE]\n");
         return 2;
     }
     image_len = read_file(argv[1], image, sizeof image);
@@ -294,12 +325,14 @@ int main(int argc, char **argv) {
     if (command == NULL) {
         number = list();
     } else {
-        uint8_t name[PNO_NAME_BYTES];
-        pad(name, argc > 3 ? argv[3] : "");
-        number = command->call(name, argv[argc - 1]);
+        struct name name = padded(argc > 3 ? argv[3] : "");
+        number = command->call(&name, argv[argc - 1]);
     }
     if (number != PNO_DONE) {
-        fprintf(stderr, "refused, number %u: %s\n", (unsigned)number, pno_text(number));
+        fprintf(stderr, "refused, number %u: %s", (unsigned)number, pno_text(number));
+        if (number == PNO_NAME)
+            explain(argv);
+        fprintf(stderr, "\n");
         return 1;
     }
     if (command != NULL && command->writes)

@@ -178,8 +178,6 @@ TEXT DIS/FIX 128 2 U" "$disk"
 be_refused() {
     content 32769 >"$work/too-long"
     content $((256 * 49)) >"$work/49-sectors"
-    refusal "number 7: a name breaks its rule" "$disk" store A.B "$work/beta"
-    refusal "number 7: a name breaks its rule" "$disk" delete ELEVENBYTES
     refusal "number 8: there is no such file" "$disk" delete GAMMA
     refusal "number 9: there is a file of that name already" "$disk" store ALPHA "$work/beta"
     refusal "number 12: too few sectors are free" "$disk" append TEXT "$work/49-sectors"
@@ -189,6 +187,54 @@ be_refused() {
     refusal "number 15: a length, an offset or a status does not fit" "$disk" store LONG "$work/too-long"
     refusal "number 8: there is no such file" "$disk" read GAMMA "$work/nothing"
     [ ! -e "$work/nothing" ] || fail "a refused call has written a file"
+}
+
+# WHERE WORD...: a command with a name that breaks its rule there.
+misnamed() {
+    refusal "number 7: a name breaks its rule: $1" "$disk" "${@:2}"
+}
+
+# What is wrong with a name, and with which of two, whatever the command. Characters count from 1; what
+# comes after a space is wrong, and not the space.
+say_where_a_name_is_wrong() {
+    local blank="          "
+    misnamed "character 2 of the name" store A.B "$work/beta"
+    misnamed "character 2 of the name" load $'A\tB' "$work/nothing"
+    misnamed "character 3 of the name" read $'AB\x7f' "$work/nothing"
+    misnamed "character 4 of the name" append "AB C" "$work/note"
+    misnamed "character 1 of the name" delete .
+    misnamed "character 2 of the name" delete " A"
+    misnamed "character 10 of the name" delete $'NINEBYTES\xe9'
+    misnamed "the name has more than 10 characters" delete ELEVENBYTES
+    misnamed "the name has more than 10 characters" delete "$blank "
+    misnamed "the name is blank" delete ""
+    misnamed "the name is blank" delete "$blank"
+    misnamed "character 3 of the old name" rename AL.PHA GAMMA
+    misnamed "character 3 of the old name" rename AL.PHA .
+    misnamed "character 3 of the new name" rename ALPHA GA.MMA
+    misnamed "character 3 of the new name" rename NONE GA.MMA
+    misnamed "the old name is blank" rename "" ""
+    misnamed "the new name is blank" rename ALPHA ""
+    misnamed "the old name has more than 10 characters" rename ELEVENBYTES ELEVENBYTES
+    misnamed "the new name has more than 10 characters" rename ALPHA ELEVENBYTES
+    [ ! -e "$work/nothing" ] || fail "a refused call has written a file"
+    refusal "number 8: there is no such file" "$disk" rename GAMMA DELTA
+    refusal "number 9: there is a file of that name already" "$disk" rename ALPHA NOTES
+}
+
+# In sector 1 ALPHA's number goes behind that of NOTES, and then back; of its descriptor the name alone changes.
+rename_a_file() {
+    cp "$disk" "$work/before"
+    step 0 "" "$disk" rename ALPHA "TENLETTERS"
+    bytes_at "$disk" 256 00 04 00 03 00 02 00 05 00 00
+    bytes_at "$disk" $((256 * 2)) 54 45 4e 4c 45 54 54 45 52 53 00 00 01 00 00 02 2c 00
+    step 0 "SHELF 64 48
+BETA PROGRAM 1000 4 U
+NOTES DIS/VAR 80 2 U
+TENLETTERS PROGRAM 300 2 U
+TEXT DIS/FIX 128 2 U" "$disk"
+    step 0 "" "$disk" rename TENLETTERS ALPHA
+    must_be_same "$work/before" "$disk"
 }
 
 # Sectors 2, 34 and 35 are free again, and ALPHA's bytes still lie there.
@@ -506,6 +552,8 @@ store_a_program
 store_whole_sectors
 append_to_files
 be_refused
+say_where_a_name_is_wrong
+rename_a_file
 delete_a_file
 pack_twice
 judge_others

@@ -16,6 +16,7 @@
 
 static uint8_t image[PNO_IMAGE_MOST];
 static uint8_t program[PROGRAM_BYTES];
+static size_t wrong; /* where a name is; the names here are not */
 
 static void done(uint32_t number) {
     if (number != PNO_DONE) {
@@ -25,20 +26,21 @@ static void done(uint32_t number) {
 }
 
 static void store(size_t length, const char *name) {
-    done(pno_store(image, length, (const uint8_t *)name, PNO_NAME_BYTES, program, sizeof program));
+    done(pno_store(image, length, (const uint8_t *)name, PNO_NAME_BYTES, program, sizeof program, &wrong));
 }
 
 /* A volume with one program, which begins with this number; moved, it has the sectors of a second one. */
 static void make(size_t sectors, unsigned long number, int moved) {
     size_t length = sectors * PNO_SECTOR_BYTES;
-    done(pno_format(image, length, sectors, (const uint8_t *)"SHELF     ", PNO_NAME_BYTES, 9, 40, 1, 1));
+    done(pno_format(image, length, sectors, (const uint8_t *)"SHELF     ", PNO_NAME_BYTES, 9, 40, 1, 1,
+                    &wrong));
     if (moved)
         store(length, "GONE      ");
     for (size_t i = 0; i < sizeof program; i++)
         program[i] = (uint8_t)(i < 4 ? number >> (8 * i) : i);
     store(length, "PROGRAM   ");
     if (moved)
-        done(pno_delete(image, length, (const uint8_t *)"GONE      ", PNO_NAME_BYTES));
+        done(pno_delete(image, length, (const uint8_t *)"GONE      ", PNO_NAME_BYTES, &wrong));
 }
 
 int main(int argc, char **argv) {

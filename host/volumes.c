@@ -50,6 +50,7 @@ static struct file files[MOST_FILES];
 static size_t file_count;
 static size_t free_sectors;
 static uint64_t state;
+static size_t which, wrong; /* what is wrong with a name; the names here keep the rule */
 
 static void fail(const char *what) {
     fprintf(stderr, "volumes: %s\n", what);
@@ -118,7 +119,7 @@ static void store_length(size_t length) {
     any_name(name);
     fill(bytes, length);
     uint32_t expected = find(name) ? PNO_PRESENT : free_sectors < sectors + 1 ? PNO_DISK_FULL : PNO_DONE;
-    if (is_done(pno_store(image, image_len, name, 10, bytes, length), expected)) {
+    if (is_done(pno_store(image, image_len, name, 10, bytes, length, &wrong), expected)) {
         struct file *file = add(name, PROGRAM);
         file->header[16] = (uint8_t)(length % SECTOR);
         free_sectors -= 1;
@@ -144,7 +145,7 @@ static void create(void) {
     uint8_t records = status & 0x80 ? 255 / length : 256 / length;
     any_name(name);
     uint32_t expected = find(name) ? PNO_PRESENT : free_sectors < 1 ? PNO_DISK_FULL : PNO_DONE;
-    if (is_done(pno_create(image, image_len, name, 10, status, length, records), expected)) {
+    if (is_done(pno_create(image, image_len, name, 10, status, length, records, &wrong), expected)) {
         struct file *file = add(name, status);
         file->header[13] = records;
         file->header[17] = length;
@@ -164,7 +165,7 @@ static void append(struct file *file) {
     fill(data, SECTOR);
     if (expected == PNO_DONE && free_sectors < 1)
         expected = PNO_DISK_FULL;
-    if (is_done(pno_append(image, image_len, file->header, 10, data, SECTOR), expected))
+    if (is_done(pno_append(image, image_len, file->header, 10, data, SECTOR, &wrong), expected))
         grow(file, data, SECTOR, 1);
 }
 
@@ -175,13 +176,13 @@ static void overwrite(struct file *file) {
     fill(data, SECTOR);
     if (expected == PNO_DONE && offset >= file->sectors)
         expected = PNO_ARGUMENT;
-    if (is_done(pno_overwrite(image, image_len, file->header, 10, offset, data, SECTOR), expected))
+    if (is_done(pno_overwrite(image, image_len, file->header, 10, offset, data, SECTOR, &wrong), expected))
         memcpy(file->bytes + offset * SECTOR, data, SECTOR);
 }
 
 static void delete(struct file *file) {
     uint32_t expected = file->header[12] & PROTECTED ? PNO_PROTECTED : PNO_DONE;
-    if (is_done(pno_delete(image, image_len, file->header, 10), expected)) {
+    if (is_done(pno_delete(image, image_len, file->header, 10, &wrong), expected)) {
         free_sectors += 1 + file->sectors;
         free(file->bytes);
         *file = files[--file_count];
@@ -192,17 +193,17 @@ static void rename_file(struct file *file) {
     uint8_t name[10];
     any_name(name);
     uint32_t expected = find(name) ? PNO_PRESENT : file->header[12] & PROTECTED ? PNO_PROTECTED : PNO_DONE;
-    if (is_done(pno_rename(image, image_len, file->header, 10, name, 10), expected))
+    if (is_done(pno_rename(image, image_len, file->header, 10, name, 10, &which, &wrong), expected))
         memcpy(file->header, name, 10);
 }
 
 static void protect(struct file *file) {
-    if (is_done(pno_protect(image, image_len, file->header, 10), PNO_DONE))
+    if (is_done(pno_protect(image, image_len, file->header, 10, &wrong), PNO_DONE))
         file->header[12] |= PROTECTED;
 }
 
 static void unprotect(struct file *file) {
-    if (is_done(pno_unprotect(image, image_len, file->header, 10), PNO_DONE))
+    if (is_done(pno_unprotect(image, image_len, file->header, 10, &wrong), PNO_DONE))
         file->header[12] &= (uint8_t)~PROTECTED;
 }
 
@@ -222,7 +223,7 @@ static void format(const struct geometry *of) {
     file_count = 0;
     free_sectors = n - 2;
     is_done(pno_format(image, image_len, n, (const uint8_t *)"WRITTEN   ", 10, of->sectors_per_track,
-                       of->tracks, of->sides, of->density),
+                       of->tracks, of->sides, of->density, &wrong),
             PNO_DONE);
 }
 

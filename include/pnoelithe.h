@@ -12,12 +12,13 @@
  *   - No pointer is null. For an empty buffer lend the address of any byte, and length 0. In C++ the data()
  *     of an empty std::vector may be null:
  *         const uint8_t none = 0;
- *         pno_store(image, image_len, name, name_len, v.empty() ? &none : v.data(), v.size());
- *   - A buffer that a call writes, the image among them, overlaps no other buffer of that call.
+ *         pno_store(image, image_len, name, name_len, v.empty() ? &none : v.data(), v.size(), &wrong);
+ *   - What a call writes, the image among it, overlaps nothing else that is lent to it: no buffer, and
+ *     nothing behind another pointer.
  *   - Counts, places and offsets are size_t. A value goes back through a pointer (size_t *, a name's ten
  *     bytes), which is not null either, also where the host has no use for that value.
  *   - The result is one of the numbers below. With any number but 0 the call has written nothing: no byte of
- *     a buffer, and nothing behind a pointer.
+ *     a buffer, and behind pointers only, with 7, where a name is wrong (wrong and which, see Names).
  *   - Threads: the library has no state, so calls on different images may be made on any threads at the same
  *     time. Of one image there may be several readers at a time, or one writer and no reader beside it.
  *   - Stack is what a call takes of it at most, in the archive as it is built: all below the call's
@@ -36,8 +37,8 @@ extern "C" {
 
 /* The version. While the major number is 0, the interface may change with each minor one. */
 #define PNO_VERSION_MAJOR 0
-#define PNO_VERSION_MINOR 2
-#define PNO_VERSION_PATCH 1
+#define PNO_VERSION_MINOR 3
+#define PNO_VERSION_PATCH 0
 #define PNO_QUOTED(word) #word
 #define PNO_DOTTED(major, minor, patch) PNO_QUOTED(major) "." PNO_QUOTED(minor) "." PNO_QUOTED(patch)
 #define PNO_VERSION PNO_DOTTED(PNO_VERSION_MAJOR, PNO_VERSION_MINOR, PNO_VERSION_PATCH) /* as a text */
@@ -63,7 +64,7 @@ enum pno_number {
                             by the kind rule a program without sectors has end offset 0 */
     PNO_TWO_HOLDERS = 5, /* a sector has two holders */
     PNO_MAP = 6,         /* the map is not that of the holders */
-    PNO_NAME = 7,        /* a name breaks its rule */
+    PNO_NAME = 7,        /* a name breaks its rule; where, stands behind wrong */
     PNO_NOT_FOUND = 8,   /* no file of that name, or no file at that place of the catalogue */
     PNO_PRESENT = 9,     /* there is a file of the new name already */
     PNO_PROTECTED = 10,  /* the file is protected */
@@ -124,6 +125,13 @@ static inline const char *pno_text(uint32_t number) {
  * Names
  *   A disk or file name is ten bytes: one to ten printable ones (21 to 7E hex, no dot), then spaces (20 hex)
  *   up to the tenth. A name of another length, or one that breaks the rule, is number 7.
+ *   Every call that takes a name has the pointer wrong. With 7 the place of the first wrong byte stands
+ *   behind it: 0 to 9, or PNO_NAME_BYTES where the name is not lent as ten bytes. After a space every byte
+ *   but a space is wrong, at its own place: "AB C" is wrong at 3, and " A" at 1. Ten spaces are wrong at 0.
+ *   A rename, which takes two names, has the pointer which before it: 0 stands there where the old name is
+ *   meant, 1 where it is the new one. The new one is tested only where nothing is wrong with the old one.
+ *   With any other number, 0 among them, what was behind wrong and which stays. The names on a disk have no
+ *   place: the image's own numbers are given for them.
  *
  * What a call gives back
  *   Each call first judges the image (format does not) and gives back 1 to 6 where it is no sound volume.
@@ -147,7 +155,8 @@ uint32_t pno_judge(const uint8_t *image, size_t image_len);
  * Stack: at most 56 bytes.
  */
 uint32_t pno_format(uint8_t *image, size_t image_len, size_t n, const uint8_t *name, size_t name_len,
-                    uint8_t sectors_per_track, uint8_t tracks, uint8_t sides, uint8_t density);
+                    uint8_t sectors_per_track, uint8_t tracks, uint8_t sides, uint8_t density,
+                    size_t *wrong);
 
 /*
  * The number of free sectors: the zero bits of the map, which on a sound volume are n less the sectors that
@@ -200,7 +209,7 @@ uint32_t pno_entry(const uint8_t *image, size_t image_len, size_t place, uint8_t
  * Stack: at most 472 bytes.
  */
 uint32_t pno_read(const uint8_t *image, size_t image_len, const uint8_t *name, size_t name_len,
-                  size_t offset, uint8_t *out, size_t out_len);
+                  size_t offset, uint8_t *out, size_t out_len, size_t *wrong);
 
 /*
  * Loads a program: its bytes, and their number behind length. Those of a program without sectors are none.
@@ -210,7 +219,7 @@ uint32_t pno_read(const uint8_t *image, size_t image_len, const uint8_t *name, s
  * Stack: at most 552 bytes.
  */
 uint32_t pno_load(const uint8_t *image, size_t image_len, const uint8_t *name, size_t name_len, uint8_t *out,
-                  size_t out_len, size_t *length);
+                  size_t out_len, size_t *length, size_t *wrong);
 
 /*
  * The catalogue as text, and its length behind length. The first line has disk name, n and free count; then
@@ -242,10 +251,10 @@ uint32_t pno_listing(const uint8_t *image, size_t image_len, uint8_t *out, size_
  * variable); the other two are any byte.
  *
  * Numbers: 1 to 6; 7; 9; 15 for another status; 11; 12.
- * Stack: at most 808 bytes.
+ * Stack: at most 824 bytes.
  */
 uint32_t pno_create(uint8_t *image, size_t image_len, const uint8_t *name, size_t name_len, uint8_t status,
-                    uint8_t record_length, uint8_t records_per_sector);
+                    uint8_t record_length, uint8_t records_per_sector, size_t *wrong);
 
 /*
  * Appends a sector to a data file: the sector's 256 bytes, its bit in the map, and in the descriptor the
@@ -257,7 +266,7 @@ uint32_t pno_create(uint8_t *image, size_t image_len, const uint8_t *name, size_
  * Stack: at most 1,080 bytes.
  */
 uint32_t pno_append(uint8_t *image, size_t image_len, const uint8_t *name, size_t name_len,
-                    const uint8_t *data, size_t data_len);
+                    const uint8_t *data, size_t data_len, size_t *wrong);
 
 /*
  * Overwrites a sector of a data file: its 256 bytes and nothing else. Offsets count from 0.
@@ -267,7 +276,7 @@ uint32_t pno_append(uint8_t *image, size_t image_len, const uint8_t *name, size_
  * Stack: at most 472 bytes.
  */
 uint32_t pno_overwrite(uint8_t *image, size_t image_len, const uint8_t *name, size_t name_len, size_t offset,
-                       const uint8_t *data, size_t data_len);
+                       const uint8_t *data, size_t data_len, size_t *wrong);
 
 /*
  * Stores a program of 0 to PNO_PROGRAM_MOST bytes as a new file: bytes_len / 256 sectors, rounded up, the
@@ -280,7 +289,7 @@ uint32_t pno_overwrite(uint8_t *image, size_t image_len, const uint8_t *name, si
  * Stack: at most 1,160 bytes.
  */
 uint32_t pno_store(uint8_t *image, size_t image_len, const uint8_t *name, size_t name_len,
-                   const uint8_t *bytes, size_t bytes_len);
+                   const uint8_t *bytes, size_t bytes_len, size_t *wrong);
 
 /*
  * Deletes a file: its place in sector 1, later ones moving down by one, and its bits in the map. The sectors
@@ -289,17 +298,17 @@ uint32_t pno_store(uint8_t *image, size_t image_len, const uint8_t *name, size_t
  * Numbers: 1 to 6; 7; 8; 10.
  * Stack: at most 1,016 bytes.
  */
-uint32_t pno_delete(uint8_t *image, size_t image_len, const uint8_t *name, size_t name_len);
+uint32_t pno_delete(uint8_t *image, size_t image_len, const uint8_t *name, size_t name_len, size_t *wrong);
 
 /*
  * Renames a file: the ten bytes of its name, and its place in sector 1.
  *
- * Numbers: 1 to 6; 7 for either name; 8 for the old one; 9 for the new one, also where it is the old one;
- * 10.
+ * Numbers: 1 to 6; 7 for the old name (which is 0), then for the new one (which is 1); 8 for the old one; 9
+ * for the new one, also where it is the old one; 10.
  * Stack: at most 984 bytes.
  */
 uint32_t pno_rename(uint8_t *image, size_t image_len, const uint8_t *old, size_t old_len,
-                    const uint8_t *new_name, size_t new_len);
+                    const uint8_t *new_name, size_t new_len, size_t *which, size_t *wrong);
 
 /*
  * Protects a file, and unprotects it: one bit of its status. Either may be done again.
@@ -307,8 +316,8 @@ uint32_t pno_rename(uint8_t *image, size_t image_len, const uint8_t *old, size_t
  * Numbers: 1 to 6; 7; 8.
  * Stack: at most 456 bytes.
  */
-uint32_t pno_protect(uint8_t *image, size_t image_len, const uint8_t *name, size_t name_len);
-uint32_t pno_unprotect(uint8_t *image, size_t image_len, const uint8_t *name, size_t name_len);
+uint32_t pno_protect(uint8_t *image, size_t image_len, const uint8_t *name, size_t name_len, size_t *wrong);
+uint32_t pno_unprotect(uint8_t *image, size_t image_len, const uint8_t *name, size_t name_len, size_t *wrong);
 
 /*
  * Packs a volume into another image of the same length, whatever bytes that had: the target is then a sound

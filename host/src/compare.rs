@@ -1,17 +1,16 @@
 //! Compares the library with what this folder has beside it: its judge on many thousand images,
 //! then its other calls, then sequences of calls that write, then programs length by length, then
-//! packing. All of it is done for a seed, and then for as many more as are asked for.
+//! names byte by byte, then packing. All of it is done for a seed, and then for as many more as are asked for.
 //!
 //! `compare [--images N] [--calls N] [--sequences N] [--packs N] [--seed S] [--seeds N] [IMAGE...]`
 
 use host::calls::Calls;
 use host::comparison::{Comparison, Part};
 use host::images::Images;
-use host::lengths;
 use host::outside::Outside;
 use host::packing::Packs;
 use host::sequences::Sequences;
-use host::{library, table};
+use host::{lengths, library, names, table};
 use std::path::PathBuf;
 use std::process::ExitCode;
 
@@ -78,6 +77,7 @@ fn run(arguments: &Arguments) -> Result<(), String> {
         calls += compared::<Calls>(seed, arguments.calls, &outside)?;
         calls += compared::<Sequences>(seed, arguments.sequences, &outside)?;
         calls += lengths::compared(seed)?;
+        calls += names::compared(seed)?;
         packs += compared::<Packs>(seed, arguments.packs, &outside)?;
     }
     let seeds = match arguments.seeds {

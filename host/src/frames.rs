@@ -1,6 +1,7 @@
 //! How much stack the archive's code can take, from its disassembly by `objdump -dr -M intel
-//! --no-show-raw-insn`. An instruction that may move the stack pointer otherwise than it is counted
-//! here is an error, and so is a call whose target is not known.
+//! --no-show-raw-insn`, with what `objdump -r` says of its tables behind it. An instruction that may
+//! move the stack pointer otherwise than it is counted here is an error, and so is a call whose
+//! target is not known.
 
 use std::collections::{BTreeMap, BTreeSet};
 
@@ -16,14 +17,18 @@ pub struct Frames {
 }
 
 impl Frames {
-    pub fn of(disassembly: &str) -> Result<Self, String> {
+    pub fn of(listing: &str) -> Result<Self, String> {
         let mut frames: BTreeMap<String, Frame> = BTreeMap::new();
         let mut name = "";
-        let lines: Vec<&str> = disassembly.lines().collect();
+        let (code, records) = listing.split_once(RECORDS).unwrap_or((listing, ""));
+        let tables = tables(records);
+        let lines: Vec<&str> = code.lines().collect();
         for (place, line) in lines.iter().enumerate() {
             if let Some(begun) = function(line) {
                 name = begun;
                 frames.insert(name.to_string(), Frame::default());
+            } else if is_by_table(&lines[..=place]) && leads_only_into(name, &tables) {
+                // It stays in the function, and the stack pointer stays where it is.
             } else if let (Some(frame), None) = (frames.get_mut(name), relocation(line)) {
                 let relocation = lines.get(place + 1).and_then(|next| relocation(next));
                 let read = frame.read(line, relocation.or_else(|| leads_to(line)), name);
@@ -57,17 +62,56 @@ impl Frames {
     }
 }
 
+/// What stands before each section's part of what `objdump -r` says.
+const RECORDS: &str = "RELOCATION RECORDS FOR [";
+
+/// The functions that the words of each section lead into.
+fn tables(records: &str) -> BTreeMap<&str, BTreeSet<&str>> {
+    let table = |part| -> Option<(&str, BTreeSet<&str>)> {
+        let (section, words) = str::split_once(part, "]:")?;
+        let symbols =
+            words.lines().filter_map(|word| word.split_once("R_X86_64_")?.1.split_once(' '));
+        Some((section, symbols.map(|(_, symbol)| place_in(symbol.trim())).collect()))
+    };
+    records.split(RECORDS).filter_map(table).collect()
+}
+
+/// Whether a function's own table has nothing but places of the function.
+fn leads_only_into(name: &str, tables: &BTreeMap<&str, BTreeSet<&str>>) -> bool {
+    let table = tables.get([".rodata.", name].concat().as_str());
+    table.map_or(false, |functions| functions.iter().eq([&name]))
+}
+
+/// Whether the last of these instructions jumps to a table's start plus what was just read from that
+/// table.
+fn is_by_table(lines: &[&str]) -> bool {
+    let words = |line: &&str| line.split_whitespace().skip(1).collect::<Vec<_>>().join(" ");
+    let last: Vec<String> = lines.iter().rev().take(3).map(words).collect();
+    let by_table = || {
+        let to = last.first()?.strip_prefix("jmp ")?;
+        let start = last.get(1)?.strip_prefix("add ")?.strip_prefix(to)?.strip_prefix(',')?;
+        let read = format!("movsxd {},DWORD PTR [{}+", to, start);
+        Some(last.get(2)?.starts_with(&read))
+    };
+    by_table().unwrap_or(false)
+}
+
+/// The function in which a symbol lies, by its name or by that of its section.
+fn place_in(symbol: &str) -> &str {
+    let offset = symbol.rfind("+0x").or_else(|| symbol.rfind("-0x"));
+    let name = &symbol[..offset.unwrap_or(symbol.len())];
+    name.strip_prefix(".text.").unwrap_or(name)
+}
+
 /// The name where a function begins.
 fn function(line: &str) -> Option<&str> {
     line.strip_suffix(">:")?.split_once(" <").map(|(_, name)| name)
 }
 
-/// The function that the linker is to put into the instruction before, where the line says that: by
-/// its name or by that of its section.
+/// The function that the linker is to put into the instruction before, where the line says that.
 fn relocation(line: &str) -> Option<&str> {
     let (_, symbol) = line.split_once("R_X86_64_")?.1.split_once('\t')?;
-    let name = symbol.rsplit_once("-0x").map_or(symbol, |(name, _)| name);
-    Some(name.strip_prefix(".text.").unwrap_or(name))
+    Some(place_in(symbol))
 }
 
 /// The function that a jump or a call leads into as it stands.

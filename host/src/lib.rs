@@ -8,6 +8,7 @@ pub mod frames;
 pub mod images;
 pub mod lengths;
 pub mod library;
+pub mod names;
 pub mod outside;
 pub mod packing;
 mod paper;

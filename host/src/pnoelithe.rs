@@ -35,44 +35,67 @@ pub const LOADED_MOST: usize = 408_832;
 /// Why a call is refused, in the order of the tests; each case stands for its number.
 #[derive(Clone, Copy, Debug, PartialEq, Eq)]
 pub enum Refusal {
-    Length = 1,
-    Label = 2,
-    Index = 3,
-    Descriptor = 4,
-    TwoHolders = 5,
-    Map = 6,
-    Name = 7,
-    NotFound = 8,
-    Present = 9,
-    Protected = 10,
-    Kind = 14,
-    Argument = 15,
-    IndexFull = 11,
-    DiskFull = 12,
-    ChainFull = 13,
+    Length,
+    Label,
+    Index,
+    Descriptor,
+    TwoHolders,
+    Map,
+    /// With the place of the name's first wrong byte, 0 to 9, or `NAME_BYTES` where it was not lent
+    /// as ten bytes. After a space every byte but a space is wrong; ten spaces are wrong at 0.
+    Name {
+        place: usize,
+    },
+    NotFound,
+    Present,
+    Protected,
+    Kind,
+    Argument,
+    IndexFull,
+    DiskFull,
+    ChainFull,
 }
 
 impl Refusal {
-    const ALL: [Refusal; 15] = [
-        Refusal::Length,
-        Refusal::Label,
-        Refusal::Index,
-        Refusal::Descriptor,
-        Refusal::TwoHolders,
-        Refusal::Map,
-        Refusal::Name,
-        Refusal::NotFound,
-        Refusal::Present,
-        Refusal::Protected,
-        Refusal::Kind,
-        Refusal::Argument,
-        Refusal::IndexFull,
-        Refusal::DiskFull,
-        Refusal::ChainFull,
-    ];
+    /// Each of them, a name's with this place.
+    fn all(place: usize) -> [Refusal; 15] {
+        [
+            Refusal::Length,
+            Refusal::Label,
+            Refusal::Index,
+            Refusal::Descriptor,
+            Refusal::TwoHolders,
+            Refusal::Map,
+            Refusal::Name { place },
+            Refusal::NotFound,
+            Refusal::Present,
+            Refusal::Protected,
+            Refusal::Kind,
+            Refusal::Argument,
+            Refusal::IndexFull,
+            Refusal::DiskFull,
+            Refusal::ChainFull,
+        ]
+    }
 
     pub fn number(self) -> u32 {
-        self as u32
+        match self {
+            Refusal::Length => 1,
+            Refusal::Label => 2,
+            Refusal::Index => 3,
+            Refusal::Descriptor => 4,
+            Refusal::TwoHolders => 5,
+            Refusal::Map => 6,
+            Refusal::Name { .. } => 7,
+            Refusal::NotFound => 8,
+            Refusal::Present => 9,
+            Refusal::Protected => 10,
+            Refusal::Kind => 14,
+            Refusal::Argument => 15,
+            Refusal::IndexFull => 11,
+            Refusal::DiskFull => 12,
+            Refusal::ChainFull => 13,
+        }
     }
 }
 
@@ -85,7 +108,7 @@ impl Display for Refusal {
             Refusal::Descriptor => "a file's descriptor breaks a rule",
             Refusal::TwoHolders => "a sector has two holders",
             Refusal::Map => "the map is not that of the files",
-            Refusal::Name => "a name breaks its rule",
+            Refusal::Name { .. } => "a name breaks its rule",
             Refusal::NotFound => "there is no such file",
             Refusal::Present => "there is a file of that name already",
             Refusal::Protected => "the file is protected",
@@ -100,9 +123,49 @@ impl Display for Refusal {
 
 impl std::error::Error for Refusal {}
 
-/// What a library's number says.
+/// Why a rename is refused; since it takes two names, also which of them breaks the rule.
+#[derive(Clone, Copy, Debug, PartialEq, Eq)]
+pub struct RenameRefusal {
+    pub refusal: Refusal,
+    /// Some with `Refusal::Name`, and only then.
+    pub which: Option<Which>,
+}
+
+/// A name of a rename. The new one is tested only where nothing is wrong with the old one.
+#[derive(Clone, Copy, Debug, PartialEq, Eq)]
+pub enum Which {
+    Old = 0,
+    New = 1,
+}
+
+impl Display for RenameRefusal {
+    fn fmt(&self, out: &mut Formatter) -> fmt::Result {
+        match self.which {
+            Some(Which::Old) => out.write_str("the old name breaks its rule"),
+            Some(Which::New) => out.write_str("the new name breaks its rule"),
+            None => self.refusal.fmt(out),
+        }
+    }
+}
+
+impl std::error::Error for RenameRefusal {}
+
+impl From<RenameRefusal> for Refusal {
+    fn from(renaming: RenameRefusal) -> Self {
+        renaming.refusal
+    }
+}
+
+/// What a library's number says, of a call that takes no name.
 fn done(number: u32) -> Result<(), Refusal> {
-    match Refusal::ALL.into_iter().find(|refusal| refusal.number() == number) {
+    named(|_| number)
+}
+
+/// The same of one that takes a name, and writes where that is wrong behind the pointer.
+fn named(call: impl FnOnce(&mut usize) -> u32) -> Result<(), Refusal> {
+    let mut place = 0;
+    let number = call(&mut place);
+    match Refusal::all(place).into_iter().find(|refusal| refusal.number() == number) {
         Some(refusal) => Err(refusal),
         None if number == 0 => Ok(()),
         None => unreachable!("the library gives no number {}", number),
@@ -196,7 +259,7 @@ impl Display for Kind {
     }
 }
 
-/// The ten bytes of a name; one that is too long is left blank, which every call refuses.
+/// The ten bytes of a name; one that is too long is left blank, which every call refuses at place 0.
 pub fn padded(name: &str) -> Name {
     let mut padded = [b' '; NAME_BYTES];
     if let Some(front) = padded.get_mut(..name.len()) {
@@ -213,7 +276,7 @@ pub fn judge(image: &[u8]) -> Result<(), Refusal> {
 /// Makes an empty volume of n sectors of the image, whatever its bytes were.
 pub fn format(image: &mut [u8], n: usize, name: &[u8], geometry: Geometry) -> Result<(), Refusal> {
     let Geometry { sectors_per_track, tracks, sides, density } = geometry;
-    done(unsafe {
+    named(|wrong| unsafe {
         imported::pno_format(
             image.as_mut_ptr(),
             image.len(),
@@ -224,6 +287,7 @@ pub fn format(image: &mut [u8], n: usize, name: &[u8], geometry: Geometry) -> Re
             tracks,
             sides,
             density,
+            wrong,
         )
     })
 }
@@ -279,7 +343,7 @@ pub fn read<'out>(
     offset: usize,
     out: &'out mut [u8],
 ) -> Result<&'out [u8], Refusal> {
-    done(unsafe {
+    named(|wrong| unsafe {
         imported::pno_read(
             image.as_ptr(),
             image.len(),
@@ -288,6 +352,7 @@ pub fn read<'out>(
             offset,
             out.as_mut_ptr(),
             out.len(),
+            wrong,
         )
     })?;
     Ok(&out[..SECTOR_BYTES])
@@ -296,7 +361,7 @@ pub fn read<'out>(
 /// Loads a program into the front of `out`; its bytes are given back.
 pub fn load<'out>(image: &[u8], name: &[u8], out: &'out mut [u8]) -> Result<&'out [u8], Refusal> {
     let mut length = 0;
-    done(unsafe {
+    named(|wrong| unsafe {
         imported::pno_load(
             image.as_ptr(),
             image.len(),
@@ -305,6 +370,7 @@ pub fn load<'out>(image: &[u8], name: &[u8], out: &'out mut [u8]) -> Result<&'ou
             out.as_mut_ptr(),
             out.len(),
             &mut length,
+            wrong,
         )
     })?;
     Ok(&out[..length])
@@ -334,7 +400,7 @@ pub fn create(
     record_length: u8,
     records_per_sector: u8,
 ) -> Result<(), Refusal> {
-    done(unsafe {
+    named(|wrong| unsafe {
         imported::pno_create(
             image.as_mut_ptr(),
             image.len(),
@@ -343,13 +409,14 @@ pub fn create(
             status,
             record_length,
             records_per_sector,
+            wrong,
         )
     })
 }
 
 /// Appends a sector of 256 bytes to a data file.
 pub fn append(image: &mut [u8], name: &[u8], data: &[u8]) -> Result<(), Refusal> {
-    done(unsafe {
+    named(|wrong| unsafe {
         imported::pno_append(
             image.as_mut_ptr(),
             image.len(),
@@ -357,13 +424,14 @@ pub fn append(image: &mut [u8], name: &[u8], data: &[u8]) -> Result<(), Refusal>
             name.len(),
             data.as_ptr(),
             data.len(),
+            wrong,
         )
     })
 }
 
 /// Overwrites the sector of a data file at an offset, counted from 0, with 256 bytes.
 pub fn overwrite(image: &mut [u8], name: &[u8], offset: usize, data: &[u8]) -> Result<(), Refusal> {
-    done(unsafe {
+    named(|wrong| unsafe {
         imported::pno_overwrite(
             image.as_mut_ptr(),
             image.len(),
@@ -372,6 +440,7 @@ pub fn overwrite(image: &mut [u8], name: &[u8], offset: usize, data: &[u8]) -> R
             offset,
             data.as_ptr(),
             data.len(),
+            wrong,
         )
     })
 }
@@ -379,7 +448,7 @@ pub fn overwrite(image: &mut [u8], name: &[u8], offset: usize, data: &[u8]) -> R
 /// Stores a program of at most 32,768 bytes as a new file; one of no bytes takes no sector but the
 /// descriptor's.
 pub fn store(image: &mut [u8], name: &[u8], bytes: &[u8]) -> Result<(), Refusal> {
-    done(unsafe {
+    named(|wrong| unsafe {
         imported::pno_store(
             image.as_mut_ptr(),
             image.len(),
@@ -387,20 +456,22 @@ pub fn store(image: &mut [u8], name: &[u8], bytes: &[u8]) -> Result<(), Refusal>
             name.len(),
             bytes.as_ptr(),
             bytes.len(),
+            wrong,
         )
     })
 }
 
 /// Deletes a file.
 pub fn delete(image: &mut [u8], name: &[u8]) -> Result<(), Refusal> {
-    done(unsafe {
-        imported::pno_delete(image.as_mut_ptr(), image.len(), name.as_ptr(), name.len())
+    named(|wrong| unsafe {
+        imported::pno_delete(image.as_mut_ptr(), image.len(), name.as_ptr(), name.len(), wrong)
     })
 }
 
 /// Renames a file.
-pub fn rename(image: &mut [u8], old: &[u8], new: &[u8]) -> Result<(), Refusal> {
-    done(unsafe {
+pub fn rename(image: &mut [u8], old: &[u8], new: &[u8]) -> Result<(), RenameRefusal> {
+    let mut which = 0;
+    let renamed = named(|wrong| unsafe {
         imported::pno_rename(
             image.as_mut_ptr(),
             image.len(),
@@ -408,21 +479,28 @@ pub fn rename(image: &mut [u8], old: &[u8], new: &[u8]) -> Result<(), Refusal> {
             old.len(),
             new.as_ptr(),
             new.len(),
+            &mut which,
+            wrong,
         )
+    });
+    renamed.map_err(|refusal| {
+        let is_of_name = matches!(refusal, Refusal::Name { .. });
+        let which = is_of_name.then(|| if which == 0 { Which::Old } else { Which::New });
+        RenameRefusal { refusal, which }
     })
 }
 
 /// Protects a file, which may be protected already.
 pub fn protect(image: &mut [u8], name: &[u8]) -> Result<(), Refusal> {
-    done(unsafe {
-        imported::pno_protect(image.as_mut_ptr(), image.len(), name.as_ptr(), name.len())
+    named(|wrong| unsafe {
+        imported::pno_protect(image.as_mut_ptr(), image.len(), name.as_ptr(), name.len(), wrong)
     })
 }
 
 /// Takes the protection of a file away, which may have none.
 pub fn unprotect(image: &mut [u8], name: &[u8]) -> Result<(), Refusal> {
-    done(unsafe {
-        imported::pno_unprotect(image.as_mut_ptr(), image.len(), name.as_ptr(), name.len())
+    named(|wrong| unsafe {
+        imported::pno_unprotect(image.as_mut_ptr(), image.len(), name.as_ptr(), name.len(), wrong)
     })
 }
 
@@ -447,6 +525,7 @@ pub(crate) mod imported {
             tracks: u8,
             sides: u8,
             density: u8,
+            wrong: *mut usize,
         ) -> u32;
         pub fn pno_free_count(image: *const u8, image_len: usize, free_sectors: *mut usize) -> u32;
         pub fn pno_summary(
@@ -476,6 +555,7 @@ pub(crate) mod imported {
             offset: usize,
             out: *mut u8,
             out_len: usize,
+            wrong: *mut usize,
         ) -> u32;
         pub fn pno_load(
             image: *const u8,
@@ -485,6 +565,7 @@ pub(crate) mod imported {
             out: *mut u8,
             out_len: usize,
             length: *mut usize,
+            wrong: *mut usize,
         ) -> u32;
         pub fn pno_listing(
             image: *const u8,
@@ -501,6 +582,7 @@ pub(crate) mod imported {
             status: u8,
             record_length: u8,
             records_per_sector: u8,
+            wrong: *mut usize,
         ) -> u32;
         pub fn pno_append(
             image: *mut u8,
@@ -509,6 +591,7 @@ pub(crate) mod imported {
             name_len: usize,
             data: *const u8,
             data_len: usize,
+            wrong: *mut usize,
         ) -> u32;
         pub fn pno_overwrite(
             image: *mut u8,
@@ -518,6 +601,7 @@ pub(crate) mod imported {
             offset: usize,
             data: *const u8,
             data_len: usize,
+            wrong: *mut usize,
         ) -> u32;
         pub fn pno_store(
             image: *mut u8,
@@ -526,24 +610,28 @@ pub(crate) mod imported {
             name_len: usize,
             bytes: *const u8,
             bytes_len: usize,
+            wrong: *mut usize,
         ) -> u32;
         pub fn pno_delete(
             image: *mut u8,
             image_len: usize,
             name: *const u8,
             name_len: usize,
+            wrong: *mut usize,
         ) -> u32;
         pub fn pno_protect(
             image: *mut u8,
             image_len: usize,
             name: *const u8,
             name_len: usize,
+            wrong: *mut usize,
         ) -> u32;
         pub fn pno_unprotect(
             image: *mut u8,
             image_len: usize,
             name: *const u8,
             name_len: usize,
+            wrong: *mut usize,
         ) -> u32;
         pub fn pno_rename(
             image: *mut u8,
@@ -552,6 +640,8 @@ pub(crate) mod imported {
             old_len: usize,
             new_name: *const u8,
             new_len: usize,
+            which: *mut usize,
+            wrong: *mut usize,
         ) -> u32;
         pub fn pno_pack(
             source: *const u8,

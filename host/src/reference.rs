@@ -1,15 +1,16 @@
 //! Document 01 in safe Rust, written from the paper alone and for the reader: what the library is
 //! compared with and measured against. `volume` reads bytes by the layout and refuses nothing;
-//! `judge` holds what was read to the rules, in the order of the paper's numbers. The calls stand
-//! on both: an answer is a value, and what it has to fit into comes as a length. The calls that
-//! write take sectors by the rules of `choice` and lay bytes down through a `draft`; packing lays
-//! all of a volume down anew.
+//! `judge` holds what was read to the rules, in the order of the paper's numbers; `name` has the
+//! rule of names. The calls stand on these: an answer is a value, and what it has to fit into comes
+//! as a length. The calls that write take sectors by the rules of `choice` and lay bytes down
+//! through a `draft`; packing lays all of a volume down anew.
 
 mod choice;
 mod draft;
 mod format;
 mod judge;
 mod listing;
+mod name;
 mod packing;
 mod reading;
 mod refusal;

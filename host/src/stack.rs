@@ -1,9 +1,10 @@
 //! Measures how much stack each call of the library takes at most, beside what its code can take,
 //! and holds both to what the header says.
 //!
-//! `stack HEADER <DISASSEMBLY`. The calls are those of the comparison. The program is linked so
-//! that each goes to `measured` in place of the library (`--wrap`). There it is made anew on memory
-//! that was filled with a pattern; afterwards the lowest byte that is not the pattern's is sought.
+//! `stack HEADER <LISTING`, with the listing that `frames` reads. The calls are those of the
+//! comparison. The program is linked so that each goes to `measured` in place of the library
+//! (`--wrap`). There it is made anew on memory that was filled with a pattern; afterwards the lowest
+//! byte that is not the pattern's is sought.
 
 use host::frames::Frames;
 use host::{calls, packing, sequences, table};
@@ -37,9 +38,9 @@ fn main() -> ExitCode {
 fn run(path: &str) -> Result<(), String> {
     table::check()?;
     let header = std::fs::read_to_string(path).map_err(|error| format!("{}: {}", path, error))?;
-    let mut disassembly = String::new();
-    std::io::stdin().read_to_string(&mut disassembly).map_err(|error| error.to_string())?;
-    let frames = Frames::of(&disassembly)?;
+    let mut listing = String::new();
+    std::io::stdin().read_to_string(&mut listing).map_err(|error| error.to_string())?;
+    let frames = Frames::of(&listing)?;
     let rows: Result<Vec<Row>, String> =
         said(&header).into_iter().map(|(call, said)| Row::of(call, said, &frames)).collect();
     let rows = rows?;

@@ -63,13 +63,15 @@ pub(crate) struct Call {
     pub tests: &'static [Test],
     /// Which numbers can be due at once on a sound volume: the one that is given, and others.
     pub together: &'static [(u32, &'static [u32])],
+    /// How many names it takes: none, `name`, or `name` and `other`.
+    pub names: usize,
     pub often: Often,
     /// Arguments by chance.
     pub any: fn(&Desk, &mut Random) -> Arguments,
     /// The library's number.
     pub by_library: fn(Lent, &Arguments) -> u32,
     /// The same as a host in Rust asks it. What it gives back, in place of writing it behind
-    /// pointers, is laid down there.
+    /// pointers, is laid down there; not so the place that a refusal has.
     pub by_host: fn(Lent, &Arguments) -> Result<(), pnoelithe::Refusal>,
     /// The answer by the reference, which changes the image where the call does.
     pub by_reference:

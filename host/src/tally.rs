@@ -170,7 +170,7 @@ impl Tally {
         Ok(())
     }
 }
-fn write_row(title: &str, cells: impl Iterator<Item = String>) {
+pub(crate) fn write_row(title: &str, cells: impl Iterator<Item = String>) {
     let cells: String = cells.map(|cell| format!("{:>7}", cell)).collect();
     println!("{:<19}{}", title, cells);
 }

@@ -25,7 +25,7 @@ fn numbers() -> bool {
         (Refusal::Descriptor, 4),
         (Refusal::TwoHolders, 5),
         (Refusal::Map, 6),
-        (Refusal::Name, 7),
+        (Refusal::Name { place: 0 }, 7),
         (Refusal::NotFound, 8),
         (Refusal::Present, 9),
         (Refusal::Protected, 10),

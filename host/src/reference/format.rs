@@ -1,7 +1,7 @@
 //! Formatting: an empty volume, whatever the image held.
 
 use super::judge::is_length;
-use super::reading::given_name;
+use super::name::given_name;
 use super::refusal::{holds, Refusal};
 use super::volume::{Name, Sector, MOST_SECTORS, SECTOR_BYTES};
 

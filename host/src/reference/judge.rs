@@ -1,8 +1,9 @@
 //! The judge: numbers 0 to 6 of document 01. Each test looks at the whole image and is only met
 //! by an image that passed those before it, so a reading never leaves the image.
 
+use super::name::is_name;
 use super::refusal::{holds, Refusal};
-use super::volume::{Block, Chain, Descriptor, Name, Volume};
+use super::volume::{Block, Chain, Descriptor, Volume};
 use super::volume::{MOST_SECTORS, SECTOR_BYTES};
 
 /// The sound volume that an image is, or the first refusal in the paper's order.
@@ -68,14 +69,6 @@ fn is_descriptor(descriptor: Descriptor, sectors: usize) -> bool {
         && is_status(descriptor)
         && length_of_chain(descriptor.chain(), sectors) == Some(descriptor.sectors())
         && descriptor.kind().is_some()
-}
-
-pub(super) fn is_name(name: &Name) -> bool {
-    let used = name.iter().take_while(|byte| **byte != b' ').count();
-    let (used, padding) = name.split_at(used);
-    !used.is_empty()
-        && used.iter().all(|byte| (33..=126).contains(byte) && *byte != b'.')
-        && padding.iter().all(|byte| *byte == b' ')
 }
 
 fn is_status(descriptor: Descriptor) -> bool {

@@ -1,7 +1,8 @@
 //! The reading calls. Each judges the image before it looks at its arguments; `room` is the length
 //! of the buffer that the answer is to fill.
 
-use super::judge::{is_name, judge};
+use super::judge::judge;
+use super::name::given_name;
 use super::refusal::{holds, Refusal};
 use super::volume::{Descriptor, Kind, Name, Sector, Volume};
 use super::volume::{HEADER_BYTES, SECTOR_BYTES};
@@ -112,10 +113,4 @@ pub(super) fn named<'image>(
     name: &Name,
 ) -> Option<(usize, Descriptor<'image>)> {
     volume.files().find(|(_, descriptor)| descriptor.name() == name)
-}
-
-/// A name as it was lent, if it is one.
-pub(super) fn given_name(bytes: &[u8]) -> Result<&Name, Refusal> {
-    let ten: Option<&Name> = bytes.try_into().ok();
-    ten.filter(|name| is_name(name)).ok_or(Refusal::Name)
 }

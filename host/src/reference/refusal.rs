@@ -1,39 +1,65 @@
 //! Why a call is refused, in the order of the tests.
 
-/// Each case stands for the paper's number.
+/// Each case stands for one of the paper's numbers.
 #[derive(Clone, Copy, Debug, PartialEq, Eq)]
 pub enum Refusal {
     /// The image's length, or in formatting that the n asked for is another.
-    Length = 1,
-    Label = 2,
-    Index = 3,
-    Descriptor = 4,
-    TwoHolders = 5,
-    Map = 6,
-    /// A given name is not lent as ten bytes, or breaks the name rule.
-    Name = 7,
+    Length,
+    Label,
+    Index,
+    Descriptor,
+    TwoHolders,
+    Map,
+    /// A given name is wrong from this place on: the first byte that breaks the name rule, or 10
+    /// where the name is not lent as ten bytes.
+    Name {
+        place: usize,
+    },
+    /// The same of the old and of the new name of a rename.
+    OldName {
+        place: usize,
+    },
+    NewName {
+        place: usize,
+    },
     /// No such file, or no such place in the catalogue.
-    Absent = 8,
+    Absent,
     /// The new name is that of a file, be it the one that is to be renamed.
-    Present = 9,
-    Protected = 10,
+    Present,
+    Protected,
     /// A program is asked for and the file is not one, or data is and it is a program.
-    Kind = 14,
+    Kind,
     /// An offset not below c, a status that cannot be created, bytes to write that are too many or
     /// not a sector's, a buffer too short for what it is to be filled with, or a target that is not
     /// of the source's length.
-    Argument = 15,
+    Argument,
     /// 127 files are present.
-    IndexFull = 11,
+    IndexFull,
     /// The call takes more sectors than are free.
-    DiskFull = 12,
+    DiskFull,
     /// A 77th block would be needed.
-    ChainFull = 13,
+    ChainFull,
 }
 
 impl Refusal {
     pub fn number(self) -> u32 {
-        self as u32
+        match self {
+            Refusal::Length => 1,
+            Refusal::Label => 2,
+            Refusal::Index => 3,
+            Refusal::Descriptor => 4,
+            Refusal::TwoHolders => 5,
+            Refusal::Map => 6,
+            Refusal::Name { .. } | Refusal::OldName { .. } | Refusal::NewName { .. } => 7,
+            Refusal::Absent => 8,
+            Refusal::Present => 9,
+            Refusal::Protected => 10,
+            Refusal::Kind => 14,
+            Refusal::Argument => 15,
+            Refusal::IndexFull => 11,
+            Refusal::DiskFull => 12,
+            Refusal::ChainFull => 13,
+        }
     }
 }
 

@@ -4,7 +4,8 @@
 use super::choice::{grow, Free};
 use super::draft::{set_chain, Draft};
 use super::judge::judge;
-use super::reading::{find, given_name, named};
+use super::name::{given_name, lent_name};
+use super::reading::{find, named};
 use super::refusal::{holds, Refusal};
 use super::volume::{Block, Descriptor, Name, Sector, Volume};
 use super::volume::{MOST_BLOCKS, MOST_FILES, SECTOR_BYTES};
@@ -107,7 +108,8 @@ pub fn delete(image: &mut [u8], name: &[u8]) -> Result<(), Refusal> {
 
 pub fn rename(image: &mut [u8], old: &[u8], new: &[u8]) -> Result<(), Refusal> {
     let volume = judge(image)?;
-    let (old, new) = (given_name(old)?, given_name(new)?);
+    let old = lent_name(old).map_err(|place| Refusal::OldName { place })?;
+    let new = lent_name(new).map_err(|place| Refusal::NewName { place })?;
     let (number, descriptor) = named(volume, old).ok_or(Refusal::Absent)?;
     holds(named(volume, new).is_none(), Refusal::Present)?;
     is_unprotected(descriptor)?;

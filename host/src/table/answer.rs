@@ -1,6 +1,6 @@
-//! What a call gives where it is done.
+//! What a call gives where it is done, and what it says of a name where that is wrong.
 
-use crate::reference::{Entry, Row, Sector, Summary};
+use crate::reference::{Entry, Refusal, Row, Sector, Summary};
 use std::fmt::Display;
 
 /// What goes into the lent memory beside the image: bytes from the start of the buffer on, and the
@@ -9,16 +9,30 @@ use std::fmt::Display;
 pub(crate) struct Written {
     pub bytes: Vec<u8>,
     pub numbers: Vec<usize>,
+    /// With number 7 the place where a name is wrong, and of a call that takes two which it is.
+    pub which: Option<usize>,
+    pub wrong: Option<usize>,
 }
 
 impl Written {
     pub(super) fn new(bytes: &[u8], numbers: &[usize]) -> Self {
-        Written { bytes: bytes.to_vec(), numbers: numbers.to_vec() }
+        Written { bytes: bytes.to_vec(), numbers: numbers.to_vec(), ..Written::default() }
     }
 
     /// Bytes and how many there are.
     pub(super) fn counted(bytes: &[u8]) -> Self {
         Written::new(bytes, &[bytes.len()])
+    }
+
+    /// What a call has written that the reference refuses.
+    pub(super) fn refused(refusal: Refusal) -> Self {
+        let (which, wrong) = match refusal {
+            Refusal::Name { place } => (None, Some(place)),
+            Refusal::OldName { place } => (Some(0), Some(place)),
+            Refusal::NewName { place } => (Some(1), Some(place)),
+            _ => (None, None),
+        };
+        Written { which, wrong, ..Written::default() }
     }
 }
 

@@ -38,7 +38,12 @@ impl Given {
     const NOTHING: Given = Given { bytes: Vec::new(), length: 0 };
 
     pub(crate) fn whole(bytes: &[u8]) -> Self {
-        Given { bytes: bytes.to_vec(), length: bytes.len() }
+        Given::front(bytes, bytes.len())
+    }
+
+    /// So many of the bytes are lent.
+    pub(crate) fn front(bytes: &[u8], length: usize) -> Self {
+        Given { bytes: bytes.to_vec(), length }
     }
 
     pub(crate) fn lent(&self) -> &[u8] {
@@ -166,7 +171,7 @@ fn of_other_length(name: Name, random: &mut Random) -> Given {
     };
     let mut bytes = name.to_vec();
     bytes.resize(length.max(10), b' ');
-    Given { bytes, length }
+    Given::front(&bytes, length)
 }
 
 pub(super) fn malformed(random: &mut Random) -> Given {

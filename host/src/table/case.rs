@@ -57,7 +57,7 @@ pub(crate) fn compared<'case>(
     let (mut of_host, mut expected) = (lent.clone(), lent.clone());
     let (number, written) = match (call.by_reference)(expected.image.lent(), arguments) {
         Ok(answer) => (0, answer.written()),
-        Err(refusal) => (refusal.number(), Written::default()),
+        Err(refusal) => (refusal.number(), Written::refused(refusal)),
     };
     expected.write(&written);
     let agreed = planned.as_ref().map_or(true, |planned| {
@@ -67,8 +67,15 @@ pub(crate) fn compared<'case>(
     let by_library = (call.by_library)(lent.lent(), arguments);
     let is_right = agreed && by_library == number && lent == expected;
     // What a host calls takes the library at its word.
-    let by_host = is_right
-        .then(|| (call.by_host)(of_host.lent(), arguments).map_or_else(Refusal::number, |()| 0));
+    let by_host = is_right.then(|| match (call.by_host)(of_host.lent(), arguments) {
+        Ok(()) => 0,
+        Err(refusal) => {
+            if let Refusal::Name { place } = refusal {
+                *of_host.lent().wrong = place;
+            }
+            refusal.number()
+        }
+    });
     if by_host == Some(number) && of_host == expected {
         let due = faults.into_iter().filter(|due| *due != number).collect();
         let disk = planned.and_then(|planned| planned.disk);
@@ -92,10 +99,12 @@ fn told(planned: &Planned, agreed: bool) -> String {
     format!("plan {}{}", describe(planned.number, &planned.written), otherwise)
 }
 
-fn describe(number: u32, Written { bytes, numbers }: &Written) -> String {
+fn describe(number: u32, written: &Written) -> String {
+    let Written { bytes, numbers, which, wrong } = written;
     let first = &bytes[..bytes.len().min(8)];
     match number {
         0 => format!("0 with {} bytes {:?}.. and numbers {:?}", bytes.len(), first, numbers),
+        7 => format!("7 with which {:?} and wrong {:?}", which, wrong),
         _ => number.to_string(),
     }
 }

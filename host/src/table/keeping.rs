@@ -11,12 +11,13 @@ pub(crate) static DELETE: Call = Call {
     title: "delete",
     tests: &[(7, bad_name), (8, absent), (10, protected)],
     together: &[],
+    names: 1,
     often: Often::writing(2, 19, 8, 8),
     any: |desk, random| {
         let name = desk.present(|file| !is_protected(file), random);
         Arguments { name, ..NONE }
     },
-    by_library: |lent, _| ask!(pno_delete, [lent.image], [lent.name]),
+    by_library: |lent, _| ask!(pno_delete, [lent.image], [lent.name], lent.wrong),
     by_host: |lent, _| pnoelithe::delete(lent.image, lent.name),
     by_reference: |image, asked| reference::delete(image, asked.name.lent()).map(|()| Answer::Done),
     by_plan: Plan::Writes(Writing {
@@ -47,6 +48,7 @@ pub(crate) static RENAME: Call = Call {
         (10, protected),
     ],
     together: &[(7, &[8, 9, 10]), (8, &[9]), (9, &[10])],
+    names: 2,
     often: Often::writing(10, 11, 4, 4),
     any: |desk, random| {
         let name = match random.below(8) {
@@ -61,8 +63,18 @@ pub(crate) static RENAME: Call = Call {
         };
         Arguments { name, other, ..NONE }
     },
-    by_library: |lent, _| ask!(pno_rename, [lent.image], [lent.name], [lent.other]),
-    by_host: |lent, _| pnoelithe::rename(lent.image, lent.name, lent.other),
+    by_library: |lent, _| {
+        ask!(pno_rename, [lent.image], [lent.name], [lent.other], lent.which, lent.wrong)
+    },
+    by_host: |lent, _| {
+        let renamed = pnoelithe::rename(lent.image, lent.name, lent.other);
+        renamed.map_err(|pnoelithe::RenameRefusal { refusal, which }| {
+            if let Some(which) = which {
+                *lent.which = which as usize;
+            }
+            refusal
+        })
+    },
     by_reference: |image, asked| {
         reference::rename(image, asked.name.lent(), asked.other.lent()).map(|()| Answer::Done)
     },
@@ -88,9 +100,10 @@ pub(crate) static PROTECT: Call = Call {
     title: "protect",
     tests: &[(7, bad_name), (8, absent)],
     together: &[],
+    names: 1,
     often: Often::writing(3, 4, 2, 2),
     any: |desk, random| Arguments { name: desk.present(|_| true, random), ..NONE },
-    by_library: |lent, _| ask!(pno_protect, [lent.image], [lent.name]),
+    by_library: |lent, _| ask!(pno_protect, [lent.image], [lent.name], lent.wrong),
     by_host: |lent, _| pnoelithe::protect(lent.image, lent.name),
     by_reference: |image, asked| {
         reference::protect(image, asked.name.lent()).map(|()| Answer::Done)
@@ -114,9 +127,10 @@ pub(crate) static UNPROTECT: Call = Call {
     title: "unprotect",
     tests: &[(7, bad_name), (8, absent)],
     together: &[],
+    names: 1,
     often: Often::writing(5, 6, 4, 8),
     any: |desk, random| Arguments { name: desk.present(is_protected, random), ..NONE },
-    by_library: |lent, _| ask!(pno_unprotect, [lent.image], [lent.name]),
+    by_library: |lent, _| ask!(pno_unprotect, [lent.image], [lent.name], lent.wrong),
     by_host: |lent, _| pnoelithe::unprotect(lent.image, lent.name),
     by_reference: |image, asked| {
         reference::unprotect(image, asked.name.lent()).map(|()| Answer::Done)

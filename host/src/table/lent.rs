@@ -59,6 +59,9 @@ pub(crate) struct Memory {
     buffer: Part,
     /// Behind the pointers, in the order of the C interface.
     numbers: [usize; 4],
+    /// Behind those that say of which name, and where it is wrong.
+    which: usize,
+    wrong: usize,
 }
 
 /// The memory as a call gets it: whatever is lent is lent mutably, also where the library promises
@@ -69,6 +72,8 @@ pub(crate) struct Lent<'memory> {
     pub other: &'memory mut [u8],
     pub buffer: &'memory mut [u8],
     pub numbers: &'memory mut [usize; 4],
+    pub which: &'memory mut usize,
+    pub wrong: &'memory mut usize,
 }
 
 impl Memory {
@@ -81,6 +86,8 @@ impl Memory {
             other: Part::given(&arguments.other, random),
             buffer: Part::of(&buffer, random),
             numbers: [(); 4].map(|()| random.number() as usize),
+            which: random.number() as usize,
+            wrong: random.number() as usize,
         }
     }
 
@@ -91,6 +98,8 @@ impl Memory {
             other: self.other.lent(),
             buffer: self.buffer.lent(),
             numbers: &mut self.numbers,
+            which: &mut self.which,
+            wrong: &mut self.wrong,
         }
     }
 
@@ -98,6 +107,8 @@ impl Memory {
     pub(crate) fn write(&mut self, written: &Written) {
         self.buffer.lent()[..written.bytes.len()].copy_from_slice(&written.bytes);
         self.numbers[..written.numbers.len()].copy_from_slice(&written.numbers);
+        self.which = written.which.unwrap_or(self.which);
+        self.wrong = written.wrong.unwrap_or(self.wrong);
     }
 
     /// Where the memory first is not what it is expected to be.
@@ -110,8 +121,9 @@ impl Memory {
         ];
         let mut parts = parts.into_iter();
         let part = parts.find_map(|(what, found, expected)| found.difference(what, expected));
-        let differs = self.numbers != expected.numbers;
-        let numbers = || format!("numbers {:?}, not {:?}", self.numbers, expected.numbers);
-        part.or_else(|| differs.then(numbers))
+        let behind = |memory: &Memory| (memory.numbers, memory.which, memory.wrong);
+        let (found, expected) = (behind(self), behind(expected));
+        let numbers = || format!("numbers, which and wrong {:?}, not {:?}", found, expected);
+        part.or_else(|| (found != expected).then(numbers))
     }
 }

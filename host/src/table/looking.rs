@@ -13,6 +13,7 @@ pub(crate) static JUDGE: Call = Call {
     title: "judge",
     tests: &[],
     together: &[],
+    names: 0,
     often: Often::single(1),
     any: |_, _| NONE,
     by_library: |lent, _| ask!(pno_judge, [lent.image]),
@@ -27,6 +28,7 @@ pub(crate) static FREE_COUNT: Call = Call {
     title: "free count",
     tests: &[],
     together: &[],
+    names: 0,
     often: Often::single(1),
     any: |_, _| NONE,
     by_library: |lent, _| ask!(pno_free_count, [lent.image], &mut lent.numbers[0]),
@@ -48,6 +50,7 @@ pub(crate) static SUMMARY: Call = Call {
     title: "summary",
     tests: &[],
     together: &[],
+    names: 0,
     often: Often::single(1),
     any: |_, _| for_a_name(),
     by_library: |lent, _| {
@@ -85,6 +88,7 @@ pub(crate) static ENTRY: Call = Call {
         (15, |asked| asked.room < HEADER_BYTES),
     ],
     together: &[(8, &[15])],
+    names: 0,
     often: Often::single(3),
     any: |desk, random| {
         let room = match random.below(3) {
@@ -135,6 +139,7 @@ pub(crate) static LISTING: Call = Call {
         asked.disk().map_or(room == 0, |disk| room < lines(disk).len())
     })],
     together: &[],
+    names: 0,
     often: Often::single(2),
     any: |desk, random| Arguments { room: room_for(lines(desk.disk).len(), random), ..NONE },
     by_library: |lent, _| ask!(pno_listing, [lent.image], [lent.buffer], &mut lent.numbers[0]),

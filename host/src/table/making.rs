@@ -22,6 +22,7 @@ pub(crate) static CREATE: Call = Call {
         (12, |asked| asked.lacks(1)),
     ],
     together: &[(7, &[15, 11, 12]), (9, &[15, 11, 12]), (15, &[11, 12]), (11, &[12])],
+    names: 1,
     often: Often::writing(18, 12, 6, 4),
     any: |desk, random| {
         let status = match random.below(6) {
@@ -35,7 +36,15 @@ pub(crate) static CREATE: Call = Call {
     },
     by_library: |lent, asked| {
         let [status, record_length, records_per_sector, _] = asked.bytes;
-        ask!(pno_create, [lent.image], [lent.name], status, record_length, records_per_sector)
+        ask!(
+            pno_create,
+            [lent.image],
+            [lent.name],
+            status,
+            record_length,
+            records_per_sector,
+            lent.wrong
+        )
     },
     by_host: |lent, asked| {
         let [status, record_length, records_per_sector, _] = asked.bytes;
@@ -96,6 +105,7 @@ pub(crate) static STORE: Call = Call {
         (15, &[11, 12, 13]),
         (11, &[12, 13]),
     ],
+    names: 1,
     often: Often::writing(20, 18, 50, 6),
     any: |desk, random| {
         let free = desk.disk.free();
@@ -121,7 +131,7 @@ pub(crate) static STORE: Call = Call {
         let name = desk.name_where(is_in_pieces, random);
         Arguments { name, other: Given::whole(&random.bytes(length)), ..NONE }
     },
-    by_library: |lent, _| ask!(pno_store, [lent.image], [lent.name], [lent.other]),
+    by_library: |lent, _| ask!(pno_store, [lent.image], [lent.name], [lent.other], lent.wrong),
     by_host: |lent, _| pnoelithe::store(lent.image, lent.name, lent.other),
     by_reference: |image, asked| {
         reference::store(image, asked.name.lent(), asked.other.lent()).map(|()| Answer::Done)

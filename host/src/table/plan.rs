@@ -7,7 +7,8 @@ use super::{Arguments, Call, Given, Written};
 use crate::reference;
 use crate::sequences::Shelved;
 use crate::suites::Image;
-use crate::volumes::{is_name, Disk, File, Name, Run, MOST_BLOCKS, MOST_FILES, SECTOR_BYTES};
+use crate::volumes::{is_letter, is_name, Disk, File, Name, Run};
+use crate::volumes::{MOST_BLOCKS, MOST_FILES, SECTOR_BYTES};
 use std::ops::Deref;
 
 const FIRST_FOR_DATA: usize = 34;
@@ -128,6 +129,35 @@ pub(crate) fn is_good(name: &Given) -> bool {
     name.lent().try_into().map_or(false, is_name)
 }
 
+/// The place of a name's first wrong byte: 10 of a name that is not ten bytes, 0 of a blank one, and
+/// else the least that has a byte other than a space which no name has or which comes after a space.
+fn first_wrong(name: &Given) -> Option<usize> {
+    let name = name.lent();
+    if name.len() != 10 {
+        return Some(10);
+    }
+    if *name == [b' '; 10] {
+        return Some(0);
+    }
+    let is_wrong = |place: &usize| {
+        let byte = name[*place];
+        byte != b' ' && (!is_letter(byte) || name[..*place].contains(&b' '))
+    };
+    (0..10).find(is_wrong)
+}
+
+/// What goes behind the pointers with number 7. Names are tested in their order, each wholly.
+fn misnamed(call: &Call, arguments: &Arguments) -> Written {
+    let mut names = [&arguments.name, &arguments.other].into_iter().take(call.names).enumerate();
+    match names.find_map(|(which, name)| Some((which, first_wrong(name)?))) {
+        Some((which, place)) => {
+            let which = (call.names > 1).then_some(which);
+            Written { which, wrong: Some(place), ..Written::default() }
+        }
+        None => Written::default(),
+    }
+}
+
 pub(crate) fn is_protected(file: &File) -> bool {
     file.status() & 0x08 != 0
 }
@@ -200,6 +230,7 @@ pub(super) fn planned(call: &Call, asked: &Asked, faults: &[u32]) -> Option<Plan
         return None;
     }
     match (number, &call.by_plan, image.planned) {
+        (7, _, _) => written = misnamed(call, arguments),
         (0, Plan::Reads(reading), Some(disk)) => {
             written = (reading.of_disk)(disk, arguments).unwrap_or_default();
         }

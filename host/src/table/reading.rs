@@ -16,6 +16,7 @@ pub(crate) static READ: Call = Call {
         (15, |asked| asked.past().is_some() || asked.room < SECTOR_BYTES),
     ],
     together: &[(7, &[15]), (8, &[15])],
+    names: 1,
     often: Often::single(3),
     any: |desk, random| {
         let any = random.once_in(4);
@@ -29,7 +30,9 @@ pub(crate) static READ: Call = Call {
         let at = around(file.map_or(1, File::count), random);
         Arguments { name, at, room, ..NONE }
     },
-    by_library: |lent, asked| ask!(pno_read, [lent.image], [lent.name], asked.at, [lent.buffer]),
+    by_library: |lent, asked| {
+        ask!(pno_read, [lent.image], [lent.name], asked.at, [lent.buffer], lent.wrong)
+    },
     by_host: |lent, asked| pnoelithe::read(lent.image, lent.name, asked.at, lent.buffer).map(drop),
     by_reference: |image, asked| {
         reference::read(image, asked.name.lent(), asked.at, asked.room).map(Answer::Sector)
@@ -77,6 +80,7 @@ pub(crate) static LOAD: Call = Call {
         (15, |asked| asked.on_file(|file| asked.room < length_of(file))),
     ],
     together: &[],
+    names: 1,
     often: Often::single(4),
     any: |desk, random| {
         let any = random.once_in(4);
@@ -88,7 +92,8 @@ pub(crate) static LOAD: Call = Call {
         Arguments { name, room, ..NONE }
     },
     by_library: |lent, _| {
-        ask!(pno_load, [lent.image], [lent.name], [lent.buffer], &mut lent.numbers[0])
+        let length = &mut lent.numbers[0];
+        ask!(pno_load, [lent.image], [lent.name], [lent.buffer], length, lent.wrong)
     },
     by_host: |lent, _| {
         lent.numbers[0] = pnoelithe::load(lent.image, lent.name, lent.buffer)?.len();

@@ -28,6 +28,7 @@ pub(crate) static APPEND: Call = Call {
         (14, &[15, 12, 13]),
         (15, &[12, 13]),
     ],
+    names: 1,
     often: Often::writing(36, 24, 8, 50),
     any: |desk, random| {
         let is_long = |file: &File| file.runs.len() >= MOST_BLOCKS - 2;
@@ -38,7 +39,7 @@ pub(crate) static APPEND: Call = Call {
         };
         Arguments { name, other: data(random), ..NONE }
     },
-    by_library: |lent, _| ask!(pno_append, [lent.image], [lent.name], [lent.other]),
+    by_library: |lent, _| ask!(pno_append, [lent.image], [lent.name], [lent.other], lent.wrong),
     by_host: |lent, _| pnoelithe::append(lent.image, lent.name, lent.other),
     by_reference: |image, asked| {
         reference::append(image, asked.name.lent(), asked.other.lent()).map(|()| Answer::Done)
@@ -100,6 +101,7 @@ pub(crate) static OVERWRITE: Call = Call {
         (15, |asked| asked.past().is_some() || not_a_sector(asked)),
     ],
     together: &[(7, &[15]), (8, &[15]), (10, &[14, 15]), (14, &[15])],
+    names: 1,
     often: Often::writing(6, 6, 2, 4),
     any: |desk, random| {
         let any = random.once_in(3);
@@ -110,7 +112,7 @@ pub(crate) static OVERWRITE: Call = Call {
         Arguments { name, at, other: data(random), ..NONE }
     },
     by_library: |lent, asked| {
-        ask!(pno_overwrite, [lent.image], [lent.name], asked.at, [lent.other])
+        ask!(pno_overwrite, [lent.image], [lent.name], asked.at, [lent.other], lent.wrong)
     },
     by_host: |lent, asked| pnoelithe::overwrite(lent.image, lent.name, asked.at, lent.other),
     by_reference: |image, asked| {

@@ -22,6 +22,7 @@ pub(crate) static FORMAT: Call = Call {
         (7, bad_name),
     ],
     together: &[(1, &[7])],
+    names: 1,
     often: Often::single(3),
     any: |desk, random| {
         let sectors = desk.image_bytes / SECTOR_BYTES;
@@ -44,7 +45,8 @@ pub(crate) static FORMAT: Call = Call {
             sectors_per_track,
             tracks,
             sides,
-            density
+            density,
+            lent.wrong
         )
     },
     by_host: |lent, asked| {
@@ -92,6 +94,7 @@ pub(crate) static PACK: Call = Call {
     title: "pack",
     tests: &[(15, |asked| asked.room != asked.image.bytes.len())],
     together: &[],
+    names: 0,
     often: Often::NEVER,
     any: |desk, _| Arguments { room: desk.image_bytes, ..NONE },
     by_library: |lent, _| ask!(pno_pack, [lent.image], [lent.buffer]),
