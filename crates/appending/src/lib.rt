@@ -5,7 +5,7 @@ ghost use Prim.Native.Nat.{_+_};
 ghost use lib.ListN.{length};
 ghost use Rattle.rules.specs.Name.{wrongPlace};
 ghost use Rattle.rules.specs.Chain.{blocks, extended};
-ghost use Rattle.rules.specs.Descriptor.{sectorsOf, chainOf, withChain};
+ghost use Rattle.rules.specs.Descriptor.{sectorsOf, chainOf, withChain, markedBy};
 ghost use Rattle.rules.specs.Map.{marked};
 ghost use Rattle.rules.specs.Sectors.{sectorOf, written};
 ghost use Rattle.rules.specs.Sound.{IsFile};
@@ -14,6 +14,7 @@ ghost use Rattle.rules.specs.Outcome.{NamedSays, Meets};
 ghost use Rattle.rules.specs.Calls.Append.{appendWrites, appending, appendOf};
 ghost use Rattle.rules.specs.declared.WrongPlace.the-variants.{None};
 ghost use Rattle.extension.specs.Built.{Extendable};
+use descriptor::kind::marking;
 use extension::Tip;
 use extension::extend;
 use extension::tip_of;
@@ -22,6 +23,7 @@ use map::bits::mark;
 use map::choice::Search;
 use map::free::free_count_of;
 use opening::find;
+use rules::Layout;
 use rules::NamedAnswer;
 use rules::Opened;
 use sector::buffer::copy;
@@ -31,16 +33,17 @@ use sector::bytes::byte;
 use sector::bytes::part;
 use sector::bytes::sector_of;
 
-// The descriptor of the file with the sector `new` behind its chain.
-fn longer(to: &mut [u8], descriptor: &[u8], tip: Tip, new: usize)
+// The descriptor of the file with the sector `new` behind its chain, marked by the rule.
+fn longer(layout: Layout, to: &mut [u8], descriptor: &[u8], tip: Tip, new: usize)
     requires { ⌜ (length (now to) ≡ 256) × (length (now descriptor) ≡ 256) × Extendable (chainOf (now descriptor)) tip new × (sectorsOf (now descriptor) ≡ tip .next) ⌝ }
-    ensures { λ _. ⌜ now (to .exit) ≡ withChain (now (descriptor .entry)) (sectorsOf (now (descriptor .entry)) + 1) (extended 0 (blocks (chainOf (now (descriptor .entry)))) new) ⌝ }
+    ensures { λ _. ⌜ now (to .exit) ≡ withChain (markedBy layout (now (descriptor .entry))) (sectorsOf (now (descriptor .entry)) + 1) (extended 0 (blocks (chainOf (now (descriptor .entry)))) new) ⌝ }
 {
     let c = tip.next + 1;
     let high = (c / 256) as u8;
     let low = (c % 256) as u8;
     let count = [high, low];
     copy(to, descriptor);
+    to[12] = marking(layout, to[12]);
     lay(to, 14, &count);
     extend(&mut to[28..256], tip, new);
 }
@@ -55,12 +58,12 @@ fn map_with(sector0: &mut [u8], image: &[u8], new: usize)
 }
 
 // The three sectors, in the order of the definition.
-fn write_longer(image: &mut [u8], k: usize, bytes: &[u8], tip: Tip, new: usize)
-    requires { ⌜ IsFile (now image) k × (new ≡ dataChoice (sectorOf (now image) 0)) × Extendable (chainOf (sectorOf (now image) k)) tip new × (sectorsOf (sectorOf (now image) k) ≡ tip .next) ⌝ }
-    ensures { λ _. ⌜ now (image .exit) ≡ written (now (image .entry)) (appendWrites (now (image .entry)) (now (bytes .entry)) k) ⌝ }
+fn write_longer(layout: Layout, image: &mut [u8], k: usize, bytes: &[u8], tip: Tip, new: usize)
+    requires { ⌜ IsFile layout (now image) k × (new ≡ dataChoice (sectorOf (now image) 0)) × Extendable (chainOf (sectorOf (now image) k)) tip new × (sectorsOf (sectorOf (now image) k) ≡ tip .next) ⌝ }
+    ensures { λ _. ⌜ now (image .exit) ≡ written (now (image .entry)) (appendWrites layout (now (image .entry)) (now (bytes .entry)) k) ⌝ }
 {
     let mut descriptor = [0u8; 256];
-    longer(&mut descriptor, sector_of(image, k), tip, new);
+    longer(layout, &mut descriptor, sector_of(image, k), tip, new);
     let mut sector0 = [0u8; 256];
     map_with(&mut sector0, image, new);
     write_sector(image, new, bytes);
@@ -69,9 +72,9 @@ fn write_longer(image: &mut [u8], k: usize, bytes: &[u8], tip: Tip, new: usize)
 }
 
 // Of the file whose descriptor is in sector k.
-fn append_at(image: &mut [u8], k: usize, bytes: &[u8]) -> NamedAnswer
-    requires { ⌜ IsFile (now image) k ⌝ }
-    ensures { λ r. ⌜ Meets (NamedSays None) (appending (now (image .entry)) (now (bytes .entry)) k) r (now (image .entry)) (now (image .exit)) ⌝ }
+fn append_at(layout: Layout, image: &mut [u8], k: usize, bytes: &[u8]) -> NamedAnswer
+    requires { ⌜ IsFile layout (now image) k ⌝ }
+    ensures { λ r. ⌜ Meets (NamedSays None) (appending layout (now (image .entry)) (now (bytes .entry)) k) r (now (image .entry)) (now (image .exit)) ⌝ }
 {
     let status = byte(sector_of(image, k), 12);
     if status / 8 % 2 == 1 {
@@ -94,18 +97,18 @@ fn append_at(image: &mut [u8], k: usize, bytes: &[u8]) -> NamedAnswer
     if with.used > 76 {
         return NamedAnswer::Refused(13);
     }
-    write_longer(image, k, bytes, tip, new);
+    write_longer(layout, image, k, bytes, tip, new);
     NamedAnswer::Done
 }
 
-pub fn append(image: &mut [u8], name: &[u8], bytes: &[u8]) -> NamedAnswer
-    ensures { λ r. ⌜ Meets (NamedSays (wrongPlace (now (name .entry)))) (appendOf (now (image .entry)) (now (name .entry)) (now (bytes .entry))) r (now (image .entry)) (now (image .exit)) ⌝ }
+pub fn append(layout: Layout, image: &mut [u8], name: &[u8], bytes: &[u8]) -> NamedAnswer
+    ensures { λ r. ⌜ Meets (NamedSays (wrongPlace (now (name .entry)))) (appendOf layout (now (image .entry)) (now (name .entry)) (now (bytes .entry))) r (now (image .entry)) (now (image .exit)) ⌝ }
 {
-    let opened = find(image, name);
+    let opened = find(layout, image, name);
     match opened {
         Opened::Refused(number) => NamedAnswer::Refused(number),
         Opened::Misnamed(place) => NamedAnswer::Misnamed(place),
         Opened::Absent => NamedAnswer::Refused(8),
-        Opened::At(_, k) => append_at(image, k, bytes),
+        Opened::At(_, k) => append_at(layout, image, k, bytes),
     }
 }

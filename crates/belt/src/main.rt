@@ -26,14 +26,15 @@ use input::read_or_tell;
 use libc::STDIN_FILENO;
 use libc::STDOUT_FILENO;
 use line::put;
+use rules::Layout;
 use sector::bytes::part;
 
 // The judge's number, which has one digit, or that there was no image to judge.
-fn mark_of(received: Received, buffer: &[u8]) -> u8
-    ensures { λ r. ⌜ r ≡ markOf received (now (buffer .entry)) ⌝ }
+fn mark_of(layout: Layout, received: Received, buffer: &[u8]) -> u8
+    ensures { λ r. ⌜ r ≡ markOf layout received (now (buffer .entry)) ⌝ }
 {
     match received {
-        Received::Bytes(length) => b'0' + judge::judge(part(buffer, 0, length)) as u8,
+        Received::Bytes(length) => b'0' + judge::judge(layout, part(buffer, 0, length)) as u8,
         Received::Failed => b'-',
     }
 }
@@ -80,14 +81,21 @@ fn write_line(verbose: bool, mark: u8, path: &[u8], buffer: &mut [u8]) -> bool {
 
 // Judges the image of that path, counts it and writes its line. The answer, here and below, is whether
 // the line could be written.
-fn judge_file(verbose: bool, path: &mut [u8], buffer: &mut [u8], tally: &mut [usize; 8]) -> bool {
+fn judge_file(
+    layout: Layout,
+    verbose: bool,
+    path: &mut [u8],
+    buffer: &mut [u8],
+    tally: &mut [usize; 8],
+) -> bool {
     let received = read_file(path, buffer);
-    let mark = mark_of(received, buffer);
+    let mark = mark_of(layout, received, buffer);
     count(tally, mark);
     write_line(verbose, mark, path, buffer)
 }
 
 fn judge_argument(
+    layout: Layout,
     position: usize,
     verbose: bool,
     argument: &mut [u8],
@@ -100,10 +108,11 @@ fn judge_argument(
         count(tally, b'-');
         return write_line(verbose, b'-', b"", buffer);
     }
-    judge_file(verbose, &mut argument[..length], buffer, tally)
+    judge_file(layout, verbose, &mut argument[..length], buffer, tally)
 }
 
 fn judge_arguments(
+    layout: Layout,
     first: usize,
     end: usize,
     verbose: bool,
@@ -112,16 +121,21 @@ fn judge_arguments(
     tally: &mut [usize; 8],
 ) -> bool {
     for position in first..end {
-        if !judge_argument(position, verbose, argument, buffer, tally) {
+        if !judge_argument(layout, position, verbose, argument, buffer, tally) {
             return false;
         }
     }
     true
 }
 
-fn judge_standard_input(verbose: bool, buffer: &mut [u8], tally: &mut [usize; 8]) -> bool {
+fn judge_standard_input(
+    layout: Layout,
+    verbose: bool,
+    buffer: &mut [u8],
+    tally: &mut [usize; 8],
+) -> bool {
     let received = read_or_tell(STDIN_FILENO, b"standard input", buffer);
-    let mark = mark_of(received, buffer);
+    let mark = mark_of(layout, received, buffer);
     count(tally, mark);
     let size = put_bare_line(verbose, mark, buffer);
     io::write_all(STDOUT_FILENO, part(buffer, 0, size))
@@ -136,24 +150,36 @@ fn run(argument: &mut [u8; ARGUMENT_ROOM], buffer: &mut [u8; IMAGE_ROOM]) {
     if usage(
         options.help,
         options.unknown || options.sums,
-        b"usage: belt [-v] [--] [IMAGE...]
+        b"usage: belt [-v] [--marks] [--] [IMAGE...]
 Judges images of disks: for each a line with its number, 0 for a sound volume or 1 to 6 for its
 first fault, and the image; - for one that cannot be read. With no image, that of standard input.
 How many there were of each number is the last line on standard error.
   -v          with the ground in words
+  --marks     by the rule with marks: status bit 10 hex, changed since backup, is allowed
   -h, --help  this text
 ",
     ) {
         return;
     }
+    let layout = Layout {
+        marks: options.marks,
+    };
     let mut tally = [0usize; 8];
     let first = options.first;
     if first == end {
-        if judge_standard_input(options.verbose, buffer, &mut tally) {
+        if judge_standard_input(layout, options.verbose, buffer, &mut tally) {
             tell(1, &tally);
             return;
         }
-    } else if judge_arguments(first, end, options.verbose, argument, buffer, &mut tally) {
+    } else if judge_arguments(
+        layout,
+        first,
+        end,
+        options.verbose,
+        argument,
+        buffer,
+        &mut tally,
+    ) {
         tell(end - first, &tally);
         return;
     }

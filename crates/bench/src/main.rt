@@ -18,9 +18,11 @@ use judge::judge;
 use libc::STDOUT_FILENO;
 use listing::listing;
 use packing::pack;
+use protecting::clear_mark;
 use renaming::rename;
 use rules::Amount;
 use rules::Answer;
+use rules::Layout;
 use rules::NamedAnswer;
 use rules::RenameAnswer;
 use sector::bytes::all_are;
@@ -54,6 +56,11 @@ fn write_answer(words: &[u8], yes: bool) -> bool {
     io::write_all(STDOUT_FILENO, b": no\n")
 }
 
+// What a case does not say of the layout: the rule of document 01.
+const OLD_RULE: Layout = Layout { marks: false };
+
+const WITH_MARKS: Layout = Layout { marks: true };
+
 // One side in single density: what a case does not say of the drive.
 fn one_side(sectors_per_track: u8, tracks: u8) -> Geometry {
     Geometry {
@@ -84,12 +91,12 @@ fn number_after(number: u32, image: &[u8]) -> u32 {
     if number != 0 {
         return number;
     }
-    judge(image)
+    judge(OLD_RULE, image)
 }
 
 fn case_10_two_sectors() -> bool {
     let image = [0u8; 512];
-    write_number(b"10 512 bytes", judge(&image))
+    write_number(b"10 512 bytes", judge(OLD_RULE, &image))
 }
 
 fn case_10_three_sectors() -> bool {
@@ -110,7 +117,7 @@ fn case_11() -> bool {
     let mut image = [0u8; 8960];
     let formatted = format(&mut image, 35, b"BENCH     ", one_side(5, 7));
     let bytes = [0x41u8; 300];
-    let stored = store(&mut image, b"TWO       ", &bytes);
+    let stored = store(OLD_RULE, &mut image, b"TWO       ", &bytes);
     write_number(b"11 35 sectors, formatted", number_of(formatted))
         && write_number(
             b"11 two sectors stored",
@@ -140,22 +147,22 @@ fn create_files(image: &mut [u8]) -> u32 {
             b' ',
             b' ',
         ];
-        let number = number_of(create(image, &name, 0x80, 80, 3));
+        let number = number_of(create(OLD_RULE, image, &name, 0x80, 80, 3));
         if number != 0 {
             return number;
         }
         i += 1;
     }
-    judge(image)
+    judge(OLD_RULE, image)
 }
 
 // With 127 files and one free sector: the next create, that sector appended, another one, and the next create on the full disk.
 fn full_disk(image: &mut [u8; 33280]) -> bool {
-    let next = create(image, b"NEXT      ", 0x80, 80, 3);
+    let next = create(OLD_RULE, image, b"NEXT      ", 0x80, 80, 3);
     let bytes = [0x42u8; 256];
-    let last = append(image, b"F000      ", &bytes);
-    let full = append(image, b"F001      ", &bytes);
-    let after = create(image, b"NEXT      ", 0x80, 80, 3);
+    let last = append(OLD_RULE, image, b"F000      ", &bytes);
+    let full = append(OLD_RULE, image, b"F001      ", &bytes);
+    let after = create(OLD_RULE, image, b"NEXT      ", 0x80, 80, 3);
     write_number(b"12 the next create", number_of(next))
         && write_number(b"12 the last free sector appended", number_of(last))
         && write_number(b"12 another one", number_of(full))
@@ -176,8 +183,8 @@ fn case_13() -> bool {
     let mut image = [0u8; 51200];
     let formatted = format(&mut image, 200, b"BENCH     ", one_side(10, 20));
     let bytes = [0x43u8; 32769];
-    let stored = store(&mut image, b"LONG      ", &bytes[0..32768]);
-    let refused = store(&mut image, b"LONGER    ", &bytes);
+    let stored = store(OLD_RULE, &mut image, b"LONG      ", &bytes[0..32768]);
+    let refused = store(OLD_RULE, &mut image, b"LONGER    ", &bytes);
     write_number(b"13 200 sectors, formatted", number_of(formatted))
         && write_number(
             b"13 32768 bytes stored",
@@ -190,10 +197,10 @@ fn case_14() -> bool {
     let mut image = [0u8; 8960];
     let formatted = format(&mut image, 35, b"BENCH     ", one_side(5, 7));
     let bytes = [0x44u8; 300];
-    let stored = store(&mut image, b"GONE      ", &bytes);
-    let deleted = delete(&mut image, b"GONE      ");
+    let stored = store(OLD_RULE, &mut image, b"GONE      ", &bytes);
+    let deleted = delete(OLD_RULE, &mut image, b"GONE      ");
     let mut target = [0u8; 8960];
-    let packed = pack(&image, &mut target);
+    let packed = pack(OLD_RULE, &image, &mut target);
     write_number(b"14 35 sectors, formatted", number_of(formatted))
         && write_number(b"14 a program stored", number_of(stored))
         && write_number(b"14 and deleted", number_after(number_of(deleted), &image))
@@ -206,9 +213,9 @@ fn case_14() -> bool {
 }
 
 // The listing of an image, or its number.
-fn write_listing(image: &[u8]) -> bool {
-    let mut text = [0u8; 4212];
-    let listed = listing(image, &mut text);
+fn write_listing(layout: Layout, image: &[u8]) -> bool {
+    let mut text = [0u8; 4466];
+    let listed = listing(layout, image, &mut text);
     match listed {
         Amount::Refused(number) => write_number(b"M refused", number),
         Amount::Given(size) => io::write_all(STDOUT_FILENO, part(&text, 0, size)),
@@ -219,10 +226,10 @@ fn case_m() -> bool {
     let mut image = [0u8; 16384];
     let formatted = format(&mut image, 64, b"SHELF     ", one_side(8, 8));
     let program = [0x41u8; 300];
-    let stored = store(&mut image, b"ALPHA     ", &program);
-    let created = create(&mut image, b"NOTES     ", 0x80, 80, 3);
+    let stored = store(OLD_RULE, &mut image, b"ALPHA     ", &program);
+    let created = create(OLD_RULE, &mut image, b"NOTES     ", 0x80, 80, 3);
     let bytes = [0x42u8; 256];
-    let appended = append(&mut image, b"NOTES     ", &bytes);
+    let appended = append(OLD_RULE, &mut image, b"NOTES     ", &bytes);
     write_number(b"M formatted", number_of(formatted))
         && write_number(b"M ALPHA stored", number_of(stored))
         && write_number(b"M NOTES created", number_of(created))
@@ -230,7 +237,7 @@ fn case_m() -> bool {
             b"M a sector appended",
             number_after(number_of(appended), &image),
         )
-        && write_listing(&image)
+        && write_listing(OLD_RULE, &image)
 }
 
 // Programs that end on a full sector, and one of no bytes; their sectors and lengths are in the listing of the volume packed.
@@ -238,11 +245,11 @@ fn ask_2() -> bool {
     let mut image = [0u8; 51200];
     let formatted = format(&mut image, 200, b"BENCH     ", one_side(10, 20));
     let bytes = [0x45u8; 32768];
-    let full = store(&mut image, b"FULL      ", &bytes[0..512]);
-    let none = store(&mut image, b"NONE      ", &bytes[0..0]);
-    let long = store(&mut image, b"LONG      ", &bytes);
+    let full = store(OLD_RULE, &mut image, b"FULL      ", &bytes[0..512]);
+    let none = store(OLD_RULE, &mut image, b"NONE      ", &bytes[0..0]);
+    let long = store(OLD_RULE, &mut image, b"LONG      ", &bytes);
     let mut target = [0u8; 51200];
-    let packed = pack(&image, &mut target);
+    let packed = pack(OLD_RULE, &image, &mut target);
     write_number(b"Ask 2 200 sectors, formatted", number_of(formatted))
         && write_number(b"Ask 2 512 bytes stored", number_of(full))
         && write_number(b"Ask 2 no bytes stored", number_of(none))
@@ -251,7 +258,7 @@ fn ask_2() -> bool {
             number_after(number_of(long), &image),
         )
         && write_number(b"Ask 2 packed", number_after(pack_number(packed), &target))
-        && write_listing(&target)
+        && write_listing(OLD_RULE, &target)
 }
 
 // What a call that takes a name says: where the name is wrong, or its number.
@@ -284,9 +291,9 @@ fn ask_4() -> bool {
     let blank = format(&mut image, 3, b"          ", one_side(3, 1));
     let short = format(&mut image, 3, b"BENCH", one_side(3, 1));
     let formatted = format(&mut image, 3, b"BENCH     ", one_side(3, 1));
-    let both = rename(&mut image, b"OLD.      ", b"NEW NAME  ");
-    let new = rename(&mut image, b"OLD       ", b"NEW NAME  ");
-    let absent = rename(&mut image, b"OLD       ", b"NEW       ");
+    let both = rename(OLD_RULE, &mut image, b"OLD.      ", b"NEW NAME  ");
+    let new = rename(OLD_RULE, &mut image, b"OLD       ", b"NEW NAME  ");
+    let absent = rename(OLD_RULE, &mut image, b"OLD       ", b"NEW       ");
     write_named(b"Ask 4 a space and A", led)
         && write_named(b"Ask 4 A, a space and a dot", dotted)
         && write_named(b"Ask 4 ten spaces", blank)
@@ -295,6 +302,23 @@ fn ask_4() -> bool {
         && write_renamed(b"Ask 4 OLD. to NEW NAME", both)
         && write_renamed(b"Ask 4 OLD to NEW NAME", new)
         && write_renamed(b"Ask 4 OLD to NEW", absent)
+}
+
+// By the rule with marks: a program stored and a file created are marked, and the first one's mark is cleared. The rule of document 01
+// refuses what the other allows.
+fn ask_11() -> bool {
+    let mut image = [0u8; 16384];
+    let formatted = format(&mut image, 64, b"SHELF     ", one_side(8, 8));
+    let program = [0x41u8; 300];
+    let stored = store(WITH_MARKS, &mut image, b"ALPHA     ", &program);
+    let created = create(WITH_MARKS, &mut image, b"NOTES     ", 0x80, 80, 3);
+    let cleared = clear_mark(OLD_RULE, &mut image, b"ALPHA     ");
+    write_number(b"Ask 11 formatted", number_of(formatted))
+        && write_number(b"Ask 11 ALPHA stored", number_of(stored))
+        && write_number(b"Ask 11 NOTES created", number_of(created))
+        && write_number(b"Ask 11 the mark of ALPHA cleared", number_of(cleared))
+        && write_number(b"Ask 11 by the old rule", judge(OLD_RULE, &image))
+        && write_listing(WITH_MARKS, &image)
 }
 
 fn write_cases() -> bool {
@@ -307,6 +331,7 @@ fn write_cases() -> bool {
         && case_m()
         && ask_2()
         && ask_4()
+        && ask_11()
 }
 
 // Whether the cases are to be run: no argument is one.

@@ -11,6 +11,7 @@ use row::no_row;
 use row::row_of;
 use rules::Answer;
 use rules::Entry;
+use rules::Layout;
 use sector::buffer::lay;
 use sector::bytes::part;
 use sector::bytes::sector_of;
@@ -25,10 +26,10 @@ fn refused(number: u32) -> Entry
     }
 }
 
-pub fn entry(image: &[u8], place: usize, header: &mut [u8]) -> Entry
-    ensures { λ r. ⌜ Gives (EntrySays (entryRow (now (image .entry)) place (length (now (header .entry))))) (entryOf (now (image .entry)) place (length (now (header .entry)))) r (now (header .entry)) (now (header .exit)) ⌝ }
+pub fn entry(layout: Layout, image: &[u8], place: usize, header: &mut [u8]) -> Entry
+    ensures { λ r. ⌜ Gives (EntrySays (entryRow layout (now (image .entry)) place (length (now (header .entry))))) (entryOf layout (now (image .entry)) place (length (now (header .entry)))) r (now (header .entry)) (now (header .exit)) ⌝ }
 {
-    let number = judge::judge(image);
+    let number = judge::judge(layout, image);
     if number != 0 {
         return refused(number);
     }

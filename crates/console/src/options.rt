@@ -11,12 +11,13 @@ use sector::bytes::same;
 // One byte more than the longest argument that Linux passes where a page has 4,096 bytes.
 pub const ARGUMENT_ROOM: usize = 131072;
 
-// What an argument asks for: the usage, grounds in words, sums; that the options end here; nothing that is known; or an
+// What an argument asks for: the usage, grounds in words, sums, the rule with marks; that the options end here; nothing that is known; or an
 // image, behind which there are no options.
 enum Word {
     Help,
     Verbose,
     Sums,
+    Marks,
     End,
     Unknown,
     Image,
@@ -27,6 +28,7 @@ pub struct Options {
     pub help: bool,
     pub verbose: bool,
     pub sums: bool,
+    pub marks: bool,
     pub unknown: bool,
     pub first: usize,
 }
@@ -45,6 +47,9 @@ fn word_of(argument: &[u8]) -> Word
     }
     if same(argument, b"--sums") {
         return Word::Sums;
+    }
+    if same(argument, b"--marks") {
+        return Word::Marks;
     }
     if same(argument, b"--") {
         return Word::End;
@@ -75,6 +80,7 @@ pub fn read_options(count: usize, argument: &mut [u8; ARGUMENT_ROOM]) -> Options
         help: false,
         verbose: false,
         sums: false,
+        marks: false,
         unknown: false,
         first: 1,
     };
@@ -85,6 +91,7 @@ pub fn read_options(count: usize, argument: &mut [u8; ARGUMENT_ROOM]) -> Options
             Word::Help => options.help = true,
             Word::Verbose => options.verbose = true,
             Word::Sums => options.sums = true,
+            Word::Marks => options.marks = true,
             Word::Unknown => options.unknown = true,
             Word::End => {
                 options.first = position + 1;

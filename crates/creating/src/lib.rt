@@ -12,11 +12,13 @@ ghost use Rattle.rules.specs.Outcome.{NamedSays, Meets};
 ghost use Rattle.rules.specs.Calls.Create.{createStatus, creating, createOf};
 ghost use Rattle.rules.specs.declared.WrongPlace.the-variants.{None};
 use descriptor::header::new_descriptor;
+use descriptor::kind::marking;
 use index::enter;
 use map::bits::mark;
 use map::choice::descriptor_choice;
 use map::free::free_count_of;
 use opening::find;
+use rules::Layout;
 use rules::NamedAnswer;
 use rules::Opened;
 use sector::buffer::write_sector;
@@ -65,14 +67,15 @@ fn write_descriptor(
 
 // On a sound volume, under a name that keeps the rule and is not there.
 fn create_new(
+    layout: Layout,
     image: &mut [u8],
     name: &[u8],
     status: u8,
     record_length: u8,
     records_per_sector: u8,
 ) -> NamedAnswer
-    requires { ⌜ Sound (now image) × (nameRule (now name) ≡ true) ⌝ }
-    ensures { λ r. ⌜ Meets (NamedSays None) (creating (now (image .entry)) (now (name .entry)) status «record_length» «records_per_sector») r (now (image .entry)) (now (image .exit)) ⌝ }
+    requires { ⌜ Sound layout (now image) × (nameRule (now name) ≡ true) ⌝ }
+    ensures { λ r. ⌜ Meets (NamedSays None) (creating layout (now (image .entry)) (now (name .entry)) status «record_length» «records_per_sector») r (now (image .entry)) (now (image .exit)) ⌝ }
 {
     if !create_status(status) {
         return NamedAnswer::Refused(15);
@@ -85,26 +88,35 @@ fn create_new(
         return NamedAnswer::Refused(12);
     }
     let k = descriptor_choice(sector_of(image, 0));
-    write_descriptor(image, k, name, status, records_per_sector, record_length);
+    let marked = marking(layout, status);
+    write_descriptor(image, k, name, marked, records_per_sector, record_length);
     mark(&mut image[0..256], k);
     enter(image, name, k);
     NamedAnswer::Done
 }
 
 pub fn create(
+    layout: Layout,
     image: &mut [u8],
     name: &[u8],
     status: u8,
     record_length: u8,
     records_per_sector: u8,
 ) -> NamedAnswer
-    ensures { λ r. ⌜ Meets (NamedSays (wrongPlace (now (name .entry)))) (createOf (now (image .entry)) (now (name .entry)) status «record_length» «records_per_sector») r (now (image .entry)) (now (image .exit)) ⌝ }
+    ensures { λ r. ⌜ Meets (NamedSays (wrongPlace (now (name .entry)))) (createOf layout (now (image .entry)) (now (name .entry)) status «record_length» «records_per_sector») r (now (image .entry)) (now (image .exit)) ⌝ }
 {
-    let opened = find(image, name);
+    let opened = find(layout, image, name);
     match opened {
         Opened::Refused(number) => NamedAnswer::Refused(number),
         Opened::Misnamed(place) => NamedAnswer::Misnamed(place),
         Opened::At(_, _) => NamedAnswer::Refused(9),
-        Opened::Absent => create_new(image, name, status, record_length, records_per_sector),
+        Opened::Absent => create_new(
+            layout,
+            image,
+            name,
+            status,
+            record_length,
+            records_per_sector,
+        ),
     }
 }

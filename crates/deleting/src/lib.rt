@@ -14,6 +14,7 @@ ghost use Rattle.rules.specs.declared.WrongPlace.the-variants.{None};
 use index::index_without;
 use map::bits::clear_file;
 use opening::find;
+use rules::Layout;
 use rules::NamedAnswer;
 use rules::Opened;
 use sector::buffer::copy;
@@ -23,8 +24,8 @@ use sector::bytes::part;
 use sector::bytes::sector_of;
 
 // Sector 0 without the sectors of the file whose descriptor is in sector k.
-fn map_without(sector0: &mut [u8], image: &[u8], k: usize)
-    requires { ⌜ (length (now sector0) ≡ 256) × IsFile (now image) k ⌝ }
+fn map_without(layout: Layout, sector0: &mut [u8], image: &[u8], k: usize)
+    requires { ⌜ (length (now sector0) ≡ 256) × IsFile layout (now image) k ⌝ }
     ensures { λ _. ⌜ now (sector0 .exit) ≡ markedAll 0 (sectorOf (now (image .entry)) 0) (k ∷ placesIn (now (image .entry)) k) ⌝ }
 {
     copy(sector0, sector_of(image, 0));
@@ -32,8 +33,8 @@ fn map_without(sector0: &mut [u8], image: &[u8], k: usize)
 }
 
 // Of that file.
-fn delete_at(image: &mut [u8], k: usize) -> NamedAnswer
-    requires { ⌜ IsFile (now image) k ⌝ }
+fn delete_at(layout: Layout, image: &mut [u8], k: usize) -> NamedAnswer
+    requires { ⌜ IsFile layout (now image) k ⌝ }
     ensures { λ r. ⌜ Meets (NamedSays None) (deleting (now (image .entry)) k) r (now (image .entry)) (now (image .exit)) ⌝ }
 {
     if byte(sector_of(image, k), 12) / 8 % 2 == 1 {
@@ -42,20 +43,20 @@ fn delete_at(image: &mut [u8], k: usize) -> NamedAnswer
     let mut index = [0u8; 256];
     index_without(&mut index, sector_of(image, 1), k);
     let mut sector0 = [0u8; 256];
-    map_without(&mut sector0, image, k);
+    map_without(layout, &mut sector0, image, k);
     write_sector(image, 1, &index);
     write_sector(image, 0, &sector0);
     NamedAnswer::Done
 }
 
-pub fn delete(image: &mut [u8], name: &[u8]) -> NamedAnswer
-    ensures { λ r. ⌜ Meets (NamedSays (wrongPlace (now (name .entry)))) (deleteOf (now (image .entry)) (now (name .entry))) r (now (image .entry)) (now (image .exit)) ⌝ }
+pub fn delete(layout: Layout, image: &mut [u8], name: &[u8]) -> NamedAnswer
+    ensures { λ r. ⌜ Meets (NamedSays (wrongPlace (now (name .entry)))) (deleteOf layout (now (image .entry)) (now (name .entry))) r (now (image .entry)) (now (image .exit)) ⌝ }
 {
-    let opened = find(image, name);
+    let opened = find(layout, image, name);
     match opened {
         Opened::Refused(number) => NamedAnswer::Refused(number),
         Opened::Misnamed(place) => NamedAnswer::Misnamed(place),
         Opened::Absent => NamedAnswer::Refused(8),
-        Opened::At(_, k) => delete_at(image, k),
+        Opened::At(_, k) => delete_at(layout, image, k),
     }
 }

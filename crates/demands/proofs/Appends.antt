@@ -1,6 +1,7 @@
 -- Append: the sector taken was free, so it is nobody's, and the three writes are to different sectors. The descriptor with the longer chain keeps its rules, its places
 -- are the old ones and the new one behind them, and its header changes in the number of sectors alone.
 use mathlib.Core.Path.{_≡_, refl, sym, ap, _∙_}
+use mathlib.Core.Bool.{false}
 use mathlib.Core.List.{List, [], _∷_, _++_, map, map-append}
 use Prim.Native.Nat.{ℕ, _+_, _-_, _≤_, _<_}
 use native.Mathlib.Omega.{arith}
@@ -9,10 +10,12 @@ use borrow.Author.Tests.{not-false, eqb-true, ltb-false}
 use Rattle.rules.specs.Bytes.{wordBytes, splice}
 use Rattle.rules.specs.Sectors.{Write, sectorOf, sectorCount, written}
 use Rattle.rules.specs.Map.{count, freeCount, marked, markedAll}
-use Rattle.rules.specs.Chain.{blocks, places, chainWith}
-use Rattle.rules.specs.Descriptor.{nameOf, sectorsOf, chainOf, IsDescriptor}
+use Rattle.rules.specs.Chain.{blocks, places, extended, chainWith}
+use Rattle.rules.specs.Kind.{isProgram}
+use Rattle.rules.specs.Descriptor.{nameOf, statusOf, sectorsOf, chainOf, markedBy, IsDescriptor}
 use Rattle.rules.specs.Volume.{files, nameIn, placesIn, fileHolders, holders, headerIn, contentsIn, fileIn, catalogue}
 use Rattle.rules.specs.Choice.{dataChoice}
+use Rattle.rules.specs.declared.Layout.{Layout}
 use Rattle.rules.specs.declared.Block.{Block}
 use Rattle.rules.specs.Outcome.{write}
 use Rattle.rules.specs.Tests.{Passed}
@@ -22,6 +25,7 @@ use Rattle.rules.proofs.Extended.{with-chain-length, sectors-few}
 use Rattle.rules.proofs.Map.{count-here, count-more, only-one, one-once, count-apart}
 use Rattle.rules.proofs.Volume.{places-count}
 use Rattle.rules.proofs.Marking.{marked-length}
+use Rattle.rules.proofs.Marks.{marking-bit, mark-length, mark-status, mark-name, mark-chain, mark-sectors, mark-rules, mark-header}
 use Rattle.rules.proofs.Longer.{longer-blocks, longer-descriptor, longer-name, longer-header, longer-places, longer-chain, longer-rules}
 use Rattle.rules.proofs.Choice.{Chosen, sound-fenced, data-choice-free}
 use Rattle.rules.proofs.Tests.{all-passed, unless-passed}
@@ -33,7 +37,7 @@ use Rattle.rules.proofs.Staying.{file-holds, free-unheld, map-agree}
 use Rattle.demands.specs.Catalogue.{changed}
 use Rattle.demands.specs.Call.{append}
 use Rattle.demands.specs.Ours.{outcome}
-use Rattle.demands.specs.Effects.{effect, Done, longer}
+use Rattle.demands.specs.Effects.{effect, Done, markedFile, longer}
 use Rattle.demands.specs.Grounds.{Has}
 use Rattle.demands.specs.Taking.{Takes}
 use Rattle.demands.specs.Touches.{Gains, Touches}
@@ -42,7 +46,7 @@ use Rattle.demands.proofs.Replacing.{altered-done, altered-lies, found-
 use Rattle.demands.proofs.Taking.{append-takes}
 
 -- The three writes, with a free sector `new` and a descriptor `d` for the file at sector k.
-module _ (image name : List ℕ) (p k : ℕ) (o : IsOpened image name p k) (bytes : List ℕ) (long : length bytes ≡ 256)
+module _ (layout : Layout) (image name : List ℕ) (p k : ℕ) (o : IsOpened layout image name p k) (bytes : List ℕ) (long : length bytes ≡ 256)
     (new : ℕ) (chosen : Chosen (sectorCount image) (sectorOf image 0) new) (d : List ℕ) (size : length d ≡ 256) where
   abbrev first : Write
   first = write new bytes
@@ -57,27 +61,27 @@ module _ (image name : List ℕ) (p k : ℕ) (o : IsOpened image name p k) (byte
   after = written image (first ∷ (second ∷ (third ∷ [])))
 
   abbrev there : 1 ≤ count k (files image)
-  there = opened-listed image name p k o
+  there = opened-listed layout image name p k o
 
   held-other : (j : ℕ) → 1 ≤ count j (fileHolders image (files image)) → j ≡ new → ⊥
   unfolding holders
   held-other j held e =
       let hs = fileHolders image (files image) in
-      omega (arith, rw e at held, free-unheld image new (o .whole) (chosen .inside) (chosen .free), count-more new 0 (1 ∷ hs), count-more new 1 hs)
+      omega (arith, rw e at held, free-unheld layout image new (o .whole) (chosen .inside) (chosen .free), count-more new 0 (1 ∷ hs), count-more new 1 hs)
 
   own : 1 ≤ count k (fileHolders image (files image))
   own = omega (arith, file-holds image k k (files image) there, count-here k (placesIn image k))
 
   own-range : (2 ≤ k) × (k < sectorCount image)
-  own-range = held-inside image (o .whole) k own
+  own-range = held-inside layout image (o .whole) k own
 
   whole : Whole (length image) (first ∷ (second ∷ (third ∷ [])))
   unfolding Whole
   whole =
-      let fits = sector-inside image (o .whole) in (
+      let fits = sector-inside layout image (o .whole) in (
         long,
         fits new (chosen .inside),
-        (marked-length 1 (sectorOf image 0) new ∙ label-long image (o .whole), fits 0 (omega (arith, o .whole .size)), (size, fits k (own-range .1), tt)),
+        (marked-length 1 (sectorOf image 0) new ∙ label-long layout image (o .whole), fits 0 (omega (arith, o .whole .size)), (size, fits k (own-range .1), tt)),
       )
 
   new-now : sectorOf after new ≡ bytes
@@ -98,19 +102,19 @@ module _ (image name : List ℕ) (p k : ℕ) (o : IsOpened image name p k) (byte
   else-same j some apart other = written-apart image (first ∷ (second ∷ (third ∷ []))) j whole (apart, ((λ e. omega (arith, e, some)), (other, tt)))
 
   held-same : (j : ℕ) → 1 ≤ count j (fileHolders image (files image)) → (j ≡ k → ⊥) → sectorOf after j ≡ sectorOf image j
-  held-same j held other = else-same j (omega (arith, held-inside image (o .whole) j held .0)) (held-other j held) other
+  held-same j held other = else-same j (omega (arith, held-inside layout image (o .whole) j held .0)) (held-other j held) other
 
   place-same : (j : ℕ) → 1 ≤ count j (placesIn image k) → sectorOf after j ≡ sectorOf image j
   place-same j placed =
-      held-same j (omega (arith, placed, count-more j k (placesIn image k), file-holds image k j (files image) there)) (place-other image k (o .whole) there j placed)
+      held-same j (omega (arith, placed, count-more j k (placesIn image k), file-holds image k j (files image) there)) (place-other layout image k (o .whole) there j placed)
 
   -- where the descriptor is the old one with the new sector at its end
-  module _ (rules : IsDescriptor (sectorCount image) d) (named : nameOf d ≡ nameIn image k) (longer-by : places (chainOf d) ≡ placesIn image k ++ (new ∷ [])) where
+  module _ (rules : IsDescriptor layout (sectorCount image) d) (named : nameOf d ≡ nameIn image k) (longer-by : places (chainOf d) ≡ placesIn image k ++ (new ∷ [])) where
     places-now : placesIn after k ≡ placesIn image k ++ (new ∷ [])
     unfolding placesIn
     places-now = ap (λ (s : List ℕ). places (chainOf s)) descriptor-now ∙ longer-by
 
-    altered : Altered image after k (new ∷ [])
+    altered : Altered layout image after k (new ∷ [])
     unfolding markedAll nameIn
     altered =
         record {
@@ -136,22 +140,24 @@ module _ (image name : List ℕ) (p k : ℕ) (o : IsOpened image name p k) (byte
 
     many : length (contentsIn image k) ≡ sectorsOf (sectorOf image k)
     unfolding contentsIn
-    many = length-map (placesIn image k) (sectorOf image) ∙ places-count (sectorCount image) image k (o .descriptor)
+    many = length-map (placesIn image k) (sectorOf image) ∙ places-count layout (sectorCount image) image k (o .descriptor)
 
-    appended-done : take 28 d ≡ splice (take 28 (sectorOf image k)) 14 (wordBytes (sectorsOf (sectorOf image k) + 1))
-        → Done image after name (effect (changed name (longer bytes) (catalogue image)) 1 0)
-    unfolding longer fileIn headerIn
-    appended-done header = altered-done altered name (o .named) (longer bytes) (rw (many, descriptor-now, header, contents-now))
+    appended-done : take 28 d ≡ splice (take 28 (markedBy layout (sectorOf image k))) 14 (wordBytes (sectorsOf (sectorOf image k) + 1))
+        → Done layout image after name (effect (changed name (λ file. longer bytes (markedFile layout file)) (catalogue image)) 1 0)
+    unfolding longer markedFile fileIn headerIn
+    appended-done header =
+        altered-done layout altered name (o .named) (λ file. longer bytes (markedFile layout file))
+        (rw (many, descriptor-now, header, contents-now, mark-header layout (sectorOf image k)))
 
     -- and its blocks are those that the sector makes longer
     appended-gains : (blocks-now : List Block) → Takes image [] (placesIn image k) (blocks (chainOf (sectorOf image k))) (new ∷ []) blocks-now → chainOf d ≡ chainWith blocks-now
         → Has image name (λ j. Gains image after name j [] (placesIn image j) (blocks (chainOf (sectorOf image j))) 1 (0 ∷ []))
     unfolding markedAll
     appended-gains blocks-now takes chain =
-        found-has image name p k o
+        found-has layout image name p k o
         (record {
           taken = record { ks = new ∷ []; so-many = refl; chain = blocks-now; takes = takes };
-          lies = altered-lies altered name (o .named) (chainWith blocks-now) (ap chainOf descriptor-now ∙ chain);
+          lies = altered-lies layout altered name (o .named) (chainWith blocks-now) (ap chainOf descriptor-now ∙ chain);
           map = map-now;
           others = λ j inside apart.
               let some = count-apart j 0 (k ∷ (new ∷ [])) apart in
@@ -159,35 +165,44 @@ module _ (image name : List ℕ) (p k : ℕ) (o : IsOpened image name p k) (byte
               else-same j (omega (arith, some .0)) (count-apart j new [] (own .1) .0) (own .0);
         })
 
-appending-done : (image name bytes : List ℕ) (p k : ℕ) → IsOpened image name p k → Passed (appendTests image bytes k) →
-    let after = written image (appendWrites image bytes k) in
-    Done image after name (effect (changed name (longer bytes) (catalogue image)) 1 0)
+appending-done : (layout : Layout) (image name bytes : List ℕ) (p k : ℕ) → IsOpened layout image name p k → Passed (appendTests image bytes k) →
+    let after = written image (appendWrites layout image bytes k) in
+    Done layout image after name (effect (changed name (λ file. longer bytes (markedFile layout file)) (catalogue image)) 1 0)
     × Has image name (λ j. Gains image after name j [] (placesIn image j) (blocks (chainOf (sectorOf image j))) 1 (0 ∷ []))
 unfolding nameIn placesIn appendTests appendWrites longerBlocks Passed
-appending-done image name bytes p k o passed =
+appending-done layout image name bytes p k o passed =
     let n = sectorCount image in
     let d = sectorOf image k in
+    let marked = markedBy layout d in
+    let same-sectors = mark-sectors layout d in
+    let same-chain = mark-chain layout d in
     let new = dataChoice (sectorOf image 0) in
     let room = ltb-false (freeCount (sectorOf image 0)) 1 (passed .1 .1 .1 .0) in
-    let chosen = data-choice-free n (sectorOf image 0) (sound-fenced image (o .whole)) room in
-    let short : sectorsOf d ≤ 1600 = rw (o .is) at (sectors-few image p (o .whole) (o .inside)) in
+    let chosen = data-choice-free n (sectorOf image 0) (sound-fenced layout image (o .whole)) room in
+    let short : sectorsOf marked ≤ 1600 = rw same-sectors (rw (o .is) at (sectors-few layout image p (o .whole) (o .inside))) in
     let small = o .whole .size .1 in
-    let few = ltb-false 76 (length (longer-blocks d new)) (passed .1 .1 .1 .1 .0) in
+    let few : length (longer-blocks marked new) ≤ 76 = rw same-chain (ltb-false 76 (length (longer-blocks d new)) (passed .1 .1 .1 .1 .0)) in
     let long = eqb-true (length bytes) 256 (not-false _ (passed .1 .1 .0)) in
-    let size = with-chain-length d (sectorsOf d + 1) (longer-blocks d new) ∙ o .long in
-    let rules = longer-rules n d new (o .long) (o .descriptor) small short (chosen .from) (chosen .inside) (passed .1 .0) few in
-    let places = longer-places n d new (o .long) (o .descriptor) small short (chosen .from) (chosen .inside) (passed .1 .0) few in
-    let chain = longer-chain n d new (o .long) (o .descriptor) small short (chosen .from) (chosen .inside) (passed .1 .0) few in (
-      appended-done image name p k o bytes long new chosen (longer-descriptor d new) size rules (longer-name d new) places (longer-header d new),
-      appended-gains image name p k o bytes long new chosen (longer-descriptor d new) size rules (longer-name d new) places (longer-blocks d new)
-          (append-takes image k (o .whole) (opened-listed image name p k o) room) chain,
+    let whole = mark-length layout d ∙ o .long in
+    let kept = mark-rules layout d (o .long) n (o .descriptor) in
+    let records : isProgram (statusOf marked) ≡ false = rw (mark-status layout d (omega (arith, o .long)), marking-bit layout (statusOf d) 0 (λ e. omega (arith, e))) (passed .1 .0) in
+    let size = with-chain-length marked (sectorsOf marked + 1) (longer-blocks marked new) ∙ whole in
+    let rules = longer-rules layout n marked new whole kept small short (chosen .from) (chosen .inside) records few in
+    let named = longer-name marked new ∙ mark-name layout d in
+    let places = longer-places layout n marked new whole kept small short (chosen .from) (chosen .inside) records few ∙ ap (λ (chain : List ℕ). places chain ++ (new ∷ [])) same-chain in
+    let chain = longer-chain layout n marked new whole kept small short (chosen .from) (chosen .inside) records few ∙ ap (λ (chain : List ℕ). chainWith (extended 0 (blocks chain) new)) same-chain in
+    let header = longer-header marked new ∙ ap (λ (c : ℕ). splice (take 28 marked) 14 (wordBytes (c + 1))) same-sectors in
+    rw (← same-sectors, ← same-chain) (
+      appended-done layout image name p k o bytes long new chosen (longer-descriptor marked new) size rules named places header,
+      appended-gains layout image name p k o bytes long new chosen (longer-descriptor marked new) size rules named places (longer-blocks d new)
+          (append-takes layout image k (o .whole) (opened-listed layout image name p k o) room) chain,
     )
 
-pub appends : (bytes : List ℕ) → Does (append bytes)
+pub appends : (layout : Layout) (bytes : List ℕ) → Does layout (append bytes)
 unfolding outcome appendOf appending Touches
-appends bytes image name e =
-    let c = changed-done (openOf image name) (appending image bytes) (open-refused image name) e in
+appends layout bytes image name e =
+    let c = changed-done (openOf layout image name) (appending layout image bytes) (open-refused layout image name) e in
     let k = c .sector in
     let tests = appendTests image bytes k in
-    rw (c .is, unless-passed tests (appendWrites image bytes k) [] (c .number))
-    (appending-done image name bytes (c .place) k (opened-is image name (c .place) k (c .found-at)) (all-passed tests (c .number)))
+    rw (c .is, unless-passed tests (appendWrites layout image bytes k) [] (c .number))
+    (appending-done layout image name bytes (c .place) k (opened-is layout image name (c .place) k (c .found-at)) (all-passed tests (c .number)))

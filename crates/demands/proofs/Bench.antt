@@ -7,6 +7,7 @@ use native.Mathlib.Omega.{arith}
 use lib.ListN.{length, getD}
 use Rattle.rules.specs.Bytes.{same}
 use Rattle.rules.specs.Calls.Listing.{listingText}
+use Rattle.rules.specs.declared.Layout.{Layout}
 use Rattle.rules.proofs.Tests.{both}
 use Rattle.rules.proofs.Bytes.{same-is}
 use Rattle.rules.proofs.Formatted.{formatted-sector0}
@@ -20,18 +21,18 @@ holds-at [] none e p h = absurd (omega arith)
 holds-at (row ∷ rows) none e zero h = same-is (row .computed) (row .printed) (both (same (row .computed) (row .printed)) (holds rows) e .0)
 holds-at (row ∷ rows) none e (suc p) h = holds-at rows none (both (same (row .computed) (row .printed)) (holds rows) e .1) p (omega arith)
 
-pub case-listed : CaseListed
+pub case-listed : (layout : Layout) → CaseListed layout
 unfolding CaseListed
-case-listed = same-is (listingText caseM) printed (computed .listed)
+case-listed layout = same-is (listingText layout (caseM layout)) (printed layout) (computed layout .listed)
 
 -- of equal sectors
 moved : (a a′ b b′ m : List ℕ) → a ≡ a′ → b ≡ b′ → holds (tableOf a′ b′ m) ≡ true → holds (tableOf a b m) ≡ true
 moved a a′ b b′ m e f h = rw (e, f) h
 
-table-holds : holds table ≡ true
+table-holds : (layout : Layout) → holds (table layout) ≡ true
 unfolding table
-table-holds = moved _ _ _ _ caseM (formatted-sector0 35 diskX geometry refl) (formatted-sector0 360 diskX geometry refl) (computed .tabled)
+table-holds layout = moved _ _ _ _ (caseM layout) (formatted-sector0 35 diskX geometry refl) (formatted-sector0 360 diskX geometry refl) (computed layout .tabled)
 
-pub bench : Bench
+pub bench : (layout : Layout) → Bench layout
 unfolding Bench
-bench = holds-at table _ table-holds
+bench layout = holds-at (table layout) _ (table-holds layout)

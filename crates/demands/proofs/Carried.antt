@@ -20,6 +20,7 @@ use Rattle.rules.specs.Calls.Entry.{noRow, entryTests, entryOf, entryRow}
 use Rattle.rules.specs.Calls.Read.{readOf}
 use Rattle.rules.specs.Calls.Load.{loadOf}
 use Rattle.rules.specs.Calls.Format.{formatNumber}
+use Rattle.rules.specs.declared.Layout.{Layout}
 use Rattle.rules.specs.declared.WrongPlace.{WrongPlace}
 use Rattle.rules.specs.declared.WrongPlace.the-variants.{None}
 use Rattle.rules.specs.declared.Answer.the-variants as answer
@@ -30,7 +31,7 @@ use Rattle.rules.proofs.Name.{name-is}
 use Rattle.rules.proofs.Misnamed.{none-rule, place-wrong}
 use Rattle.rules.proofs.Outcome.{by-cases, wrong-cases}
 use Rattle.demands.specs.Call as call
-use Rattle.demands.specs.Call.{Names, Form, Look, Change, Call, namesOf, formOf, numberOf, numberIn, answerNumber, amountNumber, summaryNumber, namedNumber, loadedNumber, NamedCarries, LoadCarries, Carries}
+use Rattle.demands.specs.Call.{Names, Form, Look, Change, Call, namesOf, changeRule, ruleOf, formOf, numberOf, numberIn, answerNumber, amountNumber, summaryNumber, namedNumber, loadedNumber, NamedCarries, LoadCarries, Carries}
 use Rattle.demands.specs.Ours.{answered, seen, outcome, ours}
 use Rattle.demands.specs.Grounds.{Ground, ground, First, faults, lookGrounds, changeGrounds, grounds}
 
@@ -50,13 +51,13 @@ amount-number report = go (eqb (report .number) 0) refl
     go true e = sym (eqb-true (report .number) 0 e)
     go false e = refl
 
-pub summary-number : (image : List ℕ) → summaryNumber (summaryAnswer image) ≡ verdict image
+pub summary-number : (layout : Layout) (image : List ℕ) → summaryNumber (summaryAnswer layout image) ≡ verdict layout image
 unfolding summaryAnswer summaryNumber verdict unlessMet
-summary-number image = go (eqb (verdict image) 0) refl
+summary-number layout image = go (eqb (verdict layout image) 0) refl
   where
-    go : (t : Bool) → eqb (verdict image) 0 ≡ t
-        → summaryNumber (cond t (summary.Given (sectorCount image) (length (files image)) (freeCount (sectorOf image 0))) (summary.Refused (verdict image))) ≡ verdict image
-    go true e = sym (eqb-true (verdict image) 0 e)
+    go : (t : Bool) → eqb (verdict layout image) 0 ≡ t
+        → summaryNumber (cond t (summary.Given (sectorCount image) (length (files image)) (freeCount (sectorOf image 0))) (summary.Refused (verdict layout image))) ≡ verdict layout image
+    go true e = sym (eqb-true (verdict layout image) 0 e)
     go false e = refl
 
 -- of a call that takes names
@@ -92,18 +93,18 @@ amount-carries report = go (eqb (report .number) 0) refl
     go true e is = let z : _≡_ {A = ℕ} 0 1 = cc in omega arith
     go false e is = let z : report .number ≡ 0 = cc in eqb-false (report .number) 0 e z
 
-summary-carries : (image : List ℕ) → summaryAnswer image ≡ summary.Refused 0 → ⊥
+summary-carries : (layout : Layout) (image : List ℕ) → summaryAnswer layout image ≡ summary.Refused 0 → ⊥
 unfolding summaryAnswer unlessMet verdict
-summary-carries image = go (sectorCount image) (length (files image)) (freeCount (sectorOf image 0)) (eqb (verdict image) 0) refl
+summary-carries layout image = go (sectorCount image) (length (files image)) (freeCount (sectorOf image 0)) (eqb (verdict layout image) 0) refl
   where
-    go : (n listed free : ℕ) (t : Bool) → eqb (verdict image) 0 ≡ t → cond t (summary.Given n listed free) (summary.Refused (verdict image)) ≡ summary.Refused 0 → ⊥
+    go : (n listed free : ℕ) (t : Bool) → eqb (verdict layout image) 0 ≡ t → cond t (summary.Given n listed free) (summary.Refused (verdict layout image)) ≡ summary.Refused 0 → ⊥
     go n listed free true e is = let z : _≡_ {A = ℕ} 0 1 = cc in omega arith
-    go n listed free false e is = let z : verdict image ≡ 0 = cc in eqb-false (verdict image) 0 e z
+    go n listed free false e is = let z : verdict layout image ≡ 0 = cc in eqb-false (verdict layout image) 0 e z
 
 -- beside a refused entry stands no row
-row-carries : (image : List ℕ) (place room : ℕ) → (answerOf (entryOf image place room .number) ≡ answer.Done → ⊥) → entryRow image place room ≡ noRow
+row-carries : (layout : Layout) (image : List ℕ) (place room : ℕ) → (answerOf (entryOf layout image place room .number) ≡ answer.Done → ⊥) → entryRow layout image place room ≡ noRow
 unfolding entryOf entryRow answerOf
-row-carries image place room other = unless-met (entryTests image place room) _ noRow (λ none. other (rw none))
+row-carries layout image place room other = unless-met (entryTests layout image place room) _ noRow (λ none. other (rw none))
 
 -- 7 is the number of a name that is wrong, and of no other ground: where that number is the first, a name is
 unfoldable Only : Bool → Type 0 → Type 0
@@ -124,9 +125,9 @@ first-seven wrong number (g ∷ gs) sevens seven (inl here) = go (eqb (g .number
     go false e says = absurd (eqb-false (g .number) 7 e (sym (here .1) ∙ seven))
 first-seven wrong number (g ∷ gs) sevens seven (inr later) = first-seven wrong number gs (sevens .1) seven (later .1)
 
-faults-seven : (wrong : Type 0) (image : List ℕ) (more : List {1} Ground) → Sevens wrong more → Sevens wrong (faults image ++ more)
+faults-seven : (layout : Layout) (wrong : Type 0) (image : List ℕ) (more : List {1} Ground) → Sevens wrong more → Sevens wrong (faults layout image ++ more)
 unfolding Sevens Only faults
-faults-seven wrong image more sevens = (tt, (tt, (tt, (tt, (tt, (tt, sevens))))))
+faults-seven layout wrong image more sevens = (tt, (tt, (tt, (tt, (tt, (tt, sevens))))))
 
 -- that a name is wrong
 abbrev Misnamed : Names → Type 0
@@ -169,39 +170,40 @@ change-sevens (call.append bytes) image name = ((λ wrong. wrong), (tt, (tt, (tt
 change-sevens (call.overwrite offset bytes) image name = ((λ wrong. wrong), (tt, (tt, (tt, (tt, (tt, tt))))))
 change-sevens call.protect image name = ((λ wrong. wrong), (tt, tt))
 change-sevens call.unprotect image name = ((λ wrong. wrong), (tt, tt))
+change-sevens call.clear image name = ((λ wrong. wrong), (tt, tt))
 change-sevens (call.store bytes) image name = ((λ wrong. wrong), (tt, (tt, (tt, (tt, (tt, tt))))))
 change-sevens call.delete image name = ((λ wrong. wrong), (tt, (tt, tt)))
 change-sevens (call.rename new) image name = (inl, (inr, (tt, (tt, (tt, tt)))))
 
 -- of a look that takes a name
-look-carries : {form : Form} (look : Look form) (buffer image : List ℕ) → First (numberIn form (seen look buffer image .answer)) (faults image ++ lookGrounds look buffer image)
-    → Carries form (seen look buffer image .answer)
+look-carries : (layout : Layout) {form : Form} (look : Look form) (buffer image : List ℕ) → First (numberIn form (seen layout look buffer image .answer)) (faults layout image ++ lookGrounds layout look buffer image)
+    → Carries form (seen layout look buffer image .answer)
 unfolding seen lookGrounds Sevens Only
-look-carries call.judge buffer image first = tt
-look-carries call.freeCount buffer image first = amount-carries _
-look-carries call.summarize buffer image first = summary-carries image
-look-carries (call.entry place) buffer image first = (answer-carries _, row-carries image place (length buffer))
-look-carries (call.read name offset) buffer image first =
-    let number = readOf image name offset (length buffer) .number in
+look-carries layout call.judge buffer image first = tt
+look-carries layout call.freeCount buffer image first = amount-carries _
+look-carries layout call.summarize buffer image first = summary-carries layout image
+look-carries layout (call.entry place) buffer image first = (answer-carries _, row-carries layout image place (length buffer))
+look-carries layout (call.read name offset) buffer image first =
+    let number = readOf layout image name offset (length buffer) .number in
     named-carries (call.one name) number
-    (λ seven. first-seven (IsName name → ⊥) _ _ (faults-seven _ image _ ((λ wrong. wrong), (tt, (tt, (tt, tt))))) (named-number (call.one name) number ∙ seven) first)
-look-carries (call.load name) buffer image first =
-    let report = loadOf image name (length buffer) in
+    (λ seven. first-seven (IsName name → ⊥) _ _ (faults-seven layout _ image _ ((λ wrong. wrong), (tt, (tt, (tt, tt))))) (named-number (call.one name) number ∙ seven) first)
+look-carries layout (call.load name) buffer image first =
+    let report = loadOf layout image name (length buffer) in
     load-carries name report
-    (λ seven. first-seven (IsName name → ⊥) _ _ (faults-seven _ image _ ((λ wrong. wrong), (tt, (tt, (tt, tt))))) (loaded-number (wrongPlace name) report ∙ seven) first)
-look-carries call.list buffer image first = amount-carries _
-look-carries call.pack buffer image first = answer-carries _
+    (λ seven. first-seven (IsName name → ⊥) _ _ (faults-seven layout _ image _ ((λ wrong. wrong), (tt, (tt, (tt, tt))))) (loaded-number (wrongPlace name) report ∙ seven) first)
+look-carries layout call.list buffer image first = amount-carries _
+look-carries layout call.pack buffer image first = answer-carries _
 
 -- each call
-pub carried : (c : Call) (image : List ℕ) → First (numberOf ours c image) (grounds c image) → Carries (formOf c) (ours c image .answer)
+pub carried : (layout : Layout) (c : Call) (image : List ℕ) → First (numberOf (ours layout) c image) (grounds (ruleOf layout c) c image) → Carries (formOf c) (ours layout c image .answer)
 unfolding ours grounds Sevens Only
-carried (call.look look buffer) image first = look-carries look buffer image first
-carried (call.change name change) image first =
+carried layout (call.look look buffer) image first = look-carries layout look buffer image first
+carried layout (call.change name change) image first =
     let names = namesOf name change in
-    let number = outcome change image name .number in
+    let number = outcome layout change image name .number in
     named-carries names number
-    (λ seven. first-seven (Misnamed names) _ _ (faults-seven _ image _ (change-sevens change image name)) (named-number names number ∙ seven) first)
-carried (call.format n name geometry) image first =
+    (λ seven. first-seven (Misnamed names) _ _ (faults-seven (changeRule layout change) _ image _ (change-sevens change image name)) (named-number names number ∙ seven) first)
+carried layout (call.format n name geometry) image first =
     let number = formatNumber image n name in
     named-carries (call.one name) number
     (λ seven. first-seven (IsName name → ⊥) _ _ (tt, (tt, ((λ wrong. wrong), tt))) (named-number (call.one name) number ∙ seven) first)

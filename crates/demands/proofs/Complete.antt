@@ -11,6 +11,7 @@ use Rattle.rules.specs.Sectors.{sectorCount}
 use Rattle.rules.specs.Volume.{catalogue}
 use Rattle.rules.specs.Sound.{Sound}
 use Rattle.rules.specs.Verdict.{verdict}
+use Rattle.rules.specs.declared.Layout.{Layout}
 use Rattle.rules.specs.declared.Answer.{Answer}
 use Rattle.rules.specs.declared.Answer.the-variants as answers
 use Rattle.rules.specs.declared.Amount.{Amount}
@@ -26,7 +27,7 @@ use Rattle.rules.specs.declared.Row.{Row}
 use Rattle.rules.proofs.Misnamed.{wrong-one, wrong-unnamed}
 use Rattle.rules.proofs.Verdict.{sound}
 use Rattle.demands.specs.Call as call
-use Rattle.demands.specs.Call.{Names, Form, AnsweredTo, Answered, answerNumber, amountNumber, summaryNumber, namedNumber, loadedNumber, numberIn, NamedCarries, LoadCarries, Carries, Look, Call, namesOf, formOf, Result, Version, numberOf}
+use Rattle.demands.specs.Call.{Names, Form, AnsweredTo, Answered, answerNumber, amountNumber, summaryNumber, namedNumber, loadedNumber, numberIn, NamedCarries, LoadCarries, Carries, Look, Call, changeRule, ruleOf, namesOf, formOf, Result, Version, numberOf}
 use Rattle.demands.specs.Ours.{seen, ours}
 use Rattle.demands.specs.Grounds.{Ground, First, faults, lookGrounds, grounds}
 use Rattle.demands.specs.Demand2.{FreeIs, Shows, Means, Frame, Demand2}
@@ -55,14 +56,14 @@ first-more n (g ∷ gs) more some (inl here) = inl here
 first-more n (g ∷ gs) more some (inr past) = inr (past .0, first-more n gs more some (past .1))
 
 -- so a call that tests the image and was done was made on a sound one
-done-sound : (image : List ℕ) (n : ℕ) (more : List {1} Ground) → n ≡ 0 → First n (faults image ++ more) → Sound image
+done-sound : (layout : Layout) (image : List ℕ) (n : ℕ) (more : List {1} Ground) → n ≡ 0 → First n (faults layout image ++ more) → Sound layout image
 unfolding ours seen grounds lookGrounds
-done-sound image n more zero first =
-    elim (ℕ-discrete (verdict image) 0) [
-      | yes none ↦ sound image none
+done-sound layout image n more zero first =
+    elim (ℕ-discrete (verdict layout image) 0) [
+      | yes none ↦ sound layout image none
       | no some ↦
-          let judged = first-more (verdict image) (faults image) more some (demand2 .progress (call.look call.judge []) image) in
-          absurd (some (first-one (verdict image) n (faults image ++ more) judged first ∙ zero))
+          let judged = first-more (verdict layout image) (faults layout image) more some (demand2 layout .progress (call.look call.judge []) image) in
+          absurd (some (first-one (verdict layout image) n (faults layout image ++ more) judged first ∙ zero))
     ]
 
 -- an answer that is no refusal with 0, by its number
@@ -149,23 +150,23 @@ refused-one (call.loaded name) a b e some p q = loaded-one name a b e some p q
 free-one : (image : List ℕ) (a b : ℕ) → FreeIs image a → FreeIs image b → a ≡ b
 free-one image a b one two = omega (arith, one .is, two .is)
 
-shown-one : {form : Form} (look : Look form) (buffer image : List ℕ) → Sound image → (r r′ : Result form) → numberIn form (r .answer) ≡ numberIn form (r′ .answer)
-    → Carries form (r .answer) → Carries form (r′ .answer) → Shows look buffer image r → Shows look buffer image r′ → (r .answer ≡ r′ .answer) × (r .buffer ≡ r′ .buffer)
+shown-one : (layout : Layout) {form : Form} (look : Look form) (buffer image : List ℕ) → Sound layout image → (r r′ : Result form) → numberIn form (r .answer) ≡ numberIn form (r′ .answer)
+    → Carries form (r .answer) → Carries form (r′ .answer) → Shows layout look buffer image r → Shows layout look buffer image r′ → (r .answer ≡ r′ .answer) × (r .buffer ≡ r′ .buffer)
 unfolding Shows
-shown-one call.judge buffer image is r r′ e p q s t = (e, s ∙ sym t)
-shown-one call.freeCount buffer image is r r′ e p q s t =
+shown-one layout call.judge buffer image is r r′ e p q s t = (e, s ∙ sym t)
+shown-one layout call.freeCount buffer image is r r′ e p q s t =
     (s .0 .is ∙ ap amounts.Given (free-one image (s .0 .free) (t .0 .free) (s .0 .count) (t .0 .count)) ∙ sym (t .0 .is), s .1 ∙ sym (t .1))
-shown-one call.summarize buffer image is r r′ e p q s t = (
+shown-one layout call.summarize buffer image is r r′ e p q s t = (
   s .0 .is ∙ ap (summaries.Given (sectorCount image) (length (catalogue image))) (free-one image (s .0 .free) (t .0 .free) (s .0 .count) (t .0 .count)) ∙ sym (t .0 .is),
   s .1 ∙ sym (t .1),
 )
-shown-one (call.entry place) buffer image is r r′ e p q s t = (s .0 ∙ sym (t .0), s .1 ∙ sym (t .1))
-shown-one (call.read name offset) buffer image is r r′ e p q s t = (named-one (call.one name) (r .answer) (r′ .answer) e p q, s ∙ sym t)
-shown-one (call.load name) buffer image is r r′ e p q s t = (s .0 ∙ sym (t .0), s .1 ∙ sym (t .1))
-shown-one call.list buffer image is r r′ e p q s t =
-    let same = lists-one image (s .text) (t .text) (s .lists) (t .lists) in
+shown-one layout (call.entry place) buffer image is r r′ e p q s t = (s .0 ∙ sym (t .0), s .1 ∙ sym (t .1))
+shown-one layout (call.read name offset) buffer image is r r′ e p q s t = (named-one (call.one name) (r .answer) (r′ .answer) e p q, s ∙ sym t)
+shown-one layout (call.load name) buffer image is r r′ e p q s t = (s .0 ∙ sym (t .0), s .1 ∙ sym (t .1))
+shown-one layout call.list buffer image is r r′ e p q s t =
+    let same = lists-one layout image (s .text) (t .text) (s .lists) (t .lists) in
     (s .is ∙ rw same (sym (t .is)), s .put ∙ rw same (sym (t .put)))
-shown-one call.pack buffer image is r r′ e p q s t = (answer-one (r .answer) (r′ .answer) e p q, packs-one image (r .buffer) (r′ .buffer) is (s .1) (t .1))
+shown-one layout call.pack buffer image is r r′ e p q s t = (answer-one (r .answer) (r′ .answer) e p q, packs-one layout image (r .buffer) (r′ .buffer) is (s .1) (t .1))
 
 -- nothing is lent where nothing is put
 nothing-one : (a b : List ℕ) → length a ≡ 0 → length b ≡ 0 → a ≡ b
@@ -173,9 +174,9 @@ nothing-one [] [] e f = refl
 nothing-one [] (x ∷ b) e f = absurd (omega (arith, f))
 nothing-one (x ∷ a) b e f = absurd (omega (arith, e))
 
-module _ (v w : Version) (meets : Demand2 v) (meets′ : Demand2 w) (image : List ℕ) where
+module _ (layout : Layout) (v w : Version) (meets : Demand2 layout v) (meets′ : Demand2 layout w) (image : List ℕ) where
   number-one : (c : Call) → numberOf v c image ≡ numberOf w c image
-  number-one c = first-one (numberOf v c image) (numberOf w c image) (grounds c image) (meets .progress c image) (meets′ .progress c image)
+  number-one c = first-one (numberOf v c image) (numberOf w c image) (grounds (ruleOf layout c) c image) (meets .progress c image) (meets′ .progress c image)
 
   result-one : (c : Call) → v c image .answer ≡ w c image .answer → v c image .buffer ≡ w c image .buffer → v c image .image ≡ w c image .image → v c image ≡ w c image
   result-one c a b i = same-result (formOf c) (v c image .answer) (w c image .answer) (v c image .buffer) (w c image .buffer) (v c image .image) (w c image .image) a b i
@@ -191,20 +192,20 @@ module _ (v w : Version) (meets : Demand2 v) (meets′ : Demand2 w) (image : Lis
   unfolding grounds Means Frame
   done (call.look {form} look buffer) zero =
       let c = call.look look buffer in
-      let is = done-sound image (numberOf v c image) (lookGrounds look buffer image) zero (meets .progress c image) in
+      let is = done-sound layout image (numberOf v c image) (lookGrounds layout look buffer image) zero (meets .progress c image) in
       let shown =
-      shown-one look buffer image is (v c image) (w c image) (number-one c) (meets .carries c image) (meets′ .carries c image)
+      shown-one layout look buffer image is (v c image) (w c image) (number-one c) (meets .carries c image) (meets′ .carries c image)
       (meets .means c image is zero) (meets′ .means c image is (sym (number-one c) ∙ zero))
       in
       result-one c (shown .0) (shown .1) (meets .frame c image is ∙ sym (meets′ .frame c image is))
   done (call.change name change) zero =
       let c = call.change name change in
-      let is = done-sound image (numberOf v c image) _ zero (meets .progress c image) in
+      let is = done-sound (changeRule layout change) image (numberOf v c image) _ zero (meets .progress c image) in
       let first = meets .means c image is zero in
       let second = meets′ .means c image is (sym (number-one c) ∙ zero) in
       result-one c (named-one (namesOf name change) (v c image .answer) (w c image .answer) (number-one c) (meets .carries c image) (meets′ .carries c image))
       (nothing-one (v c image .buffer) (w c image .buffer) (meets .lengths c image .1) (meets′ .lengths c image .1))
-      (touches-one image (v c image .image) (w c image .image) name _ (first .0) (second .0) is change (first .1) (second .1))
+      (touches-one (changeRule layout change) image (v c image .image) (w c image .image) name _ (first .0) (second .0) is change (first .1) (second .1))
   done (call.format n name geometry) zero =
       let c = call.format n name geometry in
       let first = meets .formats n name geometry image zero in
@@ -213,14 +214,14 @@ module _ (v w : Version) (meets : Demand2 v) (meets′ : Demand2 w) (image : Lis
       (nothing-one (v c image .buffer) (w c image .buffer) (meets .lengths c image .1) (meets′ .lengths c image .1))
       (formats-one n name geometry (v c image .image) (w c image .image) (meets .lengths c image .0 ∙ sym (meets′ .lengths c image .0)) (first .1) (second .1))
 
-pub one-version : OneVersion
+pub one-version : (layout : Layout) → OneVersion layout
 unfolding OneVersion
-one-version v w meets meets′ c image =
+one-version layout v w meets meets′ c image =
     elim (ℕ-discrete (numberOf v c image) 0) [
-      | yes zero ↦ done v w meets meets′ image c zero
-      | no some ↦ refused v w meets meets′ image c some
+      | yes zero ↦ done layout v w meets meets′ image c zero
+      | no some ↦ refused layout v w meets meets′ image c some
     ]
 
-pub only-ours : OnlyOurs
+pub only-ours : (layout : Layout) → OnlyOurs layout
 unfolding OneVersion OnlyOurs
-only-ours v meets = one-version v ours meets demand2
+only-ours layout v meets = one-version layout v (ours layout) meets (demand2 layout)

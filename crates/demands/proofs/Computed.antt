@@ -1,7 +1,7 @@
 -- What is computed of case M, in one test, so that its image is built once: the bench table holds, the listing is what the paper prints, the volume is sound, and
 -- NOTES, which has a sector, can be appended to.
 use mathlib.Core.Path.{_≡_, refl}
-use mathlib.Core.Bool.{Bool, true, _&&_}
+use mathlib.Core.Bool.{Bool, true, false, _&&_}
 use mathlib.Core.List.{List, [], _∷_, _++_}
 use Prim.Native.Nat.{ℕ, _≤_}
 use lib.Dec.{eqb, ltb}
@@ -13,8 +13,8 @@ use Rattle.rules.specs.Name.{nameByte, padded, nameRule, wrongFrom, wrongPlace,
 use Rattle.rules.specs.Label.{labelRule}
 use Rattle.rules.specs.Map.{mapBit, count, taken, bitsRule, mapRule, byteOf, bytesOf, mapOf, zeroBits, freeCount, marked, markedAll}
 use Rattle.rules.specs.Chain.{blockBytes, blockOf, endsChain, blocks, blocksRule, chainRule, run, placesFrom, places, extended, extendedAll, blocksBytes}
-use Rattle.rules.specs.Kind.{statusRule, programLength, kindOf, kindRule}
-use Rattle.rules.specs.Descriptor.{nameOf, chainOf, fileKind, descriptorRule, newDescriptor, withChain}
+use Rattle.rules.specs.Kind.{allowedBits, within, statusRule, marking, programLength, kindOf, kindRule}
+use Rattle.rules.specs.Descriptor.{nameOf, chainOf, fileKind, descriptorRule, newDescriptor, withChain, markedBy}
 use Rattle.rules.specs.Index.{numbers, rangeRule, indexRule, numbersBytes, indexOf, without}
 use Rattle.rules.specs.Volume.{files, nameIn, placesIn, fileHolders, holders, placed, headerIn, contentsIn, fileIn, catalogue}
 use Rattle.rules.specs.Calls.Pack.{labelArea, oneBlock, packedDescriptor, packedDescriptors, packedData, dataSectors, packedSectors, packed}
@@ -27,7 +27,8 @@ use Rattle.rules.specs.Calls.Format.{newLabel, formatted}
 use Rattle.rules.specs.Calls.Create.{createStatus, entered, createTests, creating, createOf}
 use Rattle.rules.specs.Calls.Append.{longerBlocks, appendTests, appendWrites, appending, appendOf}
 use Rattle.rules.specs.Calls.Store.{dataWrites, newSectors, newBlocks, storeTests, storing, storeOf}
-use Rattle.rules.specs.Calls.Listing.{digits, decimal, unpadded, kindWord, kindLength, diskLine, fileLine, fileLines, listingText}
+use Rattle.rules.specs.Calls.Listing.{digits, decimal, unpadded, kindWord, kindLength, diskLine, markField, fileLine, fileLines, listingText}
+use Rattle.rules.specs.declared.Layout.{Layout}
 use Rattle.rules.proofs.Tests.{both}
 use Rattle.demands.specs.Catalogue.{named}
 use Rattle.demands.specs.CaseM.{notes, caseM, printed}
@@ -45,38 +46,40 @@ secondSector = replicate 256 0x43
 abbrev pub rows : List ℕ → List Case
 rows m = tableOf (newLabel 35 diskX geometry ++ mapOf 35 (0 ∷ (1 ∷ []))) (newLabel 360 diskX geometry ++ mapOf 360 (0 ∷ (1 ∷ []))) m
 
-unfoldable ready : List ℕ → Bool
-ready m = eqb (verdict m) 0 && (eqb (appendOf m notes secondSector .number) 0 && ltb 0 (length (named notes (catalogue m) .contents)))
+unfoldable ready : (layout : Layout) → List ℕ → Bool
+ready layout m = eqb (verdict layout m) 0 && (eqb (appendOf layout m notes secondSector .number) 0 && ltb 0 (length (named notes (catalogue m) .contents)))
 
-unfoldable tests : List ℕ → Bool
-tests m = holds (rows m) && (same (listingText m) printed && ready m)
+unfoldable tests : (layout : Layout) → List ℕ → Bool
+tests layout m = holds (rows m) && (same (listingText layout m) (printed layout) && ready layout m)
 
 -- what the tests say of an image that passes them
-pub record Shown (m : List ℕ) : Type 0 where
+pub record Shown (layout : Layout) (m : List ℕ) : Type 0 where
   pub tabled : holds (rows m) ≡ true
-  pub listed : same (listingText m) printed ≡ true
-  pub judged : verdict m ≡ 0
-  pub appended : appendOf m notes secondSector .number ≡ 0
+  pub listed : same (listingText layout m) (printed layout) ≡ true
+  pub judged : verdict layout m ≡ 0
+  pub appended : appendOf layout m notes secondSector .number ≡ 0
   pub held : 1 ≤ length (named notes (catalogue m) .contents)
 
-passed : (m : List ℕ) → tests m ≡ true → Shown m
+passed : (layout : Layout) (m : List ℕ) → tests layout m ≡ true → Shown layout m
 unfolding tests ready
-passed m e =
-    let first = both (holds (rows m)) (same (listingText m) printed && ready m) e in
-    let next = both (same (listingText m) printed) (ready m) (first .1) in
-    let sound = both (eqb (verdict m) 0) (eqb (appendOf m notes secondSector .number) 0 && ltb 0 (length (named notes (catalogue m) .contents))) (next .1) in
-    let last = both (eqb (appendOf m notes secondSector .number) 0) (ltb 0 (length (named notes (catalogue m) .contents))) (sound .1) in
+passed layout m e =
+    let first = both (holds (rows m)) (same (listingText layout m) (printed layout) && ready layout m) e in
+    let next = both (same (listingText layout m) (printed layout)) (ready layout m) (first .1) in
+    let sound = both (eqb (verdict layout m) 0) (eqb (appendOf layout m notes secondSector .number) 0 && ltb 0 (length (named notes (catalogue m) .contents))) (next .1) in
+    let last = both (eqb (appendOf layout m notes secondSector .number) 0) (ltb 0 (length (named notes (catalogue m) .contents))) (sound .1) in
     record {
       tabled = first .0;
       listed = next .0;
-      judged = eqb-true (verdict m) 0 (sound .0);
-      appended = eqb-true (appendOf m notes secondSector .number) 0 (last .0);
+      judged = eqb-true (verdict layout m) 0 (sound .0);
+      appended = eqb-true (appendOf layout m notes secondSector .number) 0 (last .0);
       held = ltb-true 0 (length (named notes (catalogue m) .contents)) (last .1);
     }
 
-all-pass : tests caseM ≡ true
-unfolding headerIn contentsIn fileIn catalogue joined labelArea oneBlock packedDescriptor packedDescriptors packedData dataSectors packedSectors packed same holds tableOf caseM over splice allAre withBit sectorOf written nameByte padded nameRule precedes labelRule mapBit count taken bitsRule mapRule byteOf bytesOf mapOf zeroBits freeCount marked markedAll blockBytes blockOf endsChain blocks blocksRule chainRule run placesFrom places extended extendedAll blocksBytes statusRule programLength kindOf kindRule nameOf chainOf fileKind descriptorRule newDescriptor withChain numbers rangeRule indexRule numbersBytes indexOf without files nameIn placesIn fileHolders holders placed sizeRule descriptorsRule heldTwice volumeTests verdict firstOf unlessMet lowestFree descriptorChoice dataChoice dataChoices wrongFrom wrongPlace ifWrong findIn onSound underName openOf changing adding newLabel formatted createStatus entered createTests creating createOf longerBlocks appendTests appendWrites appending appendOf dataWrites newSectors newBlocks storeTests storing storeOf digits decimal unpadded kindWord kindLength diskLine fileLine fileLines listingText named tests ready
-all-pass = refl
+-- by either rule
+all-pass : (marks : Bool) → tests (record { marks = marks }) (caseM (record { marks = marks })) ≡ true
+unfolding headerIn contentsIn fileIn catalogue joined labelArea oneBlock packedDescriptor packedDescriptors packedData dataSectors packedSectors packed same holds tableOf caseM over splice allAre withBit sectorOf written nameByte padded nameRule precedes labelRule mapBit count taken bitsRule mapRule byteOf bytesOf mapOf zeroBits freeCount marked markedAll blockBytes blockOf endsChain blocks blocksRule chainRule run placesFrom places extended extendedAll blocksBytes allowedBits within statusRule marking programLength kindOf kindRule nameOf chainOf fileKind descriptorRule newDescriptor withChain markedBy numbers rangeRule indexRule numbersBytes indexOf without files nameIn placesIn fileHolders holders placed sizeRule descriptorsRule heldTwice volumeTests verdict firstOf unlessMet lowestFree descriptorChoice dataChoice dataChoices wrongFrom wrongPlace ifWrong findIn onSound underName openOf changing adding newLabel formatted createStatus entered createTests creating createOf longerBlocks appendTests appendWrites appending appendOf dataWrites newSectors newBlocks storeTests storing storeOf digits decimal unpadded kindWord kindLength diskLine markField fileLine fileLines listingText named tests ready
+all-pass true = refl
+all-pass false = refl
 
-pub computed : Shown caseM
-computed = passed caseM all-pass
+pub computed : (layout : Layout) → Shown layout (caseM layout)
+computed layout = passed layout (caseM layout) (all-pass (layout .marks))

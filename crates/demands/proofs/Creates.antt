@@ -11,7 +11,7 @@ use borrow.Author.Tests.{not-false, eqb-true, ltb-false, leb-false}
 use Rattle.rules.specs.Sectors.{Write, sectorOf, sectorCount, written}
 use Rattle.rules.specs.Map.{freeCount, marked, markedAll}
 use Rattle.rules.specs.Chain.{extendedAll}
-use Rattle.rules.specs.Kind.{kindOf, IsStatus, IsKind}
+use Rattle.rules.specs.Kind.{allowedBits, marking, kindOf, IsStatus, IsKind}
 use Rattle.rules.specs.Descriptor.{newDescriptor}
 use Rattle.rules.specs.Volume.{files, catalogue}
 use Rattle.rules.specs.Choice.{descriptorChoice}
@@ -19,9 +19,11 @@ use Rattle.rules.specs.Tests.{Passed}
 use Rattle.rules.specs.Opening.{openOf}
 use Rattle.rules.specs.Calls.Create.{createStatus, entered, createTests, creating, createOf}
 use Rattle.rules.specs.Calls.Store.{dataWrites}
+use Rattle.rules.specs.declared.Layout.{Layout}
 use Rattle.rules.proofs.Tests.{all-passed, unless-passed}
 use Rattle.rules.proofs.Name.{name-is}
 use Rattle.rules.proofs.Map.{only-one, one-once}
+use Rattle.rules.proofs.Marks.{HoldsFour, allowed-four, marking-status, marking-kind, records-status}
 use Rattle.rules.proofs.Choice.{Chosen, sound-fenced, descriptor-choice-free}
 use Rattle.rules.proofs.Opening.{IsAbsent, absent-is, open-refused, added-done}
 use Rattle.demands.specs.Catalogue.{putIn}
@@ -61,45 +63,43 @@ pub among-status : (status : ℕ) → CreateStatus status → createStatus statu
 unfolding createStatus
 among-status = by-status (λ (status : ℕ). createStatus status ≡ true) refl refl refl refl
 
-status-rules : (status : ℕ) → CreateStatus status → IsStatus status
-status-rules =
-    by-status IsStatus
-    (record { others = refl; excludes = λ e. absurd (omega (arith, e)) })
-    (record { others = refl; excludes = λ e. absurd (omega (arith, e)) })
-    (record { others = refl; excludes = λ e. absurd (omega (arith, e)) })
-    (record { others = refl; excludes = λ e. absurd (omega (arith, e)) })
+-- each keeps the rules of any set that has the four bits, and marked those of the layout
+status-rules : (bits : ℕ) → HoldsFour bits → (status : ℕ) → CreateStatus status → IsStatus bits status
+status-rules bits four =
+    by-status (IsStatus bits) (records-status bits four 0 0 (omega arith) (omega arith)) (records-status bits four 1 0 (omega arith) (omega arith))
+    (records-status bits four 0 1 (omega arith) (omega arith)) (records-status bits four 1 1 (omega arith) (omega arith))
 
 kind-rules : (c endOffset recordLength status : ℕ) → CreateStatus status → IsKind (kindOf status c endOffset recordLength) c endOffset
 unfolding kindOf IsKind
 kind-rules c endOffset recordLength = by-status (λ (status : ℕ). IsKind (kindOf status c endOffset recordLength) c endOffset) tt tt tt tt
 
-module _ (image name : List ℕ) (status recordLength recordsPerSector : ℕ) where
+module _ (layout : Layout) (image name : List ℕ) (status recordLength recordsPerSector : ℕ) where
   abbrev k : ℕ
   k = descriptorChoice (sectorOf image 0)
 
   abbrev writes : List Write
-  writes = entered image name k (newDescriptor name status recordsPerSector 0 recordLength) (marked 1 (sectorOf image 0) k)
+  writes = entered image name k (newDescriptor name (marking layout status) recordsPerSector 0 recordLength) (marked 1 (sectorOf image 0) k)
 
-  module _ (absent : IsAbsent image name) (allowed : CreateStatus status) (place : length (files image) < 127) (room : 1 ≤ freeCount (sectorOf image 0)) where
+  module _ (absent : IsAbsent layout image name) (allowed : CreateStatus status) (place : length (files image) < 127) (room : 1 ≤ freeCount (sectorOf image 0)) where
     chosen : Chosen (sectorCount image) (sectorOf image 0) k
-    chosen = descriptor-choice-free (sectorCount image) (sectorOf image 0) (sound-fenced image (absent .whole)) room
+    chosen = descriptor-choice-free (sectorCount image) (sectorOf image 0) (sound-fenced layout image (absent .whole)) room
 
     created-done :
         let after = written image writes in
-        Done image after name (effect (putIn (record { header = newHeader name status recordsPerSector 0 0 recordLength; contents = [] }) (catalogue image)) 1 0) × Enters image after name 0
+        Done layout image after name (effect (putIn (record { header = newHeader name (marking layout status) recordsPerSector 0 0 recordLength; contents = [] }) (catalogue image)) 1 0) × Enters image after name 0
     unfolding markedAll dataWrites pieces extendedAll Takes
     created-done =
-        new-file-done image name [] k [] status recordsPerSector 0 recordLength absent place (one-once k) (λ j some. rw (← only-one k j some) chosen) (omega arith) (omega arith)
-        (status-rules status allowed) (kind-rules 0 0 recordLength status allowed)
-        (newDescriptor name status recordsPerSector 0 recordLength) (new-is name status recordsPerSector 0 recordLength (name-is name (absent .rule) .ten))
-        (descriptor-lowest image (absent .whole) room) refl
+        new-file-done layout image name [] k [] (marking layout status) recordsPerSector 0 recordLength absent place (one-once k) (λ j some. rw (← only-one k j some) chosen) (omega arith) (omega arith)
+        (marking-status layout status (status-rules (allowedBits layout) (allowed-four layout) status allowed)) (rw (marking-kind layout status 0 0 recordLength) (kind-rules 0 0 recordLength status allowed))
+        (newDescriptor name (marking layout status) recordsPerSector 0 recordLength) (new-is name (marking layout status) recordsPerSector 0 recordLength (name-is name (absent .rule) .ten))
+        (descriptor-lowest layout image (absent .whole) room) refl
 
-pub creates : (status recordLength recordsPerSector : ℕ) → Does (create status recordLength recordsPerSector)
+pub creates : (layout : Layout) (status recordLength recordsPerSector : ℕ) → Does layout (create status recordLength recordsPerSector)
 unfolding outcome createOf creating createTests Passed Touches
-creates status recordLength recordsPerSector image name e =
-    let added = added-done (openOf image name) (creating image name status recordLength recordsPerSector) (open-refused image name) e in
+creates layout status recordLength recordsPerSector image name e =
+    let added = added-done (openOf layout image name) (creating layout image name status recordLength recordsPerSector) (open-refused layout image name) e in
     let tests = createTests image status in
     let passed = all-passed tests (added .number) in
-    rw (added .is, unless-passed tests (writes image name status recordLength recordsPerSector) [] (added .number))
-    (created-done image name status recordLength recordsPerSector (absent-is image name (added .absent)) (status-among status (not-false _ (passed .0)))
+    rw (added .is, unless-passed tests (writes layout image name status recordLength recordsPerSector) [] (added .number))
+    (created-done layout image name status recordLength recordsPerSector (absent-is layout image name (added .absent)) (status-among status (not-false _ (passed .0)))
     (leb-false 127 (length (files image)) (passed .1 .0)) (ltb-false (freeCount (sectorOf image 0)) 1 (passed .1 .1 .0)))

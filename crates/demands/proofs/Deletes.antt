@@ -12,6 +12,7 @@ use Rattle.rules.specs.Sound.{Sound}
 use Rattle.rules.specs.Outcome.{write}
 use Rattle.rules.specs.Opening.{openOf}
 use Rattle.rules.specs.Calls.Delete.{deleteTests, deleting, deleteOf}
+use Rattle.rules.specs.declared.Layout.{Layout}
 use Rattle.rules.proofs.Tests.{unless-passed}
 use Rattle.rules.proofs.Map.{count-apart}
 use Rattle.rules.proofs.Marking.{all-length}
@@ -29,7 +30,7 @@ use Rattle.demands.specs.Does.{Does}
 use Rattle.demands.proofs.Filed.{named-file}
 use Rattle.demands.proofs.Replacing.{catalogue-after, replaced-done, numbers-after, found-has}
 
-module _ (image name : List ℕ) (k : ℕ) (is : Sound image) (there : 1 ≤ count k (files image)) (is-named : name ≡ nameIn image k) where
+module _ (layout : Layout) (image name : List ℕ) (k : ℕ) (is : Sound layout image) (there : 1 ≤ count k (files image)) (is-named : name ≡ nameIn image k) where
   abbrev first : Write
   first = write 1 (indexOf (without k (files image)))
 
@@ -42,10 +43,10 @@ module _ (image name : List ℕ) (k : ℕ) (is : Sound image) (there : 1 ≤ cou
   whole : Whole (length image) (first ∷ (second ∷ []))
   unfolding Whole
   whole =
-      let fits = sector-inside image is in (
+      let fits = sector-inside layout image is in (
         index-length (without k (files image)),
         fits 1 (omega (arith, is .size)),
-        (all-length 0 (sectorOf image 0) (k ∷ placesIn image k) ∙ label-long image is, fits 0 (omega (arith, is .size)), tt),
+        (all-length 0 (sectorOf image 0) (k ∷ placesIn image k) ∙ label-long layout image is, fits 0 (omega (arith, is .size)), tt),
       )
 
   sector0 : sectorOf after 0 ≡ markedAll 0 (sectorOf image 0) (k ∷ placesIn image k)
@@ -60,46 +61,46 @@ module _ (image name : List ℕ) (k : ℕ) (is : Sound image) (there : 1 ≤ cou
   unfolding Apart
   others j high = written-apart image (first ∷ (second ∷ [])) j whole ((λ e. omega (arith, e, high)), ((λ e. omega (arith, e, high)), tt))
 
-  replaced : Replaced image after name (at k) none
+  replaced : Replaced layout image after name (at k) none
   replaced =
       record {
         sound = is;
         listed = there;
         size = written-length image (first ∷ (second ∷ []));
-        mapped = given-mapped image after (at k) is there sector0;
+        mapped = given-mapped layout image after (at k) is there sector0;
         numbered =
-            index-anew image after name (at k) none is (λ j e. absurd (let z : _≡_ {A = ℕ} 0 1 = cc in omega arith))
-            (omega (arith, without-length k (files image) there, place-many image is)) sector1;
-        stands = λ j held. others j (rest-apart image is k there j held .0);
+            index-anew layout image after name (at k) none is (λ j e. absurd (let z : _≡_ {A = ℕ} 0 1 = cc in omega arith))
+            (omega (arith, without-length k (files image) there, place-many layout image is)) sector1;
+        stands = λ j held. others j (rest-apart layout image is k there j held .0);
         new = tt;
       }
 
   was-held : held (named name (catalogue image)) ≡ length (k ∷ placesIn image k)
   unfolding held fileIn contentsIn
-  was-held = rw (named-file image name k is there is-named, length-map (placesIn image k) (sectorOf image)) (omega arith)
+  was-held = rw (named-file layout image name k is there is-named, length-map (placesIn image k) (sectorOf image)) (omega arith)
 
-  deleted : Done image after name (effect (takenOut name (catalogue image)) 0 (held (named name (catalogue image))))
-  deleted = replaced-done replaced name is-named _ 0 _ (catalogue-after replaced name is-named) (omega (arith, was-held))
+  deleted : Done layout image after name (effect (takenOut name (catalogue image)) 0 (held (named name (catalogue image))))
+  deleted = replaced-done layout replaced name is-named _ 0 _ (catalogue-after layout replaced name is-named) (omega (arith, was-held))
 
   leaves : Leaves image after k
   leaves =
       record {
         map = sector0;
-        numbers = numbers-after replaced sector1;
+        numbers = numbers-after layout replaced sector1;
         others = λ j inside apart.
             let some = count-apart j 0 (1 ∷ []) apart in
             let more = count-apart j 1 [] (some .1) .0 in
             others j (omega (arith, some .0, more));
       }
 
-pub deletes : Does delete
+pub deletes : (layout : Layout) → Does layout delete
 unfolding outcome deleteOf deleting Touches
-deletes image name e =
-    let was = changed-done (openOf image name) (deleting image) (open-refused image name) e in
+deletes layout image name e =
+    let was = changed-done (openOf layout image name) (deleting image) (open-refused layout image name) e in
     let k = was .sector in
-    let opened = opened-is image name (was .place) k (was .found-at) in
-    let there = opened-listed image name (was .place) k opened in
-    rw (was .is, unless-passed (deleteTests image k) (first image name k (opened .whole) there (opened .named) ∷ (second image name k (opened .whole) there (opened .named) ∷ [])) [] (was .number)) (
-      deleted image name k (opened .whole) there (opened .named),
-      found-has image name (was .place) k opened (leaves image name k (opened .whole) there (opened .named)),
+    let opened = opened-is layout image name (was .place) k (was .found-at) in
+    let there = opened-listed layout image name (was .place) k opened in
+    rw (was .is, unless-passed (deleteTests image k) (first layout image name k (opened .whole) there (opened .named) ∷ (second layout image name k (opened .whole) there (opened .named) ∷ [])) [] (was .number)) (
+      deleted layout image name k (opened .whole) there (opened .named),
+      found-has layout image name (was .place) k opened (leaves layout image name k (opened .whole) there (opened .named)),
     )

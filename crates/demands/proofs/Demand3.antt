@@ -14,6 +14,7 @@ use Rattle.rules.specs.Tests.{firstOf, Passed}
 use Rattle.rules.specs.Verdict.{volumeTests, verdict}
 use Rattle.rules.specs.Sound.{Sound}
 use Rattle.rules.specs.Calls.Pack.{labelArea, packed, packTests, packNumber, afterPack}
+use Rattle.rules.specs.declared.Layout.{Layout}
 use Rattle.rules.proofs.Tests.{all-passed, none-met, passed-both, unless-passed, unless-met}
 use Rattle.rules.proofs.Verdict.{sound, passes, unsound-first, sound-first}
 use Rattle.demands.specs.Packing.{Packs}
@@ -22,90 +23,90 @@ use Rattle.demands.proofs.PackedSound.{label-byte, packedImage, packed-
 use Rattle.demands.proofs.PackedOne.{packs-one}
 
 -- the number
-module _ (source target : List ℕ) where
-  pub packable-number : Packable source target → packNumber source target ≡ 0
+module _ (layout : Layout) (source target : List ℕ) where
+  pub packable-number : Packable layout source target → packNumber layout source target ≡ 0
   unfolding packTests firstOf
-  packable-number can = sound-first source _ (passes source (can .sound)) ∙ rw (eq-eqb (length target) (length source) (can .long))
+  packable-number can = sound-first layout source _ (passes layout source (can .sound)) ∙ rw (eq-eqb (length target) (length source) (can .long))
 
-  unsound-number : (Sound source → ⊥) → packNumber source target ≡ verdict source
+  unsound-number : (Sound layout source → ⊥) → packNumber layout source target ≡ verdict layout source
   unfolding packTests
-  unsound-number not = unsound-first source _ (λ e. not (sound source e))
+  unsound-number not = unsound-first layout source _ (λ e. not (sound layout source e))
 
-  unmeasured-number : Sound source → (length target ≡ length source → ⊥) → packNumber source target ≡ 15
+  unmeasured-number : Sound layout source → (length target ≡ length source → ⊥) → packNumber layout source target ≡ 15
   unfolding packTests firstOf
-  unmeasured-number is other = sound-first source _ (passes source is) ∙ rw (ne-eqb (length target) (length source) other)
+  unmeasured-number is other = sound-first layout source _ (passes layout source is) ∙ rw (ne-eqb (length target) (length source) other)
 
-  number-packable : packNumber source target ≡ 0 → Packable source target
+  number-packable : packNumber layout source target ≡ 0 → Packable layout source target
   unfolding packTests verdict Passed
   number-packable e =
-      let passed = passed-both (volumeTests source) _ (all-passed (packTests source target) e) in
+      let passed = passed-both (volumeTests layout source) _ (all-passed (packTests layout source target) e) in
       record {
-        sound = sound source (none-met (volumeTests source) (passed .0));
+        sound = sound layout source (none-met (volumeTests layout source) (passed .0));
         long = eqb-true (length target) (length source) (not-false _ (passed .1 .0));
       }
 
   -- the target afterwards
-  after-packed : Packable source target → afterPack source target ≡ packedImage source
+  after-packed : Packable layout source target → afterPack layout source target ≡ packedImage source
   unfolding afterPack
-  after-packed can = unless-passed (packTests source target) _ target (packable-number can)
+  after-packed can = unless-passed (packTests layout source target) _ target (packable-number can)
 
-  after-refused : (packNumber source target ≡ 0 → ⊥) → afterPack source target ≡ target
+  after-refused : (packNumber layout source target ≡ 0 → ⊥) → afterPack layout source target ≡ target
   unfolding afterPack
-  after-refused not = unless-met (packTests source target) _ target not
+  after-refused not = unless-met (packTests layout source target) _ target not
 
 -- label area and catalogue determine the packed bytes
-sectors-labelled : (source : List ℕ) (is : Sound source) → wordAt (labelArea source) 10 ≡ sectorCount source
-sectors-labelled source is = omega (arith, label-byte source 10 (omega arith), label-byte source 11 (omega arith), is .label .count)
+sectors-labelled : (layout : Layout) (source : List ℕ) (is : Sound layout source) → wordAt (labelArea source) 10 ≡ sectorCount source
+sectors-labelled layout source is = omega (arith, label-byte source 10 (omega arith), label-byte source 11 (omega arith), is .label .count)
 
 same-packed : (n n′ : ℕ) (label label′ : List ℕ) (files files′ : List File) → n ≡ n′ → label ≡ label′ → files ≡ files′ → packed n label files ≡ packed n′ label′ files′
 same-packed n n′ label label′ files files′ p q r = rw (p, q, r)
 
-packed-form : (first second : List ℕ) (is : Sound first) (is′ : Sound second) → labelArea first ≡ labelArea second → catalogue first ≡ catalogue second
+packed-form : (layout : Layout) (first second : List ℕ) (is : Sound layout first) (is′ : Sound layout second) → labelArea first ≡ labelArea second → catalogue first ≡ catalogue second
     → packedImage first ≡ packedImage second
-packed-form first second is is′ label listed =
+packed-form layout first second is is′ label listed =
     same-packed (sectorCount first) (sectorCount second) (labelArea first) (labelArea second) (catalogue first) (catalogue second)
-    (sym (sectors-labelled first is) ∙ ap (λ (l : List ℕ). wordAt l 10) label ∙ sectors-labelled second is′) label listed
+    (sym (sectors-labelled layout first is) ∙ ap (λ (l : List ℕ). wordAt l 10) label ∙ sectors-labelled layout second is′) label listed
 
-module _ (source target : List ℕ) (can : Packable source target) where
-  after-sound : Sound (afterPack source target)
-  after-sound = rw (after-packed source target can) (packed-sound source (can .sound))
+module _ (layout : Layout) (source target : List ℕ) (can : Packable layout source target) where
+  after-sound : Sound layout (afterPack layout source target)
+  after-sound = rw (after-packed layout source target can) (packed-sound layout source (can .sound))
 
-  after-laid : Packs source (afterPack source target)
-  after-laid = rw (after-packed source target can) (laid-packs source (can .sound))
+  after-laid : Packs source (afterPack layout source target)
+  after-laid = rw (after-packed layout source target can) (laid-packs layout source (can .sound))
 
-  after-label : labelArea (afterPack source target) ≡ labelArea source
+  after-label : labelArea (afterPack layout source target) ≡ labelArea source
   unfolding labelArea
   after-label = after-laid .label
 
-  after-packable : (other : List ℕ) → length other ≡ length source → Packable (afterPack source target) other
+  after-packable : (other : List ℕ) → length other ≡ length source → Packable layout (afterPack layout source target) other
   after-packable other long = record { sound = after-sound; long = long ∙ sym (after-laid .size) }
 
-after-form : (first second target other : List ℕ) → Packable first target → Packable second other → labelArea first ≡ labelArea second → catalogue first ≡ catalogue second
-    → afterPack first target ≡ afterPack second other
-after-form first second target other can can′ label listed =
-    after-packed first target can ∙ packed-form first second (can .sound) (can′ .sound) label listed ∙ sym (after-packed second other can′)
+after-form : (layout : Layout) (first second target other : List ℕ) → Packable layout first target → Packable layout second other → labelArea first ≡ labelArea second → catalogue first ≡ catalogue second
+    → afterPack layout first target ≡ afterPack layout second other
+after-form layout first second target other can can′ label listed =
+    after-packed layout first target can ∙ packed-form layout first second (can .sound) (can′ .sound) label listed ∙ sym (after-packed layout second other can′)
 
-pub packing-demand : Demand3 packs
+pub packing-demand : (layout : Layout) → Demand3 layout (packs layout)
 unfolding packs
-packing-demand =
+packing-demand layout =
     record {
-      done = λ source target. (number-packable source target, packable-number source target);
-      judged = unsound-number;
-      measured = unmeasured-number;
-      refuses = after-refused;
-      laid = after-laid;
-      sound = after-sound;
+      done = λ source target. (number-packable layout source target, packable-number layout source target);
+      judged = unsound-number layout;
+      measured = unmeasured-number layout;
+      refuses = after-refused layout;
+      laid = after-laid layout;
+      sound = after-sound layout;
       again = λ source target other can long.
-          let next = after-packable source target can other long in
-          (packable-number (afterPack source target) other next, after-form (afterPack source target) source other target next can (after-label source target can) (after-laid source target can .listed));
+          let next = after-packable layout source target can other long in
+          (packable-number layout (afterPack layout source target) other next, after-form layout (afterPack layout source target) source other target next can (after-label layout source target can) (after-laid layout source target can .listed));
       form = λ first second target other can can′. (
         (λ e. (
-          sym (after-label first target can) ∙ ap labelArea e ∙ after-label second other can′,
-          sym (after-laid first target can .listed) ∙ ap catalogue e ∙ after-laid second other can′ .listed,
+          sym (after-label layout first target can) ∙ ap labelArea e ∙ after-label layout second other can′,
+          sym (after-laid layout first target can .listed) ∙ ap catalogue e ∙ after-laid layout second other can′ .listed,
         )),
-        (λ both. after-form first second target other can can′ (both .0) (both .1)),
+        (λ both. after-form layout first second target other can can′ (both .0) (both .1)),
       );
-      fresh = λ source target other can can′. after-form source source target other can can′ refl refl;
+      fresh = λ source target other can can′. after-form layout source source target other can can′ refl refl;
     }
 
 -- The demand is complete.
@@ -113,34 +114,34 @@ same-result : (number number′ : ℕ) (target target′ : List ℕ) → number 
     → _≡_ {A = Packed} (record { number = number; target = target }) (record { number = number′; target = target′ })
 same-result number number′ target target′ e f = rw (e, f)
 
-module _ (first second : Packer) (is : Demand3 first) (is′ : Demand3 second) (source target : List ℕ) where
+module _ (layout : Layout) (first second : Packer) (is : Demand3 layout first) (is′ : Demand3 layout second) (source target : List ℕ) where
   abbrev Same : Type 0
   Same = first source target ≡ second source target
 
-  both-done : Packable source target → Same
+  both-done : Packable layout source target → Same
   both-done can =
       same-result _ _ _ _ (is .done source target .1 can ∙ sym (is′ .done source target .1 can))
-      (packs-one source _ _ (can .sound) (is .laid source target can) (is′ .laid source target can))
+      (packs-one layout source _ _ (can .sound) (is .laid source target can) (is′ .laid source target can))
 
-  both-refused : (Packable source target → ⊥) → first source target .number ≡ second source target .number → Same
+  both-refused : (Packable layout source target → ⊥) → first source target .number ≡ second source target .number → Same
   both-refused not e =
       same-result _ _ _ _ e
       (is .refuses source target (λ zero. not (is .done source target .0 zero)) ∙ sym (is′ .refuses source target (λ zero. not (is′ .done source target .0 zero))))
 
   both-same : Same
   both-same =
-      elim (ℕ-discrete (verdict source) 0) [
+      elim (ℕ-discrete (verdict layout source) 0) [
         | no some ↦
-            let unsound : Sound source → ⊥ = λ volume. some (passes source volume) in
+            let unsound : Sound layout source → ⊥ = λ volume. some (passes layout source volume) in
             both-refused (λ can. unsound (can .sound)) (is .judged source target unsound ∙ sym (is′ .judged source target unsound))
         | yes zero ↦
-            let volume = sound source zero in
+            let volume = sound layout source zero in
             elim (ℕ-discrete (length target) (length source)) [
               | yes long ↦ both-done (record { sound = volume; long = long })
               | no other ↦ both-refused (λ can. other (can .long)) (is .measured source target volume other ∙ sym (is′ .measured source target volume other))
             ]
       ]
 
-pub one-packing : OnePacking
+pub one-packing : (layout : Layout) → OnePacking layout
 unfolding OnePacking
-one-packing = both-same
+one-packing layout = both-same layout

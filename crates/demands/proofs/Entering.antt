@@ -9,7 +9,7 @@ use Rattle.rules.specs.Bytes.{part, over, splice}
 use Rattle.rules.specs.Sectors.{sectorOf, sectorCount, written, Write}
 use Rattle.rules.specs.Map.{count, markedAll}
 use Rattle.rules.specs.Chain.{placesFrom, places, extendedAll, Linked, chainWith}
-use Rattle.rules.specs.Kind.{kindOf, IsStatus, IsKind}
+use Rattle.rules.specs.Kind.{allowedBits, kindOf, IsStatus, IsKind}
 use Rattle.rules.specs.Descriptor.{nameOf, chainOf, IsDescriptor}
 use Rattle.rules.specs.Volume.{File, files, nameIn, placesIn, fileHolders, holders, headerIn, contentsIn, fileIn, catalogue, placed}
 use Rattle.rules.specs.Sound.{Sound}
@@ -17,6 +17,7 @@ use Rattle.rules.specs.Calls.Create.{entered}
 use Rattle.rules.specs.Calls.Store.{dataWrites}
 use Rattle.rules.specs.Index.{indexOf}
 use Rattle.rules.specs.Outcome.{write}
+use Rattle.rules.specs.declared.Layout.{Layout}
 use Rattle.rules.specs.declared.Block.{Block}
 use Rattle.rules.proofs.Opening.{IsAbsent, unfound}
 use Rattle.rules.proofs.Name.{name-is}
@@ -58,10 +59,10 @@ data-read image after bytes (k ∷ ks) once inside still =
     rw (first, more)
 
 -- What is known of the new file: its name is not there, there is a place for it, its sectors were free, and its descriptor, in sector k, keeps the rules and names ks.
-module _ (image name bytes : List ℕ) (k : ℕ) (ks descriptor : List ℕ) (absent : IsAbsent image name) (few : length (files image) < 127)
+module _ (layout : Layout) (image name bytes : List ℕ) (k : ℕ) (ks descriptor : List ℕ) (absent : IsAbsent layout image name) (few : length (files image) < 127)
     (once : (j : ℕ) → count j (k ∷ ks) ≤ 1) (free : (j : ℕ) → 1 ≤ count j (k ∷ ks) → Chosen (sectorCount image) (sectorOf image 0) j)
-    (long : length descriptor ≡ 256) (rules : IsDescriptor (sectorCount image) descriptor) (named : nameOf descriptor ≡ name) (places-are : places (chainOf descriptor) ≡ ks) where
-  abbrev is : Sound image
+    (long : length descriptor ≡ 256) (rules : IsDescriptor layout (sectorCount image) descriptor) (named : nameOf descriptor ≡ name) (places-are : places (chainOf descriptor) ≡ ks) where
+  abbrev is : Sound layout image
   is = absent .whole
 
   abbrev laid : List ℕ
@@ -81,7 +82,7 @@ module _ (image name bytes : List ℕ) (k : ℕ) (ks descriptor : List ℕ) (abs
 
   -- the writes are to sectors of the image, the last three to different ones
   inside : (j : ℕ) → 1 ≤ count j (k ∷ ks) → (2 ≤ j) × (256 * j + 256 ≤ length image)
-  inside j some = let c = free j some in (c .from, sector-inside image is j (c .inside))
+  inside j some = let c = free j some in (c .from, sector-inside layout image is j (c .inside))
 
   data-inside : (j : ℕ) → 1 ≤ count j ks → (2 ≤ j) × (256 * j + 256 ≤ length image)
   data-inside j h = inside j (omega (arith, h, count-more j k ks))
@@ -99,7 +100,7 @@ module _ (image name bytes : List ℕ) (k : ℕ) (ks descriptor : List ℕ) (abs
         long,
         omega (arith, fits, size),
         (
-          all-length 1 (sectorOf image 0) (k ∷ ks) ∙ label-long image is,
+          all-length 1 (sectorOf image 0) (k ∷ ks) ∙ label-long layout image is,
           omega (arith, fits, size),
           (index-length (placed image name k (files image)), omega (arith, fits, size, high), tt),
         ),
@@ -138,14 +139,14 @@ module _ (image name bytes : List ℕ) (k : ℕ) (ks descriptor : List ℕ) (abs
   unfolding holders
   held-stays j held =
       let hs = fileHolders image (files image) in
-      let other : count j (k ∷ ks) ≡ 0 = omega (arith, held, taken-once image (k ∷ ks) is once free j, count-more j 0 (1 ∷ hs), count-more j 1 hs) in
-      free-stays j (held-inside image is j held .0) other
+      let other : count j (k ∷ ks) ≡ 0 = omega (arith, held, taken-once layout image (k ∷ ks) is once free j, count-more j 0 (1 ∷ hs), count-more j 1 hs) in
+      free-stays j (held-inside layout image is j held .0) other
 
   places-now : placesIn after k ≡ ks
   unfolding placesIn
   places-now = ap (λ (d : List ℕ). places (chainOf d)) descriptor-now ∙ places-are
 
-  replaced : Replaced image after name none (at k)
+  replaced : Replaced layout image after name none (at k)
   unfolding nameIn
   replaced =
       let chosen = free k (omega (arith, count-here k ks)) in
@@ -153,9 +154,9 @@ module _ (image name bytes : List ℕ) (k : ℕ) (ks descriptor : List ℕ) (abs
         sound = is;
         listed = tt;
         size = written-length laid (first ∷ (second ∷ (third ∷ []))) ∙ size;
-        mapped = taken-mapped image after none (at k) (k ∷ ks) is tt once free map-now (λ j. rw places-now (omega (arith, count-none j)));
+        mapped = taken-mapped layout image after none (at k) (k ∷ ks) is tt once free map-now (λ j. rw places-now (omega (arith, count-none j)));
         numbered =
-            index-anew image after name none (at k) is (λ j e. let z : k ≡ j = cc in rw (← z) (chosen .from, chosen .inside))
+            index-anew layout image after name none (at k) is (λ j e. let z : k ≡ j = cc in rw (← z) (chosen .from, chosen .inside))
             (omega (arith, few, placed-length k image name (files image))) index-now;
         stands = held-stays;
         new = record { rules = rw descriptor-now rules; named = ap nameOf descriptor-now ∙ named; alone = unfound image name 0 (files image) (absent .absent) };
@@ -165,10 +166,10 @@ module _ (image name bytes : List ℕ) (k : ℕ) (ks descriptor : List ℕ) (abs
   unfolding fileIn headerIn contentsIn
   new-file = rw (descriptor-now, places-now, data-now)
 
-  entered-done : Done image after name (effect (putIn (record { header = part descriptor 0 28; contents = pieces (length ks) bytes }) (catalogue image)) (1 + length ks) 0)
+  entered-done : Done layout image after name (effect (putIn (record { header = part descriptor 0 28; contents = pieces (length ks) bytes }) (catalogue image)) (1 + length ks) 0)
   entered-done =
-      replaced-done replaced name tt _ (1 + length ks) 0
-      (catalogue-after replaced name tt ∙ ap (λ (file : File). putIn file (catalogue image)) new-file)
+      replaced-done layout replaced name tt _ (1 + length ks) 0
+      (catalogue-after layout replaced name tt ∙ ap (λ (file : File). putIn file (catalogue image)) new-file)
       (rw places-now (omega arith))
 
   -- it lies where the facts say, and nothing else is touched
@@ -179,20 +180,20 @@ module _ (image name bytes : List ℕ) (k : ℕ) (ks descriptor : List ℕ) (abs
         chosen = chosen;
         gains = record {
           taken = record { ks = ks; so-many = refl; chain = blocks; takes = takes };
-          lies = lies-after replaced ks (chainWith blocks) places-now (ap chainOf descriptor-now ∙ chain);
+          lies = lies-after layout replaced ks (chainWith blocks) places-now (ap chainOf descriptor-now ∙ chain);
           map = map-now;
           others = λ j low apart.
               let some = count-apart j 0 (1 ∷ (k ∷ ks)) apart in
               let more = count-apart j 1 (k ∷ ks) (some .1) in
               free-stays j (omega (arith, some .0, more .0)) (more .1);
         };
-        numbers = numbers-after replaced index-now;
+        numbers = numbers-after layout replaced index-now;
       }
 
 -- with the descriptor of a new file, its blocks those of ks
-module _ (image name bytes : List ℕ) (k : ℕ) (ks : List ℕ) (status recordsPerSector endOffset recordLength : ℕ) (absent : IsAbsent image name) (few : length (files image) < 127)
+module _ (layout : Layout) (image name bytes : List ℕ) (k : ℕ) (ks : List ℕ) (status recordsPerSector endOffset recordLength : ℕ) (absent : IsAbsent layout image name) (few : length (files image) < 127)
     (once : (j : ℕ) → count j (k ∷ ks) ≤ 1) (free : (j : ℕ) → 1 ≤ count j (k ∷ ks) → Chosen (sectorCount image) (sectorOf image 0) j) (short : length (extendedAll [] ks) ≤ 76)
-    (many : length ks ≤ 4096) (is-status : IsStatus status) (kind : IsKind (kindOf status (length ks) endOffset recordLength) (length ks) endOffset) where
+    (many : length ks ≤ 4096) (is-status : IsStatus (allowedBits layout) status) (kind : IsKind (kindOf status (length ks) endOffset recordLength) (length ks) endOffset) where
   abbrev ten : length name ≡ 10
   ten = name-is name (absent .rule) .ten
 
@@ -216,18 +217,18 @@ module _ (image name bytes : List ℕ) (k : ℕ) (ks : List ℕ) (status records
   pub new-file-done : (descriptor : List ℕ) → descriptor ≡ header ++ chainWith (extendedAll [] ks) → ForDescriptor image k → Takes image (k ∷ []) [] [] ks (extendedAll [] ks)
       →
       let after = written image (dataWrites bytes ks ++ entered image name k descriptor (markedAll 1 (sectorOf image 0) (k ∷ ks))) in
-      Done image after name (effect (putIn (record { header = header; contents = pieces (length ks) bytes }) (catalogue image)) (1 + length ks) 0) × Enters image after name (length ks)
+      Done layout image after name (effect (putIn (record { header = header; contents = pieces (length ks) bytes }) (catalogue image)) (1 + length ks) 0) × Enters image after name (length ks)
   unfolding entered
   new-file-done descriptor e chosen takes =
       let c = length ks in
       let bs = extendedAll [] ks in
       let small : sectorCount image ≤ 4096 = omega (arith, absent .whole .size) in
       let long = made-length name status recordsPerSector endOffset recordLength ten c bs in
-      let rules = made-rules name status recordsPerSector endOffset recordLength ten c bs (sectorCount image) small many short ks-linked (absent .rule) is-status kind in
+      let rules = made-rules name status recordsPerSector endOffset recordLength ten c bs (sectorCount image) small many short ks-linked layout (absent .rule) is-status kind in
       let named = made-name name status recordsPerSector endOffset recordLength ten c bs in
       let places-are = made-places name status recordsPerSector endOffset recordLength ten c bs (sectorCount image) small many short ks-linked ∙ ks-places in
-      let done = entered-done image name bytes k ks made absent few once free long rules named places-are in
+      let done = entered-done layout image name bytes k ks made absent few once free long rules named places-are in
       rw (e, ← written-both image (dataWrites bytes ks) _) (
         rw (made-header name status recordsPerSector endOffset recordLength ten c bs) at done,
-        enters image name bytes k ks made absent few once free long rules named places-are chosen bs takes (made-chain name status recordsPerSector endOffset recordLength ten c bs),
+        enters layout image name bytes k ks made absent few once free long rules named places-are chosen bs takes (made-chain name status recordsPerSector endOffset recordLength ten c bs),
       )

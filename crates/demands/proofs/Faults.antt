@@ -11,6 +11,7 @@ use Rattle.rules.specs.Sectors.{sectorOf, sectorCount}
 use Rattle.rules.specs.Map.{count, mapRule}
 use Rattle.rules.specs.Volume.{holders, files, nameIn}
 use Rattle.rules.specs.Verdict.{sizeRule, heldTwice, volumeTests, descriptorsRule}
+use Rattle.rules.specs.declared.Layout.{Layout}
 use Rattle.rules.proofs.Tests.{absurd-test}
 use Rattle.rules.proofs.Label.{label-is, is-label}
 use Rattle.rules.proofs.Map.{count-here, count-more, taken-below, taken-past, bits-taken, map-at, at-map}
@@ -27,14 +28,14 @@ pub is-sized : (image : List ℕ) → IsSize image → sizeRule image ≡ true
 is-sized image is = is-size image (is .whole) (is .range .0) (is .range .1)
 
 -- the descriptors and the order of their names
-module _ (image : List ℕ) where
-  described-is : descriptorsRule (sectorCount image) image [] (files image) ≡ true → HasDescriptors image
-  described-is e = record { descriptors = descriptors-are (sectorCount image) image [] (files image) e; ascending = ascend (sectorCount image) image [] (files image) e }
+module _ (layout : Layout) (image : List ℕ) where
+  described-is : descriptorsRule layout (sectorCount image) image [] (files image) ≡ true → HasDescriptors layout image
+  described-is e = record { descriptors = descriptors-are layout (sectorCount image) image [] (files image) e; ascending = ascend layout (sectorCount image) image [] (files image) e }
 
-  is-described : HasDescriptors image → descriptorsRule (sectorCount image) image [] (files image) ≡ true
+  is-described : HasDescriptors layout image → descriptorsRule layout (sectorCount image) image [] (files image) ≡ true
   is-described has =
-      are-descriptors (sectorCount image) image [] (files image) (has .descriptors)
-      (λ p h. precedes-none (nameIn image (getD (files image) p 0)) (name-long (sectorCount image) image (getD (files image) p 0) (has .descriptors p h)))
+      are-descriptors layout (sectorCount image) image [] (files image) (has .descriptors)
+      (λ p h. precedes-none (nameIn image (getD (files image) p 0)) (name-long layout (sectorCount image) image (getD (files image) p 0) (has .descriptors p h)))
       (has .ascending)
 
 record Twice (hs : List ℕ) : Type 0 where
@@ -69,9 +70,9 @@ is-map : (image : List ℕ) → HasMap image → mapRule (sectorCount image) (ho
 is-map image has =
     at-map (sectorCount image) (holders image) (sectorOf image 0) (bits-taken (sectorCount image) (holders image) (sectorOf image 0) (has .marked) (has .filled))
 
-pub faults-decided : (image : List ℕ) → Decide (volumeTests image) (faults image)
+pub faults-decided : (layout : Layout) (image : List ℕ) → Decide (volumeTests layout image) (faults layout image)
 unfolding Decide volumeTests faults
-faults-decided image =
+faults-decided layout image =
     let n = sectorCount image in (
       refl,
       broken (sized-is image) (is-sized image),
@@ -83,7 +84,7 @@ faults-decided image =
           broken (index-is n (sectorOf image 1)) (is-index n (sectorOf image 1)),
           λ _. (
             refl,
-            broken (described-is image) (is-described image),
+            broken (described-is layout image) (is-described layout image),
             λ _. (
               refl,
               record { yes-there = twice-is image; not-there = not-twice image },

@@ -14,6 +14,7 @@ use Rattle.rules.specs.Volume.{File, nameIn, fileIn, placed, files, catalogue}
 use Rattle.rules.specs.Bytes.{same}
 use Rattle.rules.specs.Index.{without}
 use Rattle.rules.specs.Sound.{Sound, fileAt}
+use Rattle.rules.specs.declared.Layout.{Layout}
 use Rattle.rules.proofs.Map.{count-here, count-more, count-none, count-other}
 use Rattle.rules.proofs.Volume.{get-mapped, header-name}
 use Rattle.rules.proofs.Bytes.{is-same, not-same}
@@ -96,6 +97,6 @@ module _ (image name : List ℕ) (k : ℕ) (is : name ≡ nameIn image k) where
       ]
 
 -- the file of that name in the catalogue of a sound volume
-pub named-file : (image name : List ℕ) (k : ℕ) → Sound image → 1 ≤ count k (files image) → name ≡ nameIn image k → named name (catalogue image) ≡ fileIn image k
+pub named-file : (layout : Layout) (image name : List ℕ) (k : ℕ) → Sound layout image → 1 ≤ count k (files image) → name ≡ nameIn image k → named name (catalogue image) ≡ fileIn image k
 unfolding catalogue
-named-file image name k sound there is = named-is image name k is (files image) there (λ j listed. listed-name image sound j k listed there)
+named-file layout image name k sound there is = named-is image name k is (files image) there (λ j listed. listed-name layout image sound j k listed there)

@@ -18,6 +18,7 @@ use Rattle.rules.specs.Verdict.{sizeRule}
 use Rattle.rules.specs.Sound.{Sound}
 use Rattle.rules.specs.Calls.Format.{Geometry, newLabel, formatted, formatTests, formatNumber, afterFormat}
 use Rattle.rules.specs.Tests.{Passed}
+use Rattle.rules.specs.declared.Layout.{Layout}
 use Rattle.rules.proofs.Tests.{all-passed, unless-passed}
 use Rattle.rules.proofs.Bytes.{part-behind, part-and-rest}
 use Rattle.rules.proofs.Name.{name-is}
@@ -70,8 +71,8 @@ module _ (n : ℕ) (name : List ℕ) (g : Geometry) (large : 3 ≤ n) (small : n
   new-count : sectorCount (formatted n name g) ≡ n
   new-count = rw (formatted-length n name g (named .ten) (omega arith)) (omega arith)
 
-  formatted-sound : Sound (formatted n name g)
-  formatted-sound =
+  formatted-sound : (layout : Layout) → Sound layout (formatted n name g)
+  formatted-sound layout =
       let s0 = formatted-sector0 n name g (named .ten) in
       record {
         whole = rw new-count (formatted-length n name g (named .ten) (omega arith));
@@ -85,9 +86,9 @@ module _ (n : ℕ) (name : List ℕ) (g : Geometry) (large : 3 ≤ n) (small : n
         filled = rw (new-count, s0) (λ k h l. new-map k l ∙ taken-past n (0 ∷ (1 ∷ [])) k h);
       }
 
-  empty-volume : EmptyVolume (formatted n name g)
+  empty-volume : (layout : Layout) → EmptyVolume layout (formatted n name g)
   unfolding catalogue
-  empty-volume = record { sound = formatted-sound; judged = passes (formatted n name g) formatted-sound; empty = rw no-files }
+  empty-volume layout = record { sound = formatted-sound layout; judged = passes layout (formatted n name g) (formatted-sound layout); empty = rw no-files }
 
   -- every byte
   fields-at : (i many : ℕ) → part (formatted n name g) (10 + i) many ≡ part (fields ++ (replicate 36 0 ++ volume)) i many
@@ -120,9 +121,9 @@ module _ (n : ℕ) (name : List ℕ) (g : Geometry) (large : 3 ≤ n) (small : n
             ∙ ap (λ (m : ℕ). replicate m 0xE5) left);
       }
 
-pub formatting : Formatting
+pub formatting : (layout : Layout) → Formatting layout
 unfolding Formatting
-formatting n name g large small rule = empty-volume n name g large small (name-is name rule)
+formatting layout n name g large small rule = empty-volume n name g large small (name-is name rule) layout
 
 -- number 0: the tests that were passed
 pub format-passed : (image : List ℕ) (n : ℕ) (name : List ℕ) → formatNumber image n name ≡ 0 → (3 ≤ n) × (n ≤ 1600) × (nameRule name ≡ true)
@@ -139,11 +140,11 @@ format-size image n name e =
     let passed = all-passed (formatTests image n name) e in
     rw (eqb-true n (sectorCount image) (not-false _ (passed .1 .0))) (size-is image (not-false (sizeRule image) (passed .0)) .0)
 
-pub format-call : FormatCall
+pub format-call : (layout : Layout) → FormatCall layout
 unfolding Formatting FormatCall afterFormat
-format-call image n name g e =
+format-call layout image n name g e =
     let passed = format-passed image n name e in
-    rw (unless-passed (formatTests image n name) (formatted n name g) image e) (formatting n name g (passed .0) (passed .1) (passed .2))
+    rw (unless-passed (formatTests image n name) (formatted n name g) image e) (formatting layout n name g (passed .0) (passed .1) (passed .2))
 
 -- and so of the image that the call leaves; two images that it leaves are one
 pub format-bytes : (image : List ℕ) (n : ℕ) (name : List ℕ) (g : Geometry) → formatNumber image n name ≡ 0 → Formats n name g (afterFormat image n name g)

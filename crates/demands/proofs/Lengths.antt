@@ -9,6 +9,7 @@ use Rattle.rules.specs.Kind.{programLength, sectorsFor}
 use Rattle.rules.specs.Descriptor.{sectorsOf, fileKind}
 use Rattle.rules.specs.Volume.{File, files, fileIn, catalogue}
 use Rattle.rules.specs.Sound.{fileAt}
+use Rattle.rules.specs.declared.Layout.{Layout}
 use Rattle.rules.proofs.Sectors.{sector-below}
 use Rattle.rules.proofs.Status.{program-end}
 use Rattle.rules.proofs.Length.{length-stored, stored-sectors, stored-end}
@@ -21,15 +22,15 @@ pub of-length : (file : File) (size : ℕ) → length (file .contents) ≡ secto
 of-length file size sectors end =
     record { enough = omega (arith, sectors); needed = omega (arith, sectors); end-offset = end; long = rw (sectors, end) (length-stored size) }
 
-pub every-length : EveryLength
+pub every-length : (layout : Layout) → EveryLength layout
 unfolding EveryLength catalogue fileIn fileKind
-every-length image is small p listed program =
+every-length layout image is small p listed program =
     let inside : p < length (files image) = omega (arith, listed, length-map (files image) (fileIn image)) in
     let k = fileAt image p in
     let d = sectorOf image k in
     let rules = is .descriptors p inside in
     let file : File = fileIn image k in
-    let c = contents-count (sectorCount image) image k rules in
+    let c = contents-count layout (sectorCount image) image k rules in
     let end : byteAt (file .header) 16 ≡ byteAt d 16 = header-at image k 16 (omega arith) in
     let status : byteAt (file .header) 12 ≡ byteAt d 12 = header-at image k 12 (omega arith) in
     let below = sector-below image k 256 (omega arith) small 16 in

@@ -33,6 +33,7 @@ mod PackedSound
 mod PackedOne
 pub mod Demand3
 pub mod Complete
+pub mod Rules
 pub mod Lengths
 pub mod StoredLoads
 pub mod Wrong

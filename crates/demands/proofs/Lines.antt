@@ -1,6 +1,6 @@
 -- The listing is the paper's lines. A number has one decimal word, since the length of a word and then each digit follow from its value; a name has one word without its padding; so the facts fix the text.
 use mathlib.Core.Path.{_≡_, refl, sym, ap, _∙_}
-use mathlib.Core.Bool.{true, false, cond}
+use mathlib.Core.Bool.{Bool, true, false, cond}
 use mathlib.Core.List.{List, [], _∷_, _++_, map}
 use Prim.Native.Nat.{ℕ, zero, suc, _+_, _-_, _*_, _/_, _%_, _^_, _≤_, _<_}
 use native.Mathlib.Omega.{arith}
@@ -12,20 +12,22 @@ use borrow.Author.Tests.{eq-eqb, ne-eqb}
 use Rattle.rules.specs.Bytes.{byteAt, bitOf, part}
 use Rattle.rules.specs.Sectors.{sectorOf, sectorCount, joined}
 use Rattle.rules.specs.Name.{IsName}
-use Rattle.rules.specs.Kind.{isProtected}
+use Rattle.rules.specs.Kind.{isProtected, isMarked}
 use Rattle.rules.specs.Map.{freeCount}
 use Rattle.rules.specs.Descriptor.{nameOf, statusOf, sectorsOf, fileKind, IsDescriptor}
 use Rattle.rules.specs.Volume.{File, files, nameIn, fileIn, catalogue}
 use Rattle.rules.specs.Sound.{Sound, fileAt}
-use Rattle.rules.specs.Calls.Listing.{digits, decimal, unpadded, kindWord, kindLength, diskLine, fileLine, fileLines, listingText}
+use Rattle.rules.specs.Calls.Listing.{digits, decimal, unpadded, kindWord, kindLength, diskLine, markField, fileLine, fileLines, listingText}
+use Rattle.rules.specs.declared.Layout.{Layout}
 use Rattle.rules.specs.declared.Kind.{Kind}
 use Rattle.rules.specs.declared.Kind.the-variants.{Program, Fixed, Variable}
+use Rattle.rules.proofs.Tests.{by-rule}
 use Rattle.rules.proofs.Bytes.{at-replicate}
 use Rattle.rules.proofs.Volume.{get-mapped, contents-count, header-at, header-name}
 use Rattle.rules.proofs.Listing.{digits-one, digits-more}
 use Rattle.rules.proofs.Free.{free-holders}
 use Rattle.demands.specs.Catalogue.{fileName, fileOf, kindIs}
-use Rattle.demands.specs.Lines.{readFrom, AreDigits, IsDecimal, IsUnpadded, IsProtection, wordOf, lengthOf, parted, IsDiskLine, IsFileLine, Lists}
+use Rattle.demands.specs.Lines.{readFrom, AreDigits, IsDecimal, IsUnpadded, IsProtection, AreMarks, wordOf, lengthOf, parted, IsDiskLine, IsFileLine, Lists}
 use Rattle.demands.proofs.Filed.{file-of}
 
 -- a digit more behind a word
@@ -195,17 +197,44 @@ kind-length (Program bytes) = refl
 kind-length (Fixed recordLength internal) = refl
 kind-length (Variable recordLength internal) = refl
 
--- the files' lines, one behind the other
-abbrev lineIn : List ℕ → ℕ → List ℕ
-lineIn image k = fileLine (sectorOf image k)
+-- by the rule with marks one word more, M or a hyphen: as a field, as facts, and that they fix it
+abbrev markWords : Layout → ℕ → List (List ℕ)
+markWords layout status = cond (layout .marks) ((cond (isMarked status) 0x4D 0x2D ∷ []) ∷ []) []
 
-lines-joined : (image ks : List ℕ) → fileLines image ks ≡ joined (map (lineIn image) ks)
+marks-parted : (layout : Layout) (status : ℕ) (before : List ℕ) → parted (before ∷ markWords layout status) ≡ before ++ (markField layout status ++ (10 ∷ []))
+unfolding parted markField
+marks-parted layout status before = by-rule (λ layout. parted (before ∷ markWords layout status) ≡ before ++ (markField layout status ++ (10 ∷ []))) refl refl layout
+
+marks-are : (layout : Layout) (status : ℕ) → AreMarks layout status (markWords layout status)
+marks-are layout status =
+    record {
+      marked = λ e set. rw (e, set);
+      unmarked = λ e clear. rw (e, clear);
+      without = λ e. rw e;
+    }
+
+marks-one : (layout : Layout) (status : ℕ) (first second : List (List ℕ)) → AreMarks layout status first → AreMarks layout status second → first ≡ second
+marks-one layout status first second is also = go (layout .marks) refl
+  where
+    go : (t : Bool) → layout .marks ≡ t → first ≡ second
+    go true e =
+        elim (ℕ-discrete (bitOf status 4) 1) [
+          | yes set ↦ is .marked e set ∙ sym (also .marked e set)
+          | no other ↦ let clear : bitOf status 4 ≡ 0 = omega (arith, other) in is .unmarked e clear ∙ sym (also .unmarked e clear)
+        ]
+    go false e = is .without e ∙ sym (also .without e)
+
+-- the files' lines, one behind the other
+abbrev lineIn : (layout : Layout) → List ℕ → ℕ → List ℕ
+lineIn layout image k = fileLine layout (sectorOf image k)
+
+lines-joined : (layout : Layout) (image ks : List ℕ) → fileLines layout image ks ≡ joined (map (lineIn layout image) ks)
 unfolding fileLines joined
-lines-joined image [] = refl
-lines-joined image (k ∷ ks) = ap (λ (l : List ℕ). lineIn image k ++ l) (lines-joined image ks)
+lines-joined layout image [] = refl
+lines-joined layout image (k ∷ ks) = ap (λ (l : List ℕ). lineIn layout image k ++ l) (lines-joined layout image ks)
 
 -- the lines of a sound volume
-module _ (image : List ℕ) (is : Sound image) where
+module _ (layout : Layout) (image : List ℕ) (is : Sound layout image) where
   disk-line : IsDiskLine image (diskLine image)
   unfolding diskLine parted
   disk-line =
@@ -215,13 +244,13 @@ module _ (image : List ℕ) (is : Sound image) where
         size = decimal (sectorCount image);
         size-is = decimal-is (sectorCount image);
         count = freeCount (sectorOf image 0);
-        count-is = free-holders image is;
+        count-is = free-holders layout image is;
         free = decimal (freeCount (sectorOf image 0));
         free-is = decimal-is (freeCount (sectorOf image 0));
         is = refl;
       }
 
-  module _ (k : ℕ) (d : IsDescriptor (sectorCount image) (sectorOf image k)) where
+  module _ (k : ℕ) (d : IsDescriptor layout (sectorCount image) (sectorOf image k)) where
     name-in : fileName (fileIn image k) ≡ nameOf (sectorOf image k)
     unfolding fileIn nameIn nameOf
     name-in = header-name image k
@@ -230,13 +259,13 @@ module _ (image : List ℕ) (is : Sound image) where
     unfolding kindIs fileIn fileKind
     kind-in =
         rw (
-          contents-count (sectorCount image) image k d,
+          contents-count layout (sectorCount image) image k d,
           header-at image k 12 (omega arith),
           header-at image k 16 (omega arith),
           header-at image k 17 (omega arith),
         )
 
-    file-line : IsFileLine (fileIn image k) (fileLine (sectorOf image k))
+    file-line : IsFileLine layout (fileIn image k) (fileLine layout (sectorOf image k))
     unfolding fileLine fileIn parted
     file-line =
         record {
@@ -245,26 +274,28 @@ module _ (image : List ℕ) (is : Sound image) where
           size = decimal (kindLength (fileKind (sectorOf image k)));
           size-is = rw (kind-in, ← kind-length (fileKind (sectorOf image k))) (decimal-is (kindLength (fileKind (sectorOf image k))));
           sectors = decimal (sectorsOf (sectorOf image k));
-          sectors-are = rw (contents-count (sectorCount image) image k d) (decimal-is (sectorsOf (sectorOf image k)));
+          sectors-are = rw (contents-count layout (sectorCount image) image k d) (decimal-is (sectorsOf (sectorOf image k)));
           protection = cond (isProtected (statusOf (sectorOf image k))) 0x50 0x55 ∷ [];
           protection-is = rw (header-at image k 12 (omega arith)) (protection-is (statusOf (sectorOf image k)));
-          is = rw (kind-in, ← kind-word (fileKind (sectorOf image k)));
+          marks = markWords layout (statusOf (sectorOf image k));
+          marks-are = rw (header-at image k 12 (omega arith)) (marks-are layout (statusOf (sectorOf image k)));
+          is = rw (kind-in, ← kind-word (fileKind (sectorOf image k)), marks-parted layout (statusOf (sectorOf image k)));
         }
 
-  lines-are : (p : ℕ) → p < length (files image) → IsFileLine (fileOf image p) (getD (map (lineIn image) (files image)) p [])
-  lines-are p h = rw (file-of image p h, get-mapped (lineIn image) (files image) p 0 [] h) (file-line (fileAt image p) (is .descriptors p h))
+  lines-are : (p : ℕ) → p < length (files image) → IsFileLine layout (fileOf image p) (getD (map (lineIn layout image) (files image)) p [])
+  lines-are p h = rw (file-of image p h, get-mapped (lineIn layout image) (files image) p 0 [] h) (file-line (fileAt image p) (is .descriptors p h))
 
-  pub listing-lists : Lists image (listingText image)
+  pub listing-lists : Lists layout image (listingText layout image)
   unfolding listingText catalogue
   listing-lists =
-      let many = length-map (files image) (lineIn image) in
+      let many = length-map (files image) (lineIn layout image) in
       record {
         first = diskLine image;
         first-is = disk-line;
-        lines = map (lineIn image) (files image);
+        lines = map (lineIn layout image) (files image);
         many = many ∙ sym (length-map (files image) (fileIn image));
         each = λ p h. lines-are p (rw many at h);
-        is = ap (λ (l : List ℕ). diskLine image ++ l) (lines-joined image (files image));
+        is = ap (λ (l : List ℕ). diskLine image ++ l) (lines-joined layout image (files image));
       }
 
 -- the facts fix each line
@@ -276,18 +307,19 @@ disk-line-one image first second is also =
     let free = decimal-one (also .count) (is .free) (also .free) (rw count at (is .free-is)) (also .free-is) in
     is .is ∙ rw (name, size, free) (sym (also .is))
 
-file-line-one : (file : File) (first second : List ℕ) → IsFileLine file first → IsFileLine file second → first ≡ second
-file-line-one file first second is also =
+file-line-one : (layout : Layout) (file : File) (first second : List ℕ) → IsFileLine layout file first → IsFileLine layout file second → first ≡ second
+file-line-one layout file first second is also =
     let name = unpadded-one (fileName file) (is .name) (also .name) (is .name-is) (also .name-is) in
     let size = decimal-one (lengthOf (kindIs file)) (is .size) (also .size) (is .size-is) (also .size-is) in
     let sectors = decimal-one (length (file .contents)) (is .sectors) (also .sectors) (is .sectors-are) (also .sectors-are) in
     let protection = protection-one (byteAt (file .header) 12) (is .protection) (also .protection) (is .protection-is) (also .protection-is) in
-    is .is ∙ rw (name, size, sectors, protection) (sym (also .is))
+    let marks = marks-one layout (byteAt (file .header) 12) (is .marks) (also .marks) (is .marks-are) (also .marks-are) in
+    is .is ∙ rw (name, size, sectors, protection, marks) (sym (also .is))
 
 -- and the text
-pub lists-one : (image first second : List ℕ) → Lists image first → Lists image second → first ≡ second
-lists-one image first second is also =
+pub lists-one : (layout : Layout) (image first second : List ℕ) → Lists layout image first → Lists layout image second → first ≡ second
+lists-one layout image first second is also =
     let disk = disk-line-one image (is .first) (also .first) (is .first-is) (also .first-is) in
     let lines = ext-getD [] (is .lines) (also .lines) (is .many ∙ sym (also .many))
-    (λ p h. file-line-one (fileOf image p) (getD (is .lines) p []) (getD (also .lines) p []) (is .each p h) (also .each p (omega (arith, is .many, also .many)))) in
+    (λ p h. file-line-one layout (fileOf image p) (getD (is .lines) p []) (getD (also .lines) p []) (is .each p h) (also .each p (omega (arith, is .many, also .many)))) in
     is .is ∙ rw (disk, lines) (sym (also .is))

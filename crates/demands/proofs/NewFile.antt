@@ -10,8 +10,9 @@ use lib.Seq.{take-at, drop-at, take-all, getD-append-add}
 use Rattle.rules.specs.Bytes.{byteAt, wordBytes, part, over, splice}
 use Rattle.rules.specs.Name.{nameRule}
 use Rattle.rules.specs.Chain.{blocks, placesFrom, places, blocksBytes, Linked, chainWith}
-use Rattle.rules.specs.Kind.{kindOf, IsStatus, IsKind}
+use Rattle.rules.specs.Kind.{allowedBits, kindOf, IsStatus, IsKind}
 use Rattle.rules.specs.Descriptor.{nameOf, statusOf, sectorsOf, chainOf, fileKind, newDescriptor, withChain, IsDescriptor}
+use Rattle.rules.specs.declared.Layout.{Layout}
 use Rattle.rules.specs.declared.Block.{Block}
 use Rattle.rules.proofs.Name.{name-is}
 use Rattle.rules.proofs.Extended.{chain-with-length, chain-with-past, blocks-over, linked-writable}
@@ -107,8 +108,8 @@ module _ (name : List ℕ) (status recordsPerSector endOffset recordLength : ℕ
       unfolding places
       made-places = ap (placesFrom 0) (ap blocks made-chain ∙ blocks-back)
 
-      pub made-rules : nameRule name ≡ true → IsStatus status → IsKind (kindOf status c endOffset recordLength) c endOffset → IsDescriptor n descriptorWith
-      made-rules rule is kind =
+      pub made-rules : (layout : Layout) → nameRule name ≡ true → IsStatus (allowedBits layout) status → IsKind (kindOf status c endOffset recordLength) c endOffset → IsDescriptor layout n descriptorWith
+      made-rules layout rule is kind =
           record {
             name = rw made-name (name-is name rule);
             status = rw made-status is;

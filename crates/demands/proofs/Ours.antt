@@ -21,6 +21,7 @@ use Rattle.rules.specs.Calls.Read.{reading, readOf}
 use Rattle.rules.specs.Calls.Load.{loading, loadOf}
 use Rattle.rules.specs.Calls.Listing.{listingText, listingOf}
 use Rattle.rules.specs.Calls.Pack.{packNumber}
+use Rattle.rules.specs.declared.Layout.{Layout}
 use Rattle.rules.proofs.Tests.{unless-passed, unless-met}
 use Rattle.rules.proofs.Splice.{splice-none, splice-length}
 use Rattle.rules.proofs.Name.{name-is}
@@ -32,7 +33,7 @@ use Rattle.rules.proofs.Outcome.{reported-given}
 use Rattle.demands.specs.Effects.{Kept}
 use Rattle.demands.specs.Does.{Does, FormatCall}
 use Rattle.demands.specs.Call as call
-use Rattle.demands.specs.Call.{Names, Form, namedNumber, numberIn, Look, Change, Call, namesOf, lent, numberOf, run}
+use Rattle.demands.specs.Call.{Names, Form, namedNumber, numberIn, Look, Change, Call, namesOf, ruleOf, lent, numberOf, run}
 use Rattle.demands.specs.Ours.{answered, seen, outcome, ours}
 use Rattle.demands.specs.Demand3.{packs}
 use Rattle.demands.specs.Grounds.{First, grounds}
@@ -42,7 +43,7 @@ use Rattle.demands.proofs.Creates.{creates}
 use Rattle.demands.proofs.Stores.{stores}
 use Rattle.demands.proofs.Appends.{appends}
 use Rattle.demands.proofs.Overwrites.{overwrites}
-use Rattle.demands.proofs.Protects.{protects, unprotects}
+use Rattle.demands.proofs.Protects.{protects, unprotects, clears, cleared-sound}
 use Rattle.demands.proofs.Deletes.{deletes}
 use Rattle.demands.proofs.Renames.{renames}
 use Rattle.demands.proofs.Refusals.{Writes, Puts, reported-puts, on-file-puts, change-writes}
@@ -63,41 +64,41 @@ refused-format : (image : List ℕ) (n : ℕ) (name : List ℕ) (g : Geometry) �
 unfolding afterFormat
 refused-format image n name g some = unless-met (formatTests image n name) _ image (λ z. some (named-number (call.one name) (formatNumber image n name) ∙ z))
 
-look-refuses : {form : Form} (look : Look form) (buffer image : List ℕ) → (numberIn form (seen look buffer image .answer) ≡ 0 → ⊥) → seen look buffer image .buffer ≡ buffer
+look-refuses : (layout : Layout) {form : Form} (look : Look form) (buffer image : List ℕ) → (numberIn form (seen layout look buffer image .answer) ≡ 0 → ⊥) → seen layout look buffer image .buffer ≡ buffer
 unfolding seen summaryOf entryOf readOf reading loadOf loading listingOf verdict packs
-look-refuses call.judge buffer image some = splice-none buffer 0
-look-refuses call.freeCount buffer image some = splice-none buffer 0
-look-refuses call.summarize buffer image some = refused-buffer buffer (summaryOf image) (reported-puts _ _ _) (λ z. some (summary-number image ∙ z))
-look-refuses (call.entry place) buffer image some = refused-buffer buffer (entryOf image place (length buffer)) (reported-puts _ _ _) (λ z. some (answer-number _ ∙ z))
-look-refuses (call.read name offset) buffer image some =
-    refused-buffer buffer (readOf image name offset (length buffer)) (on-file-puts (openOf image name) (reading image offset (length buffer)) (λ k. reported-puts _ _ _))
+look-refuses layout call.judge buffer image some = splice-none buffer 0
+look-refuses layout call.freeCount buffer image some = splice-none buffer 0
+look-refuses layout call.summarize buffer image some = refused-buffer buffer (summaryOf layout image) (reported-puts _ _ _) (λ z. some (summary-number layout image ∙ z))
+look-refuses layout (call.entry place) buffer image some = refused-buffer buffer (entryOf layout image place (length buffer)) (reported-puts _ _ _) (λ z. some (answer-number _ ∙ z))
+look-refuses layout (call.read name offset) buffer image some =
+    refused-buffer buffer (readOf layout image name offset (length buffer)) (on-file-puts (openOf layout image name) (reading image offset (length buffer)) (λ k. reported-puts _ _ _))
     (λ z. some (named-number (call.one name) _ ∙ z))
-look-refuses (call.load name) buffer image some =
-    refused-buffer buffer (loadOf image name (length buffer)) (on-file-puts (openOf image name) (loading image (length buffer)) (λ k. reported-puts _ _ _))
+look-refuses layout (call.load name) buffer image some =
+    refused-buffer buffer (loadOf layout image name (length buffer)) (on-file-puts (openOf layout image name) (loading image (length buffer)) (λ k. reported-puts _ _ _))
     (λ z. some (loaded-number (wrongPlace name) _ ∙ z))
-look-refuses call.list buffer image some = refused-buffer buffer (listingOf image (length buffer)) (reported-puts _ _ _) (λ z. some (amount-number _ ∙ z))
-look-refuses call.pack buffer image some = packing-demand .refuses image buffer (λ z. some (answer-number (packNumber image buffer) ∙ z))
+look-refuses layout call.list buffer image some = refused-buffer buffer (listingOf layout image (length buffer)) (reported-puts _ _ _) (λ z. some (amount-number _ ∙ z))
+look-refuses layout call.pack buffer image some = packing-demand layout .refuses image buffer (λ z. some (answer-number (packNumber layout image buffer) ∙ z))
 
-pub refuses : (c : Call) (image : List ℕ) → (numberOf ours c image ≡ 0 → ⊥) → (ours c image .image ≡ image) × (ours c image .buffer ≡ lent c)
+pub refuses : (layout : Layout) (c : Call) (image : List ℕ) → (numberOf (ours layout) c image ≡ 0 → ⊥) → (ours layout c image .image ≡ image) × (ours layout c image .buffer ≡ lent c)
 unfolding ours
-refuses (call.look look buffer) image some = (refl, look-refuses look buffer image some)
-refuses (call.change name change) image some = (refused-image (namesOf name change) image (outcome change image name) (change-writes change image name) some, refl)
-refuses (call.format n name geometry) image some = (refused-format image n name geometry some, refl)
+refuses layout (call.look look buffer) image some = (refl, look-refuses layout look buffer image some)
+refuses layout (call.change name change) image some = (refused-image (namesOf name change) image (outcome layout change image name) (change-writes layout change image name) some, refl)
+refuses layout (call.format n name geometry) image some = (refused-format image n name geometry some, refl)
 
 -- the lengths of what is lent
-look-length : {form : Form} (look : Look form) (buffer image : List ℕ) → length (seen look buffer image .buffer) ≡ length buffer
+look-length : (layout : Layout) {form : Form} (look : Look form) (buffer image : List ℕ) → length (seen layout look buffer image .buffer) ≡ length buffer
 unfolding seen packs
-look-length call.judge buffer image = splice-length buffer 0 _
-look-length call.freeCount buffer image = splice-length buffer 0 _
-look-length call.summarize buffer image = splice-length buffer 0 _
-look-length (call.entry place) buffer image = splice-length buffer 0 _
-look-length (call.read name offset) buffer image = splice-length buffer 0 _
-look-length (call.load name) buffer image = splice-length buffer 0 _
-look-length call.list buffer image = splice-length buffer 0 _
-look-length call.pack buffer image =
-    elim (ℕ-discrete (packNumber image buffer) 0) [
-      | yes zero ↦ let can = packing-demand .done image buffer .0 zero in packing-demand .laid image buffer can .size ∙ sym (can .long)
-      | no some ↦ ap length (packing-demand .refuses image buffer some)
+look-length layout call.judge buffer image = splice-length buffer 0 _
+look-length layout call.freeCount buffer image = splice-length buffer 0 _
+look-length layout call.summarize buffer image = splice-length buffer 0 _
+look-length layout (call.entry place) buffer image = splice-length buffer 0 _
+look-length layout (call.read name offset) buffer image = splice-length buffer 0 _
+look-length layout (call.load name) buffer image = splice-length buffer 0 _
+look-length layout call.list buffer image = splice-length buffer 0 _
+look-length layout call.pack buffer image =
+    elim (ℕ-discrete (packNumber layout image buffer) 0) [
+      | yes zero ↦ let can = packing-demand layout .done image buffer .0 zero in packing-demand layout .laid image buffer can .size ∙ sym (can .long)
+      | no some ↦ ap length (packing-demand layout .refuses image buffer some)
     ]
 
 format-length : (image : List ℕ) (n : ℕ) (name : List ℕ) (g : Geometry) → length (afterFormat image n name g) ≡ length image
@@ -110,86 +111,87 @@ format-length image n name g =
       | no some ↦ rw (unless-met (formatTests image n name) (formatted n name g) image some)
     ]
 
-pub lengths : (c : Call) (image : List ℕ) → (length (ours c image .image) ≡ length image) × (length (ours c image .buffer) ≡ length (lent c))
+pub lengths : (layout : Layout) (c : Call) (image : List ℕ) → (length (ours layout c image .image) ≡ length image) × (length (ours layout c image .buffer) ≡ length (lent c))
 unfolding ours
-lengths (call.look look buffer) image = (refl, look-length look buffer image)
-lengths (call.change name change) image = (written-length image (outcome change image name .writes), refl)
-lengths (call.format n name geometry) image = (format-length image n name geometry, refl)
+lengths layout (call.look look buffer) image = (refl, look-length layout look buffer image)
+lengths layout (call.change name change) image = (written-length image (outcome layout change image name .writes), refl)
+lengths layout (call.format n name geometry) image = (format-length image n name geometry, refl)
 
 -- what a call that was done means: formatting, whatever the image was
-pub formats : (n : ℕ) (name : List ℕ) (geometry : Geometry) (image : List ℕ) →
+pub formats : (layout : Layout) (n : ℕ) (name : List ℕ) (geometry : Geometry) (image : List ℕ) →
     let c = call.format n name geometry in
-    numberOf ours c image ≡ 0 → Means c image (ours c image)
+    numberOf (ours layout) c image ≡ 0 → Means layout c image (ours layout c image)
 unfolding ours Means FormatCall
-formats n name geometry image e =
+formats layout n name geometry image e =
     let zero = sym (named-number (call.one name) (formatNumber image n name)) ∙ e in
-    (format-call image n name geometry zero, format-bytes image n name geometry zero)
+    (format-call layout image n name geometry zero, format-bytes image n name geometry zero)
 
 -- the reading calls
-free-is : (image : List ℕ) → Sound image → FreeIs image (freeCount (sectorOf image 0))
-free-is image is = record { is = free-holders image is }
+free-is : (layout : Layout) (image : List ℕ) → Sound layout image → FreeIs image (freeCount (sectorOf image 0))
+free-is layout image is = record { is = free-holders layout image is }
 
-free-means : (image : List ℕ) → Sound image → FreeGiven image (amountOf (freeCountOf image))
+free-means : (layout : Layout) (image : List ℕ) → Sound layout image → FreeGiven image (amountOf (freeCountOf layout image))
 unfolding amountOf freeCountOf verdict
-free-means image is =
-    record { free = freeCount (sectorOf image 0); is = ap amountOf (reported-given (volumeTests image) (freeCount (sectorOf image 0)) [] (passes image is)); count = free-is image is }
+free-means layout image is =
+    record { free = freeCount (sectorOf image 0); is = ap amountOf (reported-given (volumeTests layout image) (freeCount (sectorOf image 0)) [] (passes layout image is)); count = free-is layout image is }
 
-summary-means : (image buffer : List ℕ) → Sound image
-    → Summarized image (summaryAnswer image) × (splice buffer 0 (summaryOf image .bytes) ≡ splice buffer 0 (part (sectorOf image 0) 0 10))
+summary-means : (layout : Layout) (image buffer : List ℕ) → Sound layout image
+    → Summarized image (summaryAnswer layout image) × (splice buffer 0 (summaryOf layout image .bytes) ≡ splice buffer 0 (part (sectorOf image 0) 0 10))
 unfolding summaryAnswer summaryOf verdict
-summary-means image buffer is = (
-  record { free = freeCount (sectorOf image 0); is = unless-passed (volumeTests image) _ _ (passes image is) ∙ rw (catalogue-length image); count = free-is image is },
-  rw (unless-passed (volumeTests image) (part (sectorOf image 0) 0 10) [] (passes image is)),
+summary-means layout image buffer is = (
+  record { free = freeCount (sectorOf image 0); is = unless-passed (volumeTests layout image) _ _ (passes layout image is) ∙ rw (catalogue-length image); count = free-is layout image is },
+  rw (unless-passed (volumeTests layout image) (part (sectorOf image 0) 0 10) [] (passes layout image is)),
 )
 
-shows : {form : Form} (look : Look form) (buffer image : List ℕ) → Sound image → numberIn form (seen look buffer image .answer) ≡ 0
-    → Shows look buffer image (record { answer = seen look buffer image .answer; buffer = seen look buffer image .buffer; image = image })
+shows : (layout : Layout) {form : Form} (look : Look form) (buffer image : List ℕ) → Sound layout image → numberIn form (seen layout look buffer image .answer) ≡ 0
+    → Shows layout look buffer image (record { answer = seen layout look buffer image .answer; buffer = seen layout look buffer image .buffer; image = image })
 unfolding seen Shows packs amountOf namedAmountOf byNumber
-shows call.judge buffer image is e = splice-none buffer 0
-shows call.freeCount buffer image is e = (free-means image is, splice-none buffer 0)
-shows call.summarize buffer image is e = summary-means image buffer is
-shows (call.entry place) buffer image is e =
-    let zero = sym (answer-number (entryOf image place (length buffer) .number)) ∙ e in
-    (entry-answers image is place (length buffer) zero, ap (splice buffer 0) (entry-bytes image is place (length buffer) zero))
-shows (call.read name offset) buffer image is e =
-    ap (splice buffer 0) (read-is image name offset (length buffer) (sym (named-number (call.one name) (readOf image name offset (length buffer) .number)) ∙ e))
-shows (call.load name) buffer image is e =
-    let loaded = load-is image name (length buffer) (sym (loaded-number (wrongPlace name) (loadOf image name (length buffer))) ∙ e) in
+shows layout call.judge buffer image is e = splice-none buffer 0
+shows layout call.freeCount buffer image is e = (free-means layout image is, splice-none buffer 0)
+shows layout call.summarize buffer image is e = summary-means layout image buffer is
+shows layout (call.entry place) buffer image is e =
+    let zero = sym (answer-number (entryOf layout image place (length buffer) .number)) ∙ e in
+    (entry-answers layout image is place (length buffer) zero, ap (splice buffer 0) (entry-bytes layout image is place (length buffer) zero))
+shows layout (call.read name offset) buffer image is e =
+    ap (splice buffer 0) (read-is layout image name offset (length buffer) (sym (named-number (call.one name) (readOf layout image name offset (length buffer) .number)) ∙ e))
+shows layout (call.load name) buffer image is e =
+    let loaded = load-is layout image name (length buffer) (sym (loaded-number (wrongPlace name) (loadOf layout image name (length buffer))) ∙ e) in
     (ap (namedAmountOf (wrongPlace name)) loaded, ap (λ (r : Report). splice buffer 0 (r .bytes)) loaded)
-shows call.list buffer image is e =
-    let listed = listing-is image (length buffer) (sym (amount-number (listingOf image (length buffer))) ∙ e) in
-    record { text = listingText image; lists = listing-lists image is; is = ap amountOf listed; put = ap (λ (r : Report). splice buffer 0 (r .bytes)) listed }
-shows call.pack buffer image is e =
-    let can = packing-demand .done image buffer .0 (sym (answer-number (packNumber image buffer)) ∙ e) in
-    (packing-demand .sound image buffer can, packing-demand .laid image buffer can)
+shows layout call.list buffer image is e =
+    let listed = listing-is layout image (length buffer) (sym (amount-number (listingOf layout image (length buffer))) ∙ e) in
+    record { text = listingText layout image; lists = listing-lists layout image is; is = ap amountOf listed; put = ap (λ (r : Report). splice buffer 0 (r .bytes)) listed }
+shows layout call.pack buffer image is e =
+    let can = packing-demand layout .done image buffer .0 (sym (answer-number (packNumber layout image buffer)) ∙ e) in
+    (packing-demand layout .sound image buffer can, packing-demand layout .laid image buffer can)
 
 -- the changes
-pub does : (change : Change) → Does change
-does (call.create status recordLength recordsPerSector) = creates status recordLength recordsPerSector
-does (call.append bytes) = appends bytes
-does (call.overwrite offset bytes) = overwrites offset bytes
-does call.protect = protects
-does call.unprotect = unprotects
-does (call.store bytes) = stores bytes
-does call.delete = deletes
-does (call.rename new) = renames new
+pub does : (layout : Layout) (change : Change) → Does layout change
+does layout (call.create status recordLength recordsPerSector) = creates layout status recordLength recordsPerSector
+does layout (call.append bytes) = appends layout bytes
+does layout (call.overwrite offset bytes) = overwrites layout offset bytes
+does layout call.protect = protects layout
+does layout call.unprotect = unprotects layout
+does layout call.clear = clears layout
+does layout (call.store bytes) = stores layout bytes
+does layout call.delete = deletes layout
+does layout (call.rename new) = renames layout new
 
-pub means : (c : Call) (image : List ℕ) → Sound image → numberOf ours c image ≡ 0 → Means c image (ours c image)
+pub means : (layout : Layout) (c : Call) (image : List ℕ) → Sound (ruleOf layout c) image → numberOf (ours layout) c image ≡ 0 → Means (ruleOf layout c) c image (ours layout c image)
 unfolding ours Means
-means (call.look look buffer) image is e = shows look buffer image is e
-means (call.change name change) image is e = does change image name (sym (named-number (namesOf name change) (outcome change image name .number)) ∙ e)
-means (call.format n name geometry) image is e = formats n name geometry image e
+means layout (call.look look buffer) image is e = shows layout look buffer image is e
+means layout (call.change name change) image is e = does layout change image name (sym (named-number (namesOf name change) (outcome layout change image name .number)) ∙ e)
+means layout (call.format n name geometry) image is e = formats layout n name geometry image e
 
 -- the frame: of a call that was done, and of a refusal
 kept-same : (image after name : List ℕ) → after ≡ image → Kept image after name
 kept-same image after name e =
     rw e (record { label = λ i low. refl; listed = λ k there other. there; descriptor = λ k there other. refl; contents = λ k p there other placed. refl })
 
-frame-done : (c : Call) (image : List ℕ) → Means c image (ours c image) → Frame c image (ours c image .image)
+frame-done : (layout : Layout) (c : Call) (image : List ℕ) → Means (ruleOf layout c) c image (ours layout c image) → Frame c image (ours layout c image .image)
 unfolding ours Means Frame
-frame-done (call.look look buffer) image m = refl
-frame-done (call.change name change) image m = m .0 .kept
-frame-done (call.format n name geometry) image m = tt
+frame-done layout (call.look look buffer) image m = refl
+frame-done layout (call.change name change) image m = m .0 .kept
+frame-done layout (call.format n name geometry) image m = tt
 
 frame-same : (c : Call) (image after : List ℕ) → after ≡ image → Frame c image after
 unfolding Frame
@@ -197,32 +199,44 @@ frame-same (call.look look buffer) image after same = same
 frame-same (call.change name change) image after same = kept-same image after name same
 frame-same (call.format n name geometry) image after same = tt
 
-pub frame : (c : Call) (image : List ℕ) → Sound image → Frame c image (ours c image .image)
-frame c image is =
-    elim (ℕ-discrete (numberOf ours c image) 0) [
-      | yes zero ↦ frame-done c image (means c image is zero)
-      | no some ↦ frame-same c image (ours c image .image) (refuses c image some .0)
+pub frame : (layout : Layout) (c : Call) (image : List ℕ) → Sound (ruleOf layout c) image → Frame c image (ours layout c image .image)
+frame layout c image is =
+    elim (ℕ-discrete (numberOf (ours layout) c image) 0) [
+      | yes zero ↦ frame-done layout c image (means layout c image is zero)
+      | no some ↦ frame-same c image (ours layout c image .image) (refuses layout c image some .0)
     ]
 
 -- a sound volume after a call, and after a list of calls
-sound-done : (c : Call) (image : List ℕ) → Sound image → Means c image (ours c image) → Sound (ours c image .image)
-unfolding ours Means
-sound-done (call.look look buffer) image is m = is
-sound-done (call.change name change) image is m = m .0 .sound
-sound-done (call.format n name geometry) image is m = m .0 .sound
+change-sound : (layout : Layout) (change : Change) (image name : List ℕ) → Sound layout image → outcome layout change image name .number ≡ 0 → Sound layout (written image (outcome layout change image name .writes))
+unfolding outcome
+change-sound layout (call.create status recordLength recordsPerSector) image name is zero = does layout (call.create status recordLength recordsPerSector) image name zero .0 .sound
+change-sound layout (call.append bytes) image name is zero = does layout (call.append bytes) image name zero .0 .sound
+change-sound layout (call.overwrite offset bytes) image name is zero = does layout (call.overwrite offset bytes) image name zero .0 .sound
+change-sound layout call.protect image name is zero = does layout call.protect image name zero .0 .sound
+change-sound layout call.unprotect image name is zero = does layout call.unprotect image name zero .0 .sound
+change-sound layout call.clear image name is zero = cleared-sound layout image name is zero
+change-sound layout (call.store bytes) image name is zero = does layout (call.store bytes) image name zero .0 .sound
+change-sound layout call.delete image name is zero = does layout call.delete image name zero .0 .sound
+change-sound layout (call.rename new) image name is zero = does layout (call.rename new) image name zero .0 .sound
 
-sound-call : (c : Call) (image : List ℕ) → Sound image → Sound (ours c image .image)
-sound-call c image is =
-    elim (ℕ-discrete (numberOf ours c image) 0) [
-      | yes zero ↦ sound-done c image is (means c image is zero)
-      | no some ↦ rw (refuses c image some .0) is
+sound-done : (layout : Layout) (c : Call) (image : List ℕ) → Sound layout image → numberOf (ours layout) c image ≡ 0 → Sound layout (ours layout c image .image)
+unfolding ours Means
+sound-done layout (call.look look buffer) image is e = is
+sound-done layout (call.change name change) image is e = change-sound layout change image name is (sym (named-number (namesOf name change) (outcome layout change image name .number)) ∙ e)
+sound-done layout (call.format n name geometry) image is e = formats layout n name geometry image e .0 .sound
+
+sound-call : (layout : Layout) (c : Call) (image : List ℕ) → Sound layout image → Sound layout (ours layout c image .image)
+sound-call layout c image is =
+    elim (ℕ-discrete (numberOf (ours layout) c image) 0) [
+      | yes zero ↦ sound-done layout c image is zero
+      | no some ↦ rw (refuses layout c image some .0) is
     ]
 
-pub sound-run : (calls : List Call) (image : List ℕ) → Sound image → Sound (run ours calls image)
+pub sound-run : (layout : Layout) (calls : List Call) (image : List ℕ) → Sound layout image → Sound layout (run (ours layout) calls image)
 unfolding run
-sound-run [] image is = is
-sound-run (c ∷ calls) image is = sound-run calls (ours c image .image) (sound-call c image is)
+sound-run layout [] image is = is
+sound-run layout (c ∷ calls) image is = sound-run layout calls (ours layout c image .image) (sound-call layout c image is)
 
-pub demand2-but-progress : ((c : Call) (image : List ℕ) → First (numberOf ours c image) (grounds c image)) → Demand2 ours
-demand2-but-progress progress =
-    record { carries = λ c image. carried c image (progress c image); lengths = lengths; refuses = refuses; sound = sound-run; formats = formats; frame = frame; means = means; progress = progress }
+pub demand2-but-progress : (layout : Layout) → ((c : Call) (image : List ℕ) → First (numberOf (ours layout) c image) (grounds (ruleOf layout c) c image)) → Demand2 layout (ours layout)
+demand2-but-progress layout progress =
+    record { carries = λ c image. carried layout c image (progress c image); lengths = lengths layout; refuses = refuses layout; sound = sound-run layout; formats = formats layout; frame = frame layout; means = means layout; progress = progress }

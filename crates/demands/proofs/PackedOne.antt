@@ -13,6 +13,7 @@ use Rattle.rules.specs.Descriptor.{chainOf}
 use Rattle.rules.specs.Index.{numbers}
 use Rattle.rules.specs.Volume.{File, files, placesIn, fileHolders, holders, headerIn, contentsIn, fileIn, catalogue}
 use Rattle.rules.specs.Sound.{Sound}
+use Rattle.rules.specs.declared.Layout.{Layout}
 use Rattle.rules.specs.declared.Block.{Block}
 use Rattle.rules.proofs.Bytes.{halves, append-parts}
 use Rattle.rules.proofs.Sectors.{sector-length, image-same}
@@ -144,6 +145,6 @@ module _ (source a b : List ℕ) (whole : length source ≡ 256 * sectorCount so
             one .free j (omega (arith, inside, one .size)) none ∙ sym (two .free j (omega (arith, inside, two .size)) (rw same-holders at none))
       ]
 
-pub packs-one : (source a b : List ℕ) → Sound source → Packs source a → Packs source b → a ≡ b
-packs-one source a b is one two =
+pub packs-one : (layout : Layout) (source a b : List ℕ) → Sound layout source → Packs source a → Packs source b → a ≡ b
+packs-one layout source a b is one two =
     image-same a b (one .size ∙ sym (two .size)) (rw (one .size) (is .whole)) (λ j inside. sector-same source a b (is .whole) one two j (omega (arith, inside, one .size)))

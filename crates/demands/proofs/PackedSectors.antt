@@ -11,10 +11,11 @@ use Rattle.rules.specs.Sectors.{sectorOf, joined}
 use Rattle.rules.specs.Name.{IsName}
 use Rattle.rules.specs.Map.{count}
 use Rattle.rules.specs.Chain.{blocks, run, placesFrom, places, Linked, chainWith}
-use Rattle.rules.specs.Kind.{kindOf, IsStatus, IsKind}
+use Rattle.rules.specs.Kind.{allowedBits, kindOf, IsStatus, IsKind}
 use Rattle.rules.specs.Descriptor.{nameOf, sectorsOf, chainOf, fileKind, IsDescriptor}
 use Rattle.rules.specs.Volume.{File, placesIn, fileHolders, headerIn, contentsIn, fileIn}
 use Rattle.rules.specs.Calls.Pack.{oneBlock, packedDescriptor, packedDescriptors, packedData, dataSectors}
+use Rattle.rules.specs.declared.Layout.{Layout}
 use Rattle.rules.specs.declared.Block.{Block}
 use Rattle.rules.proofs.Map.{count-append}
 use Rattle.rules.proofs.Chain.{run-parts}
@@ -67,21 +68,21 @@ contents-behind image front (sector ∷ sectors) rest k e long full =
     rw (here, later)
 
 -- what the catalogue of a sound volume says of a file
-pub record IsListed (file : File) : Type 0 where
+pub record IsListed (layout : Layout) (file : File) : Type 0 where
   pub whole : Whole file
   pub name : IsName (part (file .header) 0 10)
-  pub status : IsStatus (byteAt (file .header) 12)
+  pub status : IsStatus (allowedBits layout) (byteAt (file .header) 12)
   pub kind : IsKind (kindOf (byteAt (file .header) 12) (wordAt (file .header) 14) (byteAt (file .header) 16) (byteAt (file .header) 17)) (wordAt (file .header) 14) (byteAt (file .header) 16)
   pub sectors : wordAt (file .header) 14 ≡ length (file .contents)
 
-unfoldable pub Each : List File → Type 0
-Each [] = Unit {0}
-Each (file ∷ more) = IsListed file × Each more
+unfoldable pub Each : (layout : Layout) → List File → Type 0
+Each layout [] = Unit {0}
+Each layout (file ∷ more) = IsListed layout file × Each layout more
 
-pub each-whole : (files : List File) → Each files → AllWhole files
+pub each-whole : (layout : Layout) (files : List File) → Each layout files → AllWhole files
 unfolding Each AllWhole
-each-whole [] each = tt
-each-whole (file ∷ more) each = (each .0 .whole, each-whole more (each .1))
+each-whole layout [] each = tt
+each-whole layout (file ∷ more) each = (each .0 .whole, each-whole layout more (each .1))
 
 -- one block, of c sectors from s on
 one-linked : (n s c : ℕ) → 2 ≤ s → s + c ≤ n → Linked n c 0 (oneBlock s c)
@@ -124,7 +125,7 @@ module _ (header chain : List ℕ) (long : length header ≡ 28) (size : length 
   unfolding fileKind
   behind-kind = rw (behind-sectors, behind-byte 12 (omega arith), behind-byte 16 (omega arith), behind-byte 17 (omega arith))
 
-module _ (n s : ℕ) (file : File) (listed : IsListed file) (small : n ≤ 1600) (low : 2 ≤ s) (high : s + length (file .contents) ≤ n) where
+module _ (layout : Layout) (n s : ℕ) (file : File) (listed : IsListed layout file) (small : n ≤ 1600) (low : 2 ≤ s) (high : s + length (file .contents) ≤ n) where
   abbrev bs : List Block
   bs = oneBlock s (length (file .contents))
 
@@ -144,7 +145,7 @@ module _ (n s : ℕ) (file : File) (listed : IsListed file) (small : n ≤ 1600)
   pub packed-block : OneBlock (chainOf (packedDescriptor s file))
   packed-block = rw packed-chain (record { few = rw chain-blocks (one-short s (length (file .contents))); rest = rw chain-blocks })
 
-  pub packed-descriptor : IsDescriptor n (packedDescriptor s file)
+  pub packed-descriptor : IsDescriptor layout n (packedDescriptor s file)
   unfolding packedDescriptor
   packed-descriptor =
       let long = listed .whole .long in
@@ -160,9 +161,9 @@ module _ (n s : ℕ) (file : File) (listed : IsListed file) (small : n ≤ 1600)
             });
       }
 
-packed-header : (s : ℕ) (file : File) → IsListed file → part (packedDescriptor s file) 0 28 ≡ file .header
+packed-header : (layout : Layout) (s : ℕ) (file : File) → IsListed layout file → part (packedDescriptor s file) 0 28 ≡ file .header
 unfolding packedDescriptor
-packed-header s file listed = behind-header (file .header) (chainWith (oneBlock s (length (file .contents)))) (listed .whole .long) (chain-with-length (oneBlock s (length (file .contents))))
+packed-header layout s file listed = behind-header (file .header) (chainWith (oneBlock s (length (file .contents)))) (listed .whole .long) (chain-with-length (oneBlock s (length (file .contents))))
 
 -- Files laid down in an image: descriptors at consecutive sectors from d on, the data of the first from s on and that of the others behind it.
 unfoldable pub Laid : List ℕ → ℕ → ℕ → List File → Type 0
@@ -173,18 +174,18 @@ Laid image d s (file ∷ more) =
     × Laid image (d + 1) (s + length (file .contents)) more
 
 -- so they stand in an image that has the descriptors behind d sectors and the data behind s sectors
-pub laid : (image front rest front′ rest′ : List ℕ) (d s : ℕ) (files : List File) → image ≡ front ++ (packedDescriptors s files ++ rest)
-    → image ≡ front′ ++ (packedData files ++ rest′) → length front ≡ 256 * d → length front′ ≡ 256 * s → Each files → Laid image d s files
+pub laid : (layout : Layout) (image front rest front′ rest′ : List ℕ) (d s : ℕ) (files : List File) → image ≡ front ++ (packedDescriptors s files ++ rest)
+    → image ≡ front′ ++ (packedData files ++ rest′) → length front ≡ 256 * d → length front′ ≡ 256 * s → Each layout files → Laid image d s files
 unfolding Laid Each packedDescriptors packedData
-laid image front rest front′ rest′ d s [] e e′ long long′ each = tt
-laid image front rest front′ rest′ d s (file ∷ more) e e′ long long′ each =
+laid layout image front rest front′ rest′ d s [] e e′ long long′ each = tt
+laid layout image front rest front′ rest′ d s (file ∷ more) e e′ long long′ each =
     let c = length (file .contents) in
     let first = packedDescriptor s file in
     let size = descriptor-length s file (each .0 .whole) in
     let size′ = joined-length (file .contents) (each .0 .whole .full) in (
       sector-behind image front first (packedDescriptors (s + c) more ++ rest) d (move-front image front first (packedDescriptors (s + c) more) rest e) long size,
       contents-behind image front′ (file .contents) (packedData more ++ rest′) s (move-front image front′ (joined (file .contents)) (packedData more) rest′ e′) long′ (each .0 .whole .full),
-      laid image (front ++ first) rest (front′ ++ joined (file .contents)) rest′ (d + 1) (s + c) more
+      laid layout image (front ++ first) rest (front′ ++ joined (file .contents)) rest′ (d + 1) (s + c) more
           (moved-front image front first (packedDescriptors (s + c) more) rest e)
           (moved-front image front′ (joined (file .contents)) (packedData more) rest′ e′)
           (length-append front first ∙ omega (arith, long, size)) (length-append front′ (joined (file .contents)) ∙ omega (arith, long′, size′)) (each .1),
@@ -195,21 +196,21 @@ same-file : (header header′ : List ℕ) (contents contents′ : List (List ℕ
 same-file header header′ contents contents′ p q = rw (p, q)
 
 -- What is read of them.
-module _ (n : ℕ) (image : List ℕ) (small : n ≤ 1600) where
-  laid-places : (d s : ℕ) (file : File) → IsListed file → 2 ≤ s → s + length (file .contents) ≤ n → sectorOf image d ≡ packedDescriptor s file
+module _ (layout : Layout) (n : ℕ) (image : List ℕ) (small : n ≤ 1600) where
+  laid-places : (d s : ℕ) (file : File) → IsListed layout file → 2 ≤ s → s + length (file .contents) ≤ n → sectorOf image d ≡ packedDescriptor s file
       → placesIn image d ≡ run s (length (file .contents))
   unfolding placesIn
-  laid-places d s file listed low high is = rw is (packed-places n s file listed small low high)
+  laid-places d s file listed low high is = rw is (packed-places layout n s file listed small low high)
 
-  laid-file : (d s : ℕ) (file : File) → IsListed file → 2 ≤ s → s + length (file .contents) ≤ n → sectorOf image d ≡ packedDescriptor s file
+  laid-file : (d s : ℕ) (file : File) → IsListed layout file → 2 ≤ s → s + length (file .contents) ≤ n → sectorOf image d ≡ packedDescriptor s file
       → map (sectorOf image) (run s (length (file .contents))) ≡ file .contents → fileIn image d ≡ file
   unfolding fileIn headerIn contentsIn
   laid-file d s file listed low high is there =
       same-file (part (sectorOf image d) 0 28) (file .header) (map (sectorOf image) (placesIn image d)) (file .contents)
-      (rw is (packed-header s file listed)) (rw (laid-places d s file listed low high is) there)
+      (rw is (packed-header layout s file listed)) (rw (laid-places d s file listed low high is) there)
 
   -- they are the files of those descriptors, in their order
-  pub laid-files : (d s : ℕ) (files : List File) → Each files → 2 ≤ s → s + dataSectors files ≤ n → Laid image d s files → map (fileIn image) (run d (length files)) ≡ files
+  pub laid-files : (d s : ℕ) (files : List File) → Each layout files → 2 ≤ s → s + dataSectors files ≤ n → Laid image d s files → map (fileIn image) (run d (length files)) ≡ files
   unfolding Laid Each dataSectors run
   laid-files d s [] each low high is = refl
   laid-files d s (file ∷ more) each low high is =
@@ -219,8 +220,8 @@ module _ (n : ℕ) (image : List ℕ) (small : n ≤ 1600) where
       )
 
   -- and what holds of a packed descriptor holds of each of these
-  pub laid-each : (P : List ℕ → Type 0) → ((s : ℕ) (file : File) → IsListed file → 2 ≤ s → s + length (file .contents) ≤ n → P (packedDescriptor s file))
-      → (d s : ℕ) (files : List File) → Each files → 2 ≤ s → s + dataSectors files ≤ n → Laid image d s files → (p : ℕ) → p < length files → P (sectorOf image (d + p))
+  pub laid-each : (P : List ℕ → Type 0) → ((s : ℕ) (file : File) → IsListed layout file → 2 ≤ s → s + length (file .contents) ≤ n → P (packedDescriptor s file))
+      → (d s : ℕ) (files : List File) → Each layout files → 2 ≤ s → s + dataSectors files ≤ n → Laid image d s files → (p : ℕ) → p < length files → P (sectorOf image (d + p))
   unfolding Laid Each dataSectors
   laid-each P holds d s [] each low high is p h = absurd (omega arith)
   laid-each P holds d s (file ∷ more) each low high is zero h =
@@ -231,7 +232,7 @@ module _ (n : ℕ) (image : List ℕ) (small : n ≤ 1600) where
       rw (← e) (laid-each P holds (d + 1) (s + length (file .contents)) more (each .1) (omega arith) (omega arith) (is .2) p (omega arith))
 
   -- their data is one run of sectors
-  pub laid-data : (d s : ℕ) (files : List File) → Each files → 2 ≤ s → s + dataSectors files ≤ n → Laid image d s files
+  pub laid-data : (d s : ℕ) (files : List File) → Each layout files → 2 ≤ s → s + dataSectors files ≤ n → Laid image d s files
       → placesOf image (run d (length files)) ≡ run s (dataSectors files)
   unfolding Laid Each dataSectors run placesOf
   laid-data d s [] each low high is = refl
@@ -241,7 +242,7 @@ module _ (n : ℕ) (image : List ℕ) (small : n ≤ 1600) where
       (sym (run-parts s c (dataSectors more)))
 
   -- the descriptors hold a run of sectors, and the data another
-  pub laid-holders : (k d s : ℕ) (files : List File) → Each files → 2 ≤ s → s + dataSectors files ≤ n → Laid image d s files
+  pub laid-holders : (k d s : ℕ) (files : List File) → Each layout files → 2 ≤ s → s + dataSectors files ≤ n → Laid image d s files
       → count k (fileHolders image (run d (length files))) ≡ count k (run d (length files)) + count k (run s (dataSectors files))
   unfolding Laid Each dataSectors run fileHolders count
   laid-holders k d s [] each low high is = refl

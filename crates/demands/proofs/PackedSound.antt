@@ -15,6 +15,7 @@ use Rattle.rules.specs.Index.{indexOf, IsIndex}
 use Rattle.rules.specs.Volume.{File, files, nameIn, placesIn, fileHolders, holders, headerIn, contentsIn, fileIn, catalogue}
 use Rattle.rules.specs.Sound.{Sound}
 use Rattle.rules.specs.Calls.Pack.{labelArea, packedDescriptor, packedDescriptors, packedData, dataSectors, packedSectors, packed}
+use Rattle.rules.specs.declared.Layout.{Layout}
 use Rattle.rules.proofs.Bytes.{part-at}
 use Rattle.rules.proofs.Sectors.{sector-length}
 use Rattle.rules.proofs.Map.{counted-all, count-append, map-of-bits, map-same}
@@ -31,23 +32,23 @@ use Rattle.demands.proofs.Filed.{file-name}
 use Rattle.demands.proofs.PackedSectors.{count-runs, sector-behind, IsListed, Each, each-whole, Laid, laid, laid-files, laid-each, laid-data, laid-holders, filled-behind, packed-block, packed-descriptor}
 
 -- A file of a sound volume, as its catalogue lists it.
-module _ (n : ℕ) (image : List ℕ) (whole : length image ≡ 256 * n) where
-  is-listed : (k : ℕ) → k < n → IsDescriptor n (sectorOf image k) → IsListed (fileIn image k)
+module _ (layout : Layout) (n : ℕ) (image : List ℕ) (whole : length image ≡ 256 * n) where
+  is-listed : (k : ℕ) → k < n → IsDescriptor layout n (sectorOf image k) → IsListed layout (fileIn image k)
   unfolding fileIn headerIn contentsIn nameIn fileKind
   is-listed k inside is =
       let d = sectorOf image k in
       let long = sector-length image k (omega arith) in
       let byte : (i : ℕ) → i < 28 → byteAt (part d 0 28) i ≡ byteAt d i = λ i h. part-at d 0 28 i h ∙ ap (byteAt d) (omega arith) in
       record {
-        whole = file-whole n image whole k inside is;
+        whole = file-whole n image whole layout k inside is;
         name = rw (file-name image k) (is .name);
         status = rw (byte 12 (omega arith)) (is .status);
         kind = rw (byte 12 (omega arith), byte 14 (omega arith), byte 15 (omega arith), byte 16 (omega arith), byte 17 (omega arith)) (is .kind);
-        sectors = rw (byte 14 (omega arith), byte 15 (omega arith), length-map (placesIn image k) (sectorOf image)) (sym (places-count n image k is));
+        sectors = rw (byte 14 (omega arith), byte 15 (omega arith), length-map (placesIn image k) (sectorOf image)) (sym (places-count layout n image k is));
       }
 
-  each-listed : (ks : List ℕ) → ((p : ℕ) → p < length ks → getD ks p 0 < n) → ((p : ℕ) → p < length ks → IsDescriptor n (sectorOf image (getD ks p 0)))
-      → Each (map (fileIn image) ks)
+  each-listed : (ks : List ℕ) → ((p : ℕ) → p < length ks → getD ks p 0 < n) → ((p : ℕ) → p < length ks → IsDescriptor layout n (sectorOf image (getD ks p 0)))
+      → Each layout (map (fileIn image) ks)
   unfolding Each
   each-listed [] inside is = tt
   each-listed (k ∷ ks) inside is =
@@ -63,7 +64,7 @@ run-system k f many =
     omega (arith, behind, system)
 
 -- What is laid end to end, behind what.
-module _ (image a b c d e f : List ℕ) (is : image ≡ a ++ (b ++ (c ++ (d ++ (e ++ f))))) where
+module _ (layout : Layout) (image a b c d e f : List ℕ) (is : image ≡ a ++ (b ++ (c ++ (d ++ (e ++ f))))) where
   behind-two : image ≡ (a ++ b) ++ (c ++ (d ++ (e ++ f)))
   behind-two = is ∙ sym (append-assoc a b (c ++ (d ++ (e ++ f))))
 
@@ -82,7 +83,7 @@ module _ (image a b c d e f : List ℕ) (is : image ≡ a ++ (b ++ (c ++ (d ++ (
       ∙ omega (arith, length-append e f, length-append ((a ++ b) ++ c) d, length-append (a ++ b) c, length-append a b)
 
 -- A packed image of n sectors, of a label of 56 bytes and files that together hold no more than that.
-module _ (n : ℕ) (label : List ℕ) (listed : List File) (size : length label ≡ 56) (each : Each listed) (fits : packedSectors listed ≤ n) (small : n ≤ 1600) where
+module _ (layout : Layout) (n : ℕ) (label : List ℕ) (listed : List File) (size : length label ≡ 56) (each : Each layout listed) (fits : packedSectors listed ≤ n) (small : n ≤ 1600) where
   abbrev image : List ℕ
   image = packed n label listed
 
@@ -118,42 +119,42 @@ module _ (n : ℕ) (label : List ℕ) (listed : List File) (size : length label 
   system-length = length-append (label ++ mapping) indexing ∙ omega (arith, front-length, index-length (run 2 (length listed)))
 
   described-length : length (((label ++ mapping) ++ indexing) ++ described) ≡ 256 * first
-  described-length = length-append ((label ++ mapping) ++ indexing) described ∙ omega (arith, system-length, descriptors-length first listed (each-whole listed each))
+  described-length = length-append ((label ++ mapping) ++ indexing) described ∙ omega (arith, system-length, descriptors-length first listed (each-whole layout listed each))
 
   held-length : length ((((label ++ mapping) ++ indexing) ++ described) ++ stored) ≡ 256 * used
   unfolding packedSectors
-  held-length = length-append (((label ++ mapping) ++ indexing) ++ described) stored ∙ omega (arith, described-length, data-length listed (each-whole listed each))
+  held-length = length-append (((label ++ mapping) ++ indexing) ++ described) stored ∙ omega (arith, described-length, data-length listed (each-whole layout listed each))
 
   packed-size : length image ≡ 256 * n
   unfolding packedSectors
   packed-size =
-      whole-length image label mapping indexing described stored unused parts
+      whole-length layout image label mapping indexing described stored unused parts
       ∙ omega (
         arith,
         size,
         fits,
         map-length n (run 0 used),
         index-length (run 2 (length listed)),
-        descriptors-length first listed (each-whole listed each),
-        data-length listed (each-whole listed each),
+        descriptors-length first listed (each-whole layout listed each),
+        data-length listed (each-whole layout listed each),
         length-replicate {A = ℕ} (256 * (n - used)) 0xE5,
       )
 
   sector0 : sectorOf image 0 ≡ label ++ mapping
   sector0 =
       sector-behind image [] (label ++ mapping) (indexing ++ (described ++ (stored ++ unused))) 0
-      (behind-two image label mapping indexing described stored unused parts) refl front-length
+      (behind-two layout image label mapping indexing described stored unused parts) refl front-length
 
   sector1 : sectorOf image 1 ≡ indexing
   sector1 =
       sector-behind image (label ++ mapping) indexing (described ++ (stored ++ unused)) 1
-      (behind-two image label mapping indexing described stored unused parts) front-length (index-length (run 2 (length listed)))
+      (behind-two layout image label mapping indexing described stored unused parts) front-length (index-length (run 2 (length listed)))
 
   files-laid : Laid image 2 first listed
   files-laid =
-      laid image ((label ++ mapping) ++ indexing) (stored ++ unused) (((label ++ mapping) ++ indexing) ++ described) unused 2 first listed
-      (behind-three image label mapping indexing described stored unused parts)
-      (behind-four image label mapping indexing described stored unused parts)
+      laid layout image ((label ++ mapping) ++ indexing) (stored ++ unused) (((label ++ mapping) ++ indexing) ++ described) unused 2 first listed
+      (behind-three layout image label mapping indexing described stored unused parts)
+      (behind-four layout image label mapping indexing described stored unused parts)
       system-length described-length each
 
   data-fits : first + dataSectors listed ≤ n
@@ -171,7 +172,7 @@ module _ (n : ℕ) (label : List ℕ) (listed : List File) (size : length label 
   packed-label = rw sector0 (take-at label mapping 56 size)
 
   laid-again : map (fileIn image) (run 2 (length listed)) ≡ listed
-  laid-again = laid-files n image small 2 first listed each (omega arith) data-fits files-laid
+  laid-again = laid-files layout n image small 2 first listed each (omega arith) data-fits files-laid
 
   module _ (few : length listed ≤ 127) where
     packed-index : IsIndex n (sectorOf image 1)
@@ -188,24 +189,24 @@ module _ (n : ℕ) (label : List ℕ) (listed : List File) (size : length label 
     packed-catalogue = rw packed-files laid-again
 
   -- each descriptor keeps its rules, and has one block
-  packed-each : (P : List ℕ → Type 0) → ((s : ℕ) (file : File) → IsListed file → 2 ≤ s → s + length (file .contents) ≤ n → P (packedDescriptor s file))
+  packed-each : (P : List ℕ → Type 0) → ((s : ℕ) (file : File) → IsListed layout file → 2 ≤ s → s + length (file .contents) ≤ n → P (packedDescriptor s file))
       → (p : ℕ) → p < length (run 2 (length listed)) → P (sectorOf image (getD (run 2 (length listed)) p 0))
   packed-each P holds p h =
       let inside : p < length listed = omega (arith, h, run-length 2 (length listed)) in
-      rw (run-at 2 (length listed) p inside) (laid-each n image small P holds 2 first listed each (omega arith) data-fits files-laid p inside)
+      rw (run-at 2 (length listed) p inside) (laid-each layout n image small P holds 2 first listed each (omega arith) data-fits files-laid p inside)
 
-  packed-descriptors : (p : ℕ) → p < length (run 2 (length listed)) → IsDescriptor n (sectorOf image (getD (run 2 (length listed)) p 0))
-  packed-descriptors = packed-each (IsDescriptor n) (λ s file is low high. packed-descriptor n s file is small low high)
+  packed-descriptors : (p : ℕ) → p < length (run 2 (length listed)) → IsDescriptor layout n (sectorOf image (getD (run 2 (length listed)) p 0))
+  packed-descriptors = packed-each (IsDescriptor layout n) (λ s file is low high. packed-descriptor layout n s file is small low high)
 
   packed-blocks : (k : ℕ) → 1 ≤ count k (run 2 (length listed)) → OneBlock (chainOf (sectorOf image k))
   packed-blocks =
       counted-all (λ (k : ℕ). OneBlock (chainOf (sectorOf image k))) (run 2 (length listed))
-      (packed-each (λ (d : List ℕ). OneBlock (chainOf d)) (λ s file is low high. packed-block n s file is small low high))
+      (packed-each (λ (d : List ℕ). OneBlock (chainOf d)) (λ s file is low high. packed-block layout n s file is small low high))
 
   -- the data follows the descriptors
   packed-data : placesOf image (run 2 (length listed)) ≡ run first (length (placesOf image (run 2 (length listed))))
   packed-data =
-      let e = laid-data n image small 2 first listed each (omega arith) data-fits files-laid in
+      let e = laid-data layout n image small 2 first listed each (omega arith) data-fits files-laid in
       rw e (ap (run first) (sym (run-length first (dataSectors listed))))
 
   -- the holders are the sectors from 0 on, each once
@@ -213,7 +214,7 @@ module _ (n : ℕ) (label : List ℕ) (listed : List File) (size : length label 
   unfolding packedSectors
   packed-holders k =
       let system = count-append k (0 ∷ (1 ∷ [])) (fileHolders image (run 2 (length listed))) in
-      let held = laid-holders n image small k 2 first listed each (omega arith) data-fits files-laid in
+      let held = laid-holders layout n image small k 2 first listed each (omega arith) data-fits files-laid in
       omega (arith, system, held, run-system k (length listed) (dataSectors listed))
 
   packed-single : (k : ℕ) → count k (0 ∷ (1 ∷ fileHolders image (run 2 (length listed)))) ≤ 1
@@ -234,7 +235,7 @@ module _ (n : ℕ) (label : List ℕ) (listed : List File) (size : length label 
         | yes held ↦ absurd (omega (arith, none, packed-holders k, run-counts k 0 used (omega arith) (omega arith)))
         | no past ↦
             filled-behind image ((((label ++ mapping) ++ indexing) ++ described) ++ stored) 0xE5 used (n - used) k
-            (behind-five image label mapping indexing described stored unused parts) held-length (omega arith) (omega (arith, inside, fits))
+            (behind-five layout image label mapping indexing described stored unused parts) held-length (omega arith) (omega (arith, inside, fits))
       ]
 
   -- the bytes of the label
@@ -263,39 +264,39 @@ label-byte source i h = part-at (sectorOf source 0) 0 56 i h ∙ ap (byteAt (sec
 abbrev pub packedImage : List ℕ → List ℕ
 packedImage source = packed (sectorCount source) (labelArea source) (catalogue source)
 
-module _ (source : List ℕ) (is : Sound source) where
+module _ (layout : Layout) (source : List ℕ) (is : Sound layout source) where
   abbrev n : ℕ
   n = sectorCount source
 
   label-long : length (labelArea source) ≡ 56
   label-long = label-length n source (is .whole) (omega (arith, is .size))
 
-  source-listed : Each (catalogue source)
+  source-listed : Each layout (catalogue source)
   unfolding catalogue files
-  source-listed = each-listed n source (is .whole) (files source) (λ p h. is .index .range p h .1) (is .descriptors)
+  source-listed = each-listed layout n source (is .whole) (files source) (λ p h. is .index .range p h .1) (is .descriptors)
 
   source-many : length (catalogue source) ≡ length (files source)
   unfolding catalogue
   source-many = length-map (files source) (fileIn source)
 
   source-fits : packedSectors (catalogue source) ≤ n
-  source-fits = used-inside source is
+  source-fits = used-inside layout source is
 
   source-few : length (catalogue source) ≤ 127
   unfolding files
   source-few = omega (arith, source-many, is .index .few)
 
   same-size : length (packedImage source) ≡ length source
-  same-size = packed-size n (labelArea source) (catalogue source) label-long source-listed source-fits (is .size .1) ∙ sym (is .whole)
+  same-size = packed-size layout n (labelArea source) (catalogue source) label-long source-listed source-fits (is .size .1) ∙ sym (is .whole)
 
   same-label : labelArea (packedImage source) ≡ labelArea source
-  same-label = packed-label n (labelArea source) (catalogue source) label-long source-listed source-fits (is .size .1)
+  same-label = packed-label layout n (labelArea source) (catalogue source) label-long source-listed source-fits (is .size .1)
 
   same-catalogue : catalogue (packedImage source) ≡ catalogue source
-  same-catalogue = packed-catalogue n (labelArea source) (catalogue source) label-long source-listed source-fits (is .size .1) source-few
+  same-catalogue = packed-catalogue layout n (labelArea source) (catalogue source) label-long source-listed source-fits (is .size .1) source-few
 
   same-files : map (fileIn (packedImage source)) (run 2 (length (catalogue source))) ≡ map (fileIn source) (files source)
-  same-files = laid-again n (labelArea source) (catalogue source) label-long source-listed source-fits (is .size .1) ∙ catalogue-is source
+  same-files = laid-again layout n (labelArea source) (catalogue source) label-long source-listed source-fits (is .size .1) ∙ catalogue-is source
 
   names-ascend : Ascending (packedImage source) (run 2 (length (catalogue source)))
   names-ascend p q low inside =
@@ -306,19 +307,19 @@ module _ (source : List ℕ) (is : Sound source) where
       )
       (is .ascending p q low (omega (arith, many, source-many)))
 
-  pub packed-sound : Sound (packedImage source)
+  pub packed-sound : Sound layout (packedImage source)
   packed-sound =
       let small = is .size .1 in
-      sound-again source (packedImage source) (run 2 (length (catalogue source))) is
+      sound-again layout source (packedImage source) (run 2 (length (catalogue source))) is
       (record {
         size = same-size;
-        label = λ i h. packed-bytes n (labelArea source) (catalogue source) label-long source-listed source-fits small i h ∙ label-byte source i h;
-        index = packed-index n (labelArea source) (catalogue source) label-long source-listed source-fits small source-few;
-        files-are = packed-files n (labelArea source) (catalogue source) label-long source-listed source-fits small source-few;
-        descriptors = packed-descriptors n (labelArea source) (catalogue source) label-long source-listed source-fits small;
+        label = λ i h. packed-bytes layout n (labelArea source) (catalogue source) label-long source-listed source-fits small i h ∙ label-byte source i h;
+        index = packed-index layout n (labelArea source) (catalogue source) label-long source-listed source-fits small source-few;
+        files-are = packed-files layout n (labelArea source) (catalogue source) label-long source-listed source-fits small source-few;
+        descriptors = packed-descriptors layout n (labelArea source) (catalogue source) label-long source-listed source-fits small;
         ascending = names-ascend;
-        single = packed-single n (labelArea source) (catalogue source) label-long source-listed source-fits small;
-        map = packed-bits n (labelArea source) (catalogue source) label-long source-listed source-fits small;
+        single = packed-single layout n (labelArea source) (catalogue source) label-long source-listed source-fits small;
+        map = packed-bits layout n (labelArea source) (catalogue source) label-long source-listed source-fits small;
       })
 
   -- and it is laid down as the paper says
@@ -326,14 +327,14 @@ module _ (source : List ℕ) (is : Sound source) where
   unfolding labelArea holders
   laid-packs =
       let small = is .size .1 in
-      let listed = packed-files n (labelArea source) (catalogue source) label-long source-listed source-fits small source-few in
+      let listed = packed-files layout n (labelArea source) (catalogue source) label-long source-listed source-fits small source-few in
       record {
         size = same-size;
         label = same-label;
-        map = rw (same-size, listed) (packed-map n (labelArea source) (catalogue source) label-long source-listed source-fits small);
-        index = rw (← source-many) (sector1 n (labelArea source) (catalogue source) label-long source-listed source-fits small);
+        map = rw (same-size, listed) (packed-map layout n (labelArea source) (catalogue source) label-long source-listed source-fits small);
+        index = rw (← source-many) (sector1 layout n (labelArea source) (catalogue source) label-long source-listed source-fits small);
         listed = same-catalogue;
-        gapless = rw (listed, ← source-many) (packed-data n (labelArea source) (catalogue source) label-long source-listed source-fits small);
-        chains = rw listed (packed-blocks n (labelArea source) (catalogue source) label-long source-listed source-fits small);
-        free = rw (same-size, listed) (packed-free n (labelArea source) (catalogue source) label-long source-listed source-fits small);
+        gapless = rw (listed, ← source-many) (packed-data layout n (labelArea source) (catalogue source) label-long source-listed source-fits small);
+        chains = rw listed (packed-blocks layout n (labelArea source) (catalogue source) label-long source-listed source-fits small);
+        free = rw (same-size, listed) (packed-free layout n (labelArea source) (catalogue source) label-long source-listed source-fits small);
       }

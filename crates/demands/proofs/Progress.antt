@@ -1,6 +1,6 @@
 -- Every call gives the number of the first ground that is there, and 0 where none is: `progress`. The tests of the calls stand in the table's order; here each decides its ground.
 use mathlib.Core.Path.{_≡_, refl, ap}
-use mathlib.Core.Bool.{false, not}
+use mathlib.Core.Bool.{false}
 use mathlib.Core.List.{List, [], _∷_, _++_}
 use Prim.Native.Nat.{ℕ, _+_}
 use native.Mathlib.Omega.{arith}
@@ -15,7 +15,9 @@ use Rattle.rules.specs.Descriptor.{chainOf}
 use Rattle.rules.specs.Volume.{files, placesIn}
 use Rattle.rules.specs.Sound.{Sound}
 use Rattle.rules.specs.Choice.{descriptorChoice, dataChoice}
+use Rattle.rules.specs.declared.Layout.{Layout}
 use Rattle.rules.specs.declared.Block.{Block}
+use Rattle.rules.specs.Kind.{withMarks}
 use Rattle.rules.specs.Tests.{Test, firstOf}
 use Rattle.rules.specs.Verdict.{volumeTests, verdict}
 use Rattle.rules.specs.Outcome.{Report, Outcome, tested}
@@ -43,7 +45,7 @@ use Rattle.rules.proofs.Choice.{choices-length}
 use Rattle.rules.proofs.Opening.{IsOpened}
 use Rattle.rules.proofs.Listed.{opened-listed}
 use Rattle.demands.specs.Call as call
-use Rattle.demands.specs.Call.{Form, numberIn, Look, Change, Call, namesOf, numberOf}
+use Rattle.demands.specs.Call.{Form, numberIn, Look, Change, Call, namesOf, changeRule, ruleOf, numberOf}
 use Rattle.demands.specs.Ours.{seen, outcome, ours}
 use Rattle.demands.specs.Grounds.{Ground, ground, First, faults, lookGrounds, changeGrounds, grounds, isProtected, Has, Present, Overfull, NewOverfull, TextOver}
 use Rattle.demands.specs.Taking.{Takes}
@@ -57,39 +59,39 @@ use Rattle.demands.proofs.Renames.{renamings}
 use Rattle.demands.proofs.Opening.{of-file, unnamed, sound-first, name-first, absent-first, present-first}
 
 -- calls that name no file: the tests of the volume, and more behind them
-volume-first : (image : List ℕ) (tests : List Test) (gs : List {1} Ground) → (Sound image → Decide tests gs) → First (firstOf (volumeTests image ++ tests)) (faults image ++ gs)
+volume-first : (layout : Layout) (image : List ℕ) (tests : List Test) (gs : List {1} Ground) → (Sound layout image → Decide tests gs) → First (firstOf (volumeTests layout image ++ tests)) (faults layout image ++ gs)
 unfolding verdict
-volume-first image tests gs decided =
-    first-ground (volumeTests image ++ tests) (faults image ++ gs) (decide-both (volumeTests image) tests (faults image) gs (faults-decided image) (λ zero. decided (sound image zero)))
+volume-first layout image tests gs decided =
+    first-ground (volumeTests layout image ++ tests) (faults layout image ++ gs) (decide-both (volumeTests layout image) tests (faults layout image) gs (faults-decided layout image) (λ zero. decided (sound layout image zero)))
 
 -- calls on a file, by the number that they make of what was opened; and calls that take a new name
-module _ (image name : List ℕ) (result : Opened → ℕ) (refused : (number : ℕ) → result (Refused number) ≡ number) (misnamed : (place : ℕ) → result (Misnamed place) ≡ 7) where
-  opened-first : (more : List {1} Ground) → (Sound image → wrongPlace name ≡ None → First (result (findIn image name 0 (files image))) more)
-      → First (result (openOf image name)) (faults image ++ (unnamed name ∷ more))
+module _ (layout : Layout) (image name : List ℕ) (result : Opened → ℕ) (refused : (number : ℕ) → result (Refused number) ≡ number) (misnamed : (place : ℕ) → result (Misnamed place) ≡ 7) where
+  opened-first : (more : List {1} Ground) → (Sound layout image → wrongPlace name ≡ None → First (result (findIn image name 0 (files image))) more)
+      → First (result (openOf layout image name)) (faults layout image ++ (unnamed name ∷ more))
   unfolding openOf
-  opened-first more found = sound-first result image _ _ refused (λ is. name-first result name _ more misnamed (found is))
+  opened-first more found = sound-first layout result image _ _ refused (λ is. name-first result name _ more misnamed (found is))
 
-  file-first : (more : List {1} Ground) → result Absent ≡ 8 → ((p k : ℕ) → IsOpened image name p k → First (result (At p k)) more)
-      → First (result (openOf image name)) (faults image ++ (unnamed name ∷ (ground 8 (Present image name → ⊥) ∷ more)))
-  file-first more eight found = opened-first _ (λ is kept. absent-first result image name is kept more eight found)
+  file-first : (more : List {1} Ground) → result Absent ≡ 8 → ((p k : ℕ) → IsOpened layout image name p k → First (result (At p k)) more)
+      → First (result (openOf layout image name)) (faults layout image ++ (unnamed name ∷ (ground 8 (Present image name → ⊥) ∷ more)))
+  file-first more eight found = opened-first _ (λ is kept. absent-first layout result image name is kept more eight found)
 
-module _ (image name : List ℕ) (more : List {1} Ground) where
-  changing-first : (act : ℕ → Outcome) → ((p k : ℕ) → IsOpened image name p k → First (act k .number) more)
-      → First (changing (openOf image name) act .number) (faults image ++ (unnamed name ∷ (ground 8 (Present image name → ⊥) ∷ more)))
+module _ (layout : Layout) (image name : List ℕ) (more : List {1} Ground) where
+  changing-first : (act : ℕ → Outcome) → ((p k : ℕ) → IsOpened layout image name p k → First (act k .number) more)
+      → First (changing (openOf layout image name) act .number) (faults layout image ++ (unnamed name ∷ (ground 8 (Present image name → ⊥) ∷ more)))
   unfolding changing
-  changing-first act = file-first image name (λ (o : Opened). changing o act .number) (λ number. refl) (λ place. refl) more refl
+  changing-first act = file-first layout image name (λ (o : Opened). changing o act .number) (λ number. refl) (λ place. refl) more refl
 
-  reading-first : (act : ℕ → Report) → ((p k : ℕ) → IsOpened image name p k → First (act k .number) more)
-      → First (onFile (openOf image name) act .number) (faults image ++ (unnamed name ∷ (ground 8 (Present image name → ⊥) ∷ more)))
+  reading-first : (act : ℕ → Report) → ((p k : ℕ) → IsOpened layout image name p k → First (act k .number) more)
+      → First (onFile (openOf layout image name) act .number) (faults layout image ++ (unnamed name ∷ (ground 8 (Present image name → ⊥) ∷ more)))
   unfolding onFile
-  reading-first act = file-first image name (λ (o : Opened). onFile o act .number) (λ number. refl) (λ place. refl) more refl
+  reading-first act = file-first layout image name (λ (o : Opened). onFile o act .number) (λ number. refl) (λ place. refl) more refl
 
-  adding-first : (addition : Outcome) → (Sound image → First (addition .number) more)
-      → First (adding (openOf image name) addition .number) (faults image ++ (unnamed name ∷ (ground 9 (Present image name) ∷ more)))
+  adding-first : (addition : Outcome) → (Sound layout image → First (addition .number) more)
+      → First (adding (openOf layout image name) addition .number) (faults layout image ++ (unnamed name ∷ (ground 9 (Present image name) ∷ more)))
   unfolding adding
   adding-first addition first =
       let result : Opened → ℕ = λ o. adding o addition .number in
-      opened-first image name result (λ number. refl) (λ place. refl) _ (λ is kept. present-first result image name is kept more (λ p k. refl) (λ absent. first is))
+      opened-first layout image name result (λ number. refl) (λ place. refl) _ (λ is kept. present-first layout result image name is kept more (λ p k. refl) (λ absent. first is))
 
 -- 13: the blocks that the call makes are the only ones of the facts
 overfull-decided : (image first places : List ℕ) (before : List Block) (ks : List ℕ) (chain : List Block) → Takes image first places before ks chain
@@ -102,20 +104,20 @@ overfull-decided image first places before ks chain takes =
           omega (arith, ltb-false 76 (length chain) e, o .over, ap length same);
     }
 
-longer-decided : (image name : List ℕ) (p k : ℕ) → IsOpened image name p k → ltb (freeCount (sectorOf image 0)) 1 ≡ false
+longer-decided : (layout : Layout) (image name : List ℕ) (p k : ℕ) → IsOpened layout image name p k → ltb (freeCount (sectorOf image 0)) 1 ≡ false
     → Decides (ltb 76 (length (longerBlocks image k))) (Overfull image [] (placesIn image k) (blocks (chainOf (sectorOf image k))) 1)
-longer-decided image name p k o room =
+longer-decided layout image name p k o room =
     overfull-decided image [] (placesIn image k) (blocks (chainOf (sectorOf image k))) (dataChoice (sectorOf image 0) ∷ []) (longerBlocks image k)
-    (append-takes image k (o .whole) (opened-listed image name p k o) (ltb-false (freeCount (sectorOf image 0)) 1 room))
+    (append-takes layout image k (o .whole) (opened-listed layout image name p k o) (ltb-false (freeCount (sectorOf image 0)) 1 room))
 
-new-decided : (image : List ℕ) → Sound image → (many : ℕ) → ltb (freeCount (sectorOf image 0)) (1 + many) ≡ false → Decides (ltb 76 (length (newBlocks image many))) (NewOverfull image many)
+new-decided : (layout : Layout) (image : List ℕ) → Sound layout image → (many : ℕ) → ltb (freeCount (sectorOf image 0)) (1 + many) ≡ false → Decides (ltb 76 (length (newBlocks image many))) (NewOverfull image many)
 unfolding newSectors
-new-decided image is many room =
+new-decided layout image is many room =
     let k = descriptorChoice (sectorOf image 0) in
     let free = ltb-false (freeCount (sectorOf image 0)) (1 + many) room in
-    let lowest = descriptor-lowest image is (omega (arith, free)) in
+    let lowest = descriptor-lowest layout image is (omega (arith, free)) in
     let decided : Decides (ltb 76 (length (newBlocks image many))) (Overfull image (k ∷ []) [] [] many) =
-    rw (choices-length many (marked 1 (sectorOf image 0) k)) at (overfull-decided image (k ∷ []) [] [] (newSectors image many) (newBlocks image many) (new-takes image many is free))
+    rw (choices-length many (marked 1 (sectorOf image 0) k)) at (overfull-decided image (k ∷ []) [] [] (newSectors image many) (newBlocks image many) (new-takes layout image many is free))
     in
     record {
       yes-there = λ e. record { k = k; chosen = lowest; overfull = decided .yes-there e };
@@ -123,93 +125,94 @@ new-decided image is many room =
     }
 
 -- 15: and so is the text of the listing
-text-decided : (image : List ℕ) → Sound image → {room : ℕ} → Decides (ltb room (length (listingText image))) (TextOver image room)
-text-decided image is {room} =
+text-decided : (layout : Layout) (image : List ℕ) → Sound layout image → {room : ℕ} → Decides (ltb room (length (listingText layout image))) (TextOver layout image room)
+text-decided layout image is {room} =
     record {
-      yes-there = λ e. record { text = listingText image; lists = listing-lists image is; over = ltb-true room (length (listingText image)) e };
-      not-there = λ e o. omega (arith, ltb-false room (length (listingText image)) e, o .over, ap length (lists-one image (o .text) (listingText image) (o .lists) (listing-lists image is)));
+      yes-there = λ e. record { text = listingText layout image; lists = listing-lists layout image is; over = ltb-true room (length (listingText layout image)) e };
+      not-there = λ e o. omega (arith, ltb-false room (length (listingText layout image)) e, o .over, ap length (lists-one layout image (o .text) (listingText layout image) (o .lists) (listing-lists layout image is)));
     }
 
 -- each look
-judged-first : (image : List ℕ) → First (firstOf (volumeTests image)) (faults image ++ [])
+judged-first : (layout : Layout) (image : List ℕ) → First (firstOf (volumeTests layout image)) (faults layout image ++ [])
 unfolding First
-judged-first image = first-after (volumeTests image) (faults image) [] (firstOf (volumeTests image)) (faults-decided image) (λ some. refl) (λ zero. zero)
+judged-first layout image = first-after (volumeTests layout image) (faults layout image) [] (firstOf (volumeTests layout image)) (faults-decided layout image) (λ some. refl) (λ zero. zero)
 
-look-first : {form : Form} (look : Look form) (buffer image : List ℕ) → First (numberIn form (seen look buffer image .answer)) (faults image ++ lookGrounds look buffer image)
+look-first : (layout : Layout) {form : Form} (look : Look form) (buffer image : List ℕ) → First (numberIn form (seen layout look buffer image .answer)) (faults layout image ++ lookGrounds layout look buffer image)
 unfolding seen lookGrounds Decide verdict freeCountOf entryTests entryOf readTests reading readOf loadTests lengthIn loading loadOf listingTests listingOf packTests
-look-first call.judge buffer image = judged-first image
-look-first call.freeCount buffer image = rw (amount-number (freeCountOf image)) (judged-first image)
-look-first call.summarize buffer image = rw (summary-number image) (judged-first image)
-look-first (call.entry place) buffer image =
-    rw (answer-number (entryOf image place (length buffer) .number)) (volume-first image _ _ (λ is. (refl, at-most, λ _. (refl, below, λ _. tt))))
-look-first (call.read name offset) buffer image =
-    rw (named-number (call.one name) (readOf image name offset (length buffer) .number))
-    (reading-first image name _ (reading image offset (length buffer))
-    (λ p k o. first-ground (readTests image offset (length buffer) k) _ (refl, of-file image name p k o _ at-most, λ _. (refl, below, λ _. tt))))
-look-first (call.load name) buffer image =
-    rw (loaded-number (wrongPlace name) (loadOf image name (length buffer)))
-    (reading-first image name _ (loading image (length buffer))
-    (λ p k o. first-ground (loadTests image (length buffer) k) _ (refl, of-file image name p k o _ unequal, λ _. (refl, of-file image name p k o _ below, λ _. tt))))
-look-first call.list buffer image = rw (amount-number (listingOf image (length buffer))) (volume-first image _ _ (λ is. (refl, text-decided image is, λ _. tt)))
-look-first call.pack buffer image = rw (answer-number (firstOf (packTests image buffer))) (volume-first image _ _ (λ is. (refl, unequal, λ _. tt)))
+look-first layout call.judge buffer image = judged-first layout image
+look-first layout call.freeCount buffer image = rw (amount-number (freeCountOf layout image)) (judged-first layout image)
+look-first layout call.summarize buffer image = rw (summary-number layout image) (judged-first layout image)
+look-first layout (call.entry place) buffer image =
+    rw (answer-number (entryOf layout image place (length buffer) .number)) (volume-first layout image _ _ (λ is. (refl, at-most, λ _. (refl, below, λ _. tt))))
+look-first layout (call.read name offset) buffer image =
+    rw (named-number (call.one name) (readOf layout image name offset (length buffer) .number))
+    (reading-first layout image name _ (reading image offset (length buffer))
+    (λ p k o. first-ground (readTests image offset (length buffer) k) _ (refl, of-file layout image name p k o _ at-most, λ _. (refl, below, λ _. tt))))
+look-first layout (call.load name) buffer image =
+    rw (loaded-number (wrongPlace name) (loadOf layout image name (length buffer)))
+    (reading-first layout image name _ (loading image (length buffer))
+    (λ p k o. first-ground (loadTests image (length buffer) k) _ (refl, of-file layout image name p k o _ unequal, λ _. (refl, of-file layout image name p k o _ below, λ _. tt))))
+look-first layout call.list buffer image = rw (amount-number (listingOf layout image (length buffer))) (volume-first layout image _ _ (λ is. (refl, text-decided layout image is, λ _. tt)))
+look-first layout call.pack buffer image = rw (answer-number (firstOf (packTests layout image buffer))) (volume-first layout image _ _ (λ is. (refl, unequal, λ _. tt)))
 
 -- each change
 no-ground : First 0 []
 unfolding First
 no-ground = refl
 
-protected-first : (image name : List ℕ) (p k : ℕ) → IsOpened image name p k
+protected-first : (layout : Layout) (image name : List ℕ) (p k : ℕ) → IsOpened layout image name p k
     → First (firstOf (renameTests image k)) (ground 10 (Has image name (isProtected image)) ∷ [])
 unfolding renameTests Decide
-protected-first image name p k o = first-ground (renameTests image k) _ (refl, of-file image name p k o _ equal, λ _. tt)
+protected-first layout image name p k o = first-ground (renameTests image k) _ (refl, of-file layout image name p k o _ equal, λ _. tt)
 
-rename-first : (image old new : List ℕ) → First (renameOf image old new .number) (grounds (call.change old (call.rename new)) image)
+rename-first : (layout : Layout) (image old new : List ℕ) → First (renameOf layout image old new .number) (grounds layout (call.change old (call.rename new)) image)
 unfolding grounds changeGrounds renameOf openBoth renaming changing adding
-rename-first image old new =
-    let result : Opened → ℕ = λ o. changing o (renaming image new) .number in
-    sound-first result image _ _ (λ number. refl)
+rename-first layout image old new =
+    let result : Opened → ℕ = λ o. changing o (renaming layout image new) .number in
+    sound-first layout result image _ _ (λ number. refl)
     (λ is.
     name-first result old _ _ (λ place. refl)
     (λ kept.
     name-first result new _ _ (λ place. refl)
     (λ kept-new.
-    absent-first result image old is kept _ refl
+    absent-first layout result image old is kept _ refl
     (λ p k o.
-    present-first (λ (o : Opened). adding o (tested (renameTests image k) (renamings image new k)) .number) image new is kept-new _ (λ p k. refl) (λ absent. protected-first image old p k o)))))
+    present-first layout (λ (o : Opened). adding o (tested (renameTests image k) (renamings layout image new k)) .number) image new is kept-new _ (λ p k. refl) (λ absent. protected-first layout image old p k o)))))
 
-change-first : (change : Change) (image name : List ℕ) → First (outcome change image name .number) (grounds (call.change name change) image)
+change-first : (layout : Layout) (change : Change) (image name : List ℕ) → First (outcome layout change image name .number) (grounds (changeRule layout change) (call.change name change) image)
 unfolding outcome grounds changeGrounds Decide createOf creating createTests appendOf appending appendTests overwriteOf overwriting overwriteTests setBitOf settingBit storeOf storing storeTests deleteOf deleting deleteTests
-change-first (call.create status recordLength recordsPerSector) image name =
-    adding-first image name _ (creating image name status recordLength recordsPerSector)
+change-first layout (call.create status recordLength recordsPerSector) image name =
+    adding-first layout image name _ (creating layout image name status recordLength recordsPerSector)
     (λ is. first-ground (createTests image status) _ (refl, broken (status-among status) (among-status status), λ _. (refl, at-most, λ _. (refl, below, λ _. tt))))
-change-first (call.append bytes) image name =
-    changing-first image name _ (appending image bytes)
+change-first layout (call.append bytes) image name =
+    changing-first layout image name _ (appending layout image bytes)
     (λ p k o.
     first-ground (appendTests image bytes k) _ (
       refl,
-      of-file image name p k o _ equal,
-      λ _. (refl, of-file image name p k o _ equal, λ _. (refl, unequal, λ _. (refl, below, λ room. (refl, of-file image name p k o _ (longer-decided image name p k o room), λ _. tt)))),
+      of-file layout image name p k o _ equal,
+      λ _. (refl, of-file layout image name p k o _ equal, λ _. (refl, unequal, λ _. (refl, below, λ room. (refl, of-file layout image name p k o _ (longer-decided layout image name p k o room), λ _. tt)))),
     ))
-change-first (call.overwrite offset bytes) image name =
-    changing-first image name _ (overwriting image offset bytes)
+change-first layout (call.overwrite offset bytes) image name =
+    changing-first layout image name _ (overwriting layout image offset bytes)
     (λ p k o.
     first-ground (overwriteTests image offset bytes k) _
-    (refl, of-file image name p k o _ equal, λ _. (refl, of-file image name p k o _ equal, λ _. (refl, of-file image name p k o _ at-most, λ _. (refl, unequal, λ _. tt)))))
-change-first call.protect image name = changing-first image name [] (settingBit 3 1 image) (λ p k o. no-ground)
-change-first call.unprotect image name = changing-first image name [] (settingBit 3 0 image) (λ p k o. no-ground)
-change-first (call.store bytes) image name =
-    adding-first image name _ (storing image name bytes)
-    (λ is. first-ground (storeTests image bytes) _ (refl, below, λ _. (refl, at-most, λ _. (refl, below, λ room. (refl, new-decided image is _ room, λ _. tt)))))
-change-first call.delete image name =
-    changing-first image name _ (deleting image) (λ p k o. first-ground (deleteTests image k) _ (refl, of-file image name p k o _ equal, λ _. tt))
-change-first (call.rename new) image name = rename-first image name new
+    (refl, of-file layout image name p k o _ equal, λ _. (refl, of-file layout image name p k o _ equal, λ _. (refl, of-file layout image name p k o _ at-most, λ _. (refl, unequal, λ _. tt)))))
+change-first layout call.protect image name = changing-first layout image name [] (settingBit 3 1 image) (λ p k o. no-ground)
+change-first layout call.unprotect image name = changing-first layout image name [] (settingBit 3 0 image) (λ p k o. no-ground)
+change-first layout call.clear image name = changing-first (withMarks layout) image name [] (settingBit 4 0 image) (λ p k o. no-ground)
+change-first layout (call.store bytes) image name =
+    adding-first layout image name _ (storing layout image name bytes)
+    (λ is. first-ground (storeTests image bytes) _ (refl, below, λ _. (refl, at-most, λ _. (refl, below, λ room. (refl, new-decided layout image is _ room, λ _. tt)))))
+change-first layout call.delete image name =
+    changing-first layout image name _ (deleting image) (λ p k o. first-ground (deleteTests image k) _ (refl, of-file layout image name p k o _ equal, λ _. tt))
+change-first layout (call.rename new) image name = rename-first layout image name new
 
 -- each call
-pub progress : (c : Call) (image : List ℕ) → First (numberOf ours c image) (grounds c image)
+pub progress : (layout : Layout) (c : Call) (image : List ℕ) → First (numberOf (ours layout) c image) (grounds (ruleOf layout c) c image)
 unfolding ours grounds formatTests Decide
-progress (call.look look buffer) image = look-first look buffer image
-progress (call.change name change) image = rw (named-number (namesOf name change) (outcome change image name .number)) (change-first change image name)
-progress (call.format n name g) image =
+progress layout (call.look look buffer) image = look-first layout look buffer image
+progress layout (call.change name change) image = rw (named-number (namesOf name change) (outcome layout change image name .number)) (change-first layout change image name)
+progress layout (call.format n name g) image =
     rw (named-number (call.one name) (firstOf (formatTests image n name)))
     (first-ground (formatTests image n name) _
     (refl, broken (sized-is image) (is-sized image), λ _. (refl, unequal, λ _. (refl, broken (name-is name) (is-name name), λ _. tt))))

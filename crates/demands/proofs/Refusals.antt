@@ -3,6 +3,7 @@ use mathlib.Core.Path.{_≡_, refl}
 use mathlib.Core.List.{List, []}
 use Prim.Native.Nat.{ℕ}
 use Rattle.rules.specs.Sectors.{Write}
+use Rattle.rules.specs.Kind.{withMarks}
 use Rattle.rules.specs.Tests.{Test}
 use Rattle.rules.specs.Outcome.{Report, Outcome, refusal, reported, tested}
 use Rattle.rules.specs.Opening.{findIn, openOf, onFile, changing, adding}
@@ -13,6 +14,7 @@ use Rattle.rules.specs.Calls.Protect.{settingBit, setBitOf}
 use Rattle.rules.specs.Calls.Store.{storing, storeOf}
 use Rattle.rules.specs.Calls.Delete.{deleting, deleteOf}
 use Rattle.rules.specs.Calls.Rename.{renaming, openBoth, renameOf}
+use Rattle.rules.specs.declared.Layout.{Layout}
 use Rattle.rules.specs.declared.Opened.{Opened}
 use Rattle.rules.specs.declared.Opened.the-variants.{At, Absent, Refused, Misnamed}
 use Rattle.rules.proofs.Tests.{unless-met}
@@ -59,17 +61,18 @@ on-file-puts (Refused number) reading each = record { none = λ some. refl }
 on-file-puts (Misnamed place) reading each = record { none = λ some. refl }
 
 -- every change
-set-writes : (j bit : ℕ) (image name : List ℕ) → Writes (setBitOf j bit image name)
+set-writes : (layout : Layout) (j bit : ℕ) (image name : List ℕ) → Writes (setBitOf layout j bit image name)
 unfolding setBitOf settingBit
-set-writes j bit image name = changing-writes (openOf image name) (settingBit j bit image) (λ k. record { none = λ some. absurd (some refl) })
+set-writes layout j bit image name = changing-writes (openOf layout image name) (settingBit j bit image) (λ k. record { none = λ some. absurd (some refl) })
 
-pub change-writes : (change : Change) (image name : List ℕ) → Writes (outcome change image name)
+pub change-writes : (layout : Layout) (change : Change) (image name : List ℕ) → Writes (outcome layout change image name)
 unfolding outcome createOf creating appendOf appending overwriteOf overwriting storeOf storing deleteOf deleting renameOf renaming
-change-writes (call.create status recordLength recordsPerSector) image name = adding-writes (openOf image name) _ (tested-writes _ _)
-change-writes (call.append bytes) image name = changing-writes (openOf image name) (appending image bytes) (λ k. tested-writes _ _)
-change-writes (call.overwrite offset bytes) image name = changing-writes (openOf image name) (overwriting image offset bytes) (λ k. tested-writes _ _)
-change-writes call.protect image name = set-writes 3 1 image name
-change-writes call.unprotect image name = set-writes 3 0 image name
-change-writes (call.store bytes) image name = adding-writes (openOf image name) _ (tested-writes _ _)
-change-writes call.delete image name = changing-writes (openOf image name) (deleting image) (λ k. tested-writes _ _)
-change-writes (call.rename new) image name = changing-writes (openBoth image name new) (renaming image new) (λ k. adding-writes (findIn image new 0 _) _ (tested-writes _ _))
+change-writes layout (call.create status recordLength recordsPerSector) image name = adding-writes (openOf layout image name) _ (tested-writes _ _)
+change-writes layout (call.append bytes) image name = changing-writes (openOf layout image name) (appending layout image bytes) (λ k. tested-writes _ _)
+change-writes layout (call.overwrite offset bytes) image name = changing-writes (openOf layout image name) (overwriting layout image offset bytes) (λ k. tested-writes _ _)
+change-writes layout call.protect image name = set-writes layout 3 1 image name
+change-writes layout call.unprotect image name = set-writes layout 3 0 image name
+change-writes layout call.clear image name = set-writes (withMarks layout) 4 0 image name
+change-writes layout (call.store bytes) image name = adding-writes (openOf layout image name) _ (tested-writes _ _)
+change-writes layout call.delete image name = changing-writes (openOf layout image name) (deleting image) (λ k. tested-writes _ _)
+change-writes layout (call.rename new) image name = changing-writes (openBoth layout image name new) (renaming layout image new) (λ k. adding-writes (findIn image new 0 _) _ (tested-writes _ _))

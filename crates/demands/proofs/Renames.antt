@@ -11,19 +11,21 @@ use Rattle.rules.specs.Sectors.{Write, sectorOf, sectorCount, written}
 use Rattle.rules.specs.Name.{nameRule, IsName}
 use Rattle.rules.specs.Map.{count}
 use Rattle.rules.specs.Chain.{places}
-use Rattle.rules.specs.Descriptor.{nameOf, chainOf, IsDescriptor}
+use Rattle.rules.specs.Descriptor.{nameOf, chainOf, markedBy, IsDescriptor}
 use Rattle.rules.specs.Index.{indexOf, without}
 use Rattle.rules.specs.Volume.{files, nameIn, placesIn, placed, headerIn, contentsIn, fileIn, catalogue}
 use Rattle.rules.specs.Sound.{Sound}
 use Rattle.rules.specs.Outcome.{Bare, write, tested}
 use Rattle.rules.specs.Opening.{findIn}
 use Rattle.rules.specs.Calls.Rename.{renameTests, renaming, openBoth, renameOf}
+use Rattle.rules.specs.declared.Layout.{Layout}
 use Rattle.rules.specs.declared.Opened.the-variants.{At, Refused}
 use Rattle.rules.proofs.Tests.{unless-passed}
 use Rattle.rules.proofs.Splice.{splice-length, splice-front, splice-take, splice-above}
 use Rattle.rules.proofs.Sectors.{sector-length}
 use Rattle.rules.proofs.Name.{name-is}
 use Rattle.rules.proofs.Descriptor.{chain-same, front-changed}
+use Rattle.rules.proofs.Marks.{mark-length, mark-chain, mark-rules, mark-header}
 use Rattle.rules.proofs.Map.{count-none, count-here, count-more, count-apart}
 use Rattle.rules.proofs.Indexed.{without-length, placed-length, index-length}
 use Rattle.rules.proofs.Staying.{map-agree}
@@ -36,7 +38,7 @@ use Rattle.rules.proofs.Altered.{own-inside, place-other}
 use Rattle.demands.specs.Catalogue.{putIn, takenOut, named}
 use Rattle.demands.specs.Call.{rename}
 use Rattle.demands.specs.Ours.{outcome}
-use Rattle.demands.specs.Effects.{effect, Done, renamed}
+use Rattle.demands.specs.Effects.{effect, Done, renamed, markedFile}
 use Rattle.demands.specs.Touches.{Numbers, Stays, Touches}
 use Rattle.demands.specs.Does.{Does}
 use Rattle.demands.proofs.Filed.{named-file}
@@ -54,38 +56,47 @@ module _ (d new : List ℕ) (long : length d ≡ 256) (ten : length new ≡ 10) 
   same-chain : chainOf (splice d 0 new) ≡ chainOf d
   same-chain = chain-same d (splice d 0 new) (splice-length d 0 new) (λ i low. same-byte i (omega arith))
 
-  new-descriptor : (n : ℕ) → IsName new → IsDescriptor n d → IsDescriptor n (splice d 0 new)
-  new-descriptor n is rules =
+  new-descriptor : (layout : Layout) (n : ℕ) → IsName new → IsDescriptor layout n d → IsDescriptor layout n (splice d 0 new)
+  new-descriptor layout n is rules =
       let status = same-byte 12 (omega arith) in
-      front-changed d (splice d 0 new) (splice-length d 0 new) n (λ i low. same-byte i (omega arith)) (λ j other. rw status) (rw new-name is) (rw status (rules .status)) rules
+      front-changed d (splice d 0 new) (splice-length d 0 new) layout n (λ i low. same-byte i (omega arith)) (λ j third fourth. rw status) (rw new-name is) (rw status (rules .status)) rules
 
 -- the number that goes is the one that comes
 still-listed : (image after : List ℕ) (k : ℕ) → Numbers image after (k ∷ []) (k ∷ []) → Numbers image after [] []
 still-listed image after k numbers = record { lists = λ j. omega (arith, numbers .lists j, count-none j); laid = numbers .laid }
 
 -- the writes, and their sectors
-abbrev pub renamings : List ℕ → List ℕ → ℕ → List Write
-renamings image new k = write k (splice (sectorOf image k) 0 new) ∷ (write 1 (indexOf (placed image new k (without k (files image)))) ∷ [])
+abbrev pub renamings : Layout → List ℕ → List ℕ → ℕ → List Write
+renamings layout image new k = write k (splice (markedBy layout (sectorOf image k)) 0 new) ∷ (write 1 (indexOf (placed image new k (without k (files image)))) ∷ [])
 
-module _ (image old new : List ℕ) (k : ℕ) (is : Sound image) (there : 1 ≤ count k (files image)) (is-named : old ≡ nameIn image k) (is-name : IsName new)
+module _ (layout : Layout) (image old new : List ℕ) (k : ℕ) (is : Sound layout image) (there : 1 ≤ count k (files image)) (is-named : old ≡ nameIn image k) (is-name : IsName new)
     (absent : (j : ℕ) → 1 ≤ count j (files image) → nameIn image j ≡ new → ⊥) where
+  abbrev marked : List ℕ
+  marked = markedBy layout (sectorOf image k)
+
   abbrev descriptor : List ℕ
-  descriptor = splice (sectorOf image k) 0 new
+  descriptor = splice (markedBy layout (sectorOf image k)) 0 new
 
   abbrev after : List ℕ
-  after = written image (renamings image new k)
+  after = written image (renamings layout image new k)
 
   range : (2 ≤ k) × (k < sectorCount image)
-  range = listed-range image is k there
+  range = listed-range layout image is k there
 
   long : length (sectorOf image k) ≡ 256
-  long = sector-length image k (sector-inside image is k (range .1))
+  long = sector-length image k (sector-inside layout image is k (range .1))
 
-  whole : Whole (length image) (renamings image new k)
+  long-marked : length marked ≡ 256
+  long-marked = mark-length layout (sectorOf image k) ∙ long
+
+  chain-now : chainOf descriptor ≡ chainOf (sectorOf image k)
+  chain-now = same-chain marked new long-marked (is-name .ten) ∙ mark-chain layout (sectorOf image k)
+
+  whole : Whole (length image) (renamings layout image new k)
   unfolding Whole
   whole =
-      let fits = sector-inside image is in (
-        splice-length (sectorOf image k) 0 new ∙ long,
+      let fits = sector-inside layout image is in (
+        splice-length marked 0 new ∙ long-marked,
         fits k (range .1),
         (index-length (placed image new k (without k (files image))), fits 1 (omega (arith, is .size)), tt),
       )
@@ -100,86 +111,86 @@ module _ (image old new : List ℕ) (k : ℕ) (is : Sound image) (there : 1 ≤ 
 
   others : (j : ℕ) → (j ≡ k → ⊥) → (j ≡ 1 → ⊥) → sectorOf after j ≡ sectorOf image j
   unfolding Apart
-  others j other apart = written-apart image (renamings image new k) j whole (other, (apart, tt))
+  others j other apart = written-apart image (renamings layout image new k) j whole (other, (apart, tt))
 
   places-now : placesIn after k ≡ placesIn image k
   unfolding placesIn
-  places-now = rw sector-k (ap places (same-chain (sectorOf image k) new long (is-name .ten)))
+  places-now = rw sector-k (ap places chain-now)
 
-  replaced : Replaced image after new (at k) (at k)
+  replaced : Replaced layout image after new (at k) (at k)
   unfolding nameIn
   replaced =
       record {
         sound = is;
         listed = there;
-        size = written-length image (renamings image new k);
-        mapped = same-mapped image after (at k) (at k) is there (others 0 (λ e. omega (arith, e, range)) (λ e. omega (arith, e))) (λ j. rw places-now);
+        size = written-length image (renamings layout image new k);
+        mapped = same-mapped layout image after (at k) (at k) is there (others 0 (λ e. omega (arith, e, range)) (λ e. omega (arith, e))) (λ j. rw places-now);
         numbered =
-            index-anew image after new (at k) (at k) is (λ j e. let z : k ≡ j = cc in rw (← z) range)
-            (omega (arith, placed-length k image new (without k (files image)), without-length k (files image) there, place-many image is)) sector1;
+            index-anew layout image after new (at k) (at k) is (λ j e. let z : k ≡ j = cc in rw (← z) range)
+            (omega (arith, placed-length k image new (without k (files image)), without-length k (files image) there, place-many layout image is)) sector1;
         stands = λ j held.
-            let apart = rest-apart image is k there j held in
+            let apart = rest-apart layout image is k there j held in
             others j (λ e. omega (arith, rw e at (apart .1), count-here k (placesIn image k))) (λ e. omega (arith, e, apart .0));
         new = record {
-          rules = rw sector-k (new-descriptor (sectorOf image k) new long (is-name .ten) (sectorCount image) is-name (listed-descriptor image is k there));
-          named = rw sector-k (new-name (sectorOf image k) new long (is-name .ten));
+          rules = rw sector-k (new-descriptor marked new long-marked (is-name .ten) layout (sectorCount image) is-name (mark-rules layout (sectorOf image k) long (sectorCount image) (listed-descriptor layout image is k there)));
+          named = rw sector-k (new-name marked new long-marked (is-name .ten));
           alone = λ j left. absent j (stayed image (at k) there j left);
         };
       }
 
-  file-now : fileIn after k ≡ renamed new (fileIn image k)
-  unfolding renamed fileIn headerIn contentsIn
+  file-now : fileIn after k ≡ renamed new (markedFile layout (fileIn image k))
+  unfolding renamed markedFile fileIn headerIn contentsIn
   file-now =
       let contents = map-agree (sectorOf after) (sectorOf image) (placesIn image k)
-      (λ j h. others j (place-other image k is there j h) (λ e. omega (arith, e, own-inside image k is there j (omega (arith, h, count-more j k (placesIn image k))) .0)))
+      (λ j h. others j (place-other layout image k is there j h) (λ e. omega (arith, e, own-inside layout image k is there j (omega (arith, h, count-more j k (placesIn image k))) .0)))
       in
-      rw (places-now, contents, sector-k, splice-take 28 (sectorOf image k) 0 new)
+      rw (places-now, contents, sector-k, splice-take 28 marked 0 new, mark-header layout (sectorOf image k))
 
-  renamed-done : Done image after old (effect (putIn (renamed new (named old (catalogue image))) (takenOut old (catalogue image))) 0 0)
+  renamed-done : Done layout image after old (effect (putIn (renamed new (markedFile layout (named old (catalogue image)))) (takenOut old (catalogue image))) 0 0)
   renamed-done =
-      replaced-done replaced old is-named _ 0 0
-      (catalogue-after replaced old is-named ∙ rw (file-now, named-file image old k is there is-named))
+      replaced-done layout replaced old is-named _ 0 0
+      (catalogue-after layout replaced old is-named ∙ rw (file-now, named-file layout image old k is there is-named))
       (rw places-now refl)
 
   renamed-stays : Stays image after new k (1 ∷ (k ∷ []))
   renamed-stays =
       record {
         lies =
-            lies-after replaced (placesIn image k) (chainOf (sectorOf image k)) places-now
-            (ap chainOf sector-k ∙ same-chain (sectorOf image k) new long (is-name .ten));
+            lies-after layout replaced (placesIn image k) (chainOf (sectorOf image k)) places-now
+            (ap chainOf sector-k ∙ chain-now);
         others = λ j inside apart. let some = count-apart j 1 (k ∷ []) apart in others j (count-apart j k [] (some .1) .0) (some .0);
       }
 
 -- a file that was found under its old name: the volume is sound, and both names keep the rule
-both-opened : (image old new : List ℕ) (p k : ℕ) → openBoth image old new ≡ At p k → IsOpened image old p k × (nameRule new ≡ true)
+both-opened : (layout : Layout) (image old new : List ℕ) (p k : ℕ) → openBoth layout image old new ≡ At p k → IsOpened layout image old p k × (nameRule new ≡ true)
 unfolding openBoth wasLooked
-both-opened image old new p k e =
-    let volume = sound-passed image _ (At p k) refl e in
+both-opened layout image old new p k e =
+    let volume = sound-passed layout image _ (At p k) refl e in
     let first = name-passed old _ (At p k) refl (volume .1) in
     let second = name-passed new _ (At p k) refl (first .1) in
-    (found-is image old p k (volume .0) (first .0) (second .1), none-rule new (second .0))
+    (found-is layout image old p k (volume .0) (first .0) (second .1), none-rule new (second .0))
 
-both-refused : (image old new : List ℕ) (number : ℕ) → openBoth image old new ≡ Refused number → Bare number number
+both-refused : (layout : Layout) (image old new : List ℕ) (number : ℕ) → openBoth layout image old new ≡ Refused number → Bare number number
 unfolding openBoth
-both-refused image old new =
-    refused-bare image _ (λ number e. under-refused old _ number (under-refused new _ number (find-refused image old number)) e)
+both-refused layout image old new =
+    refused-bare layout image _ (λ number e. under-refused old _ number (under-refused new _ number (find-refused image old number)) e)
 
 -- number 0: the old name is found and the new one is not, and the file is not protected
-pub renames : (new : List ℕ) → Does (rename new)
+pub renames : (layout : Layout) (new : List ℕ) → Does layout (rename new)
 unfolding outcome renameOf renaming Touches
-renames new image old e =
-    let was = changed-done (openBoth image old new) (renaming image new) (both-refused image old new) e in
+renames layout new image old e =
+    let was = changed-done (openBoth layout image old new) (renaming layout image new) (both-refused layout image old new) e in
     let k = was .sector in
-    let both = both-opened image old new (was .place) k (was .found-at) in
+    let both = both-opened layout image old new (was .place) k (was .found-at) in
     let opened = both .0 in
-    let there = opened-listed image old (was .place) k opened in
-    let added = added-done (findIn image new 0 (files image)) (tested (renameTests image k) (renamings image new k)) (λ number found. absurd (find-refused image new number found)) (was .number) in
+    let there = opened-listed layout image old (was .place) k opened in
+    let added = added-done (findIn image new 0 (files image)) (tested (renameTests image k) (renamings layout image new k)) (λ number found. absurd (find-refused image new number found)) (was .number) in
     let is-name = name-is new (both .1) in
     let absent = unfound image new 0 (files image) (added .absent) in
-    rw (was .is, added .is, unless-passed (renameTests image k) (renamings image new k) [] (added .number)) (
-      renamed-done image old new k (opened .whole) there (opened .named) is-name absent,
-      found-has image old (was .place) k opened (
-        renamed-stays image old new k (opened .whole) there (opened .named) is-name absent,
-        still-listed image _ k (numbers-after (replaced image old new k (opened .whole) there (opened .named) is-name absent) (sector1 image old new k (opened .whole) there (opened .named) is-name absent)),
+    rw (was .is, added .is, unless-passed (renameTests image k) (renamings layout image new k) [] (added .number)) (
+      renamed-done layout image old new k (opened .whole) there (opened .named) is-name absent,
+      found-has layout image old (was .place) k opened (
+        renamed-stays layout image old new k (opened .whole) there (opened .named) is-name absent,
+        still-listed image _ k (numbers-after layout (replaced layout image old new k (opened .whole) there (opened .named) is-name absent) (sector1 layout image old new k (opened .whole) there (opened .named) is-name absent)),
       ),
     )

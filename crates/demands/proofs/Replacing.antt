@@ -11,6 +11,7 @@ use Rattle.rules.specs.Map.{count}
 use Rattle.rules.specs.Index.{indexOf, without}
 use Rattle.rules.specs.Descriptor.{nameOf, chainOf, IsDescriptor}
 use Rattle.rules.specs.Volume.{File, files, nameIn, placesIn, headerIn, contentsIn, fileIn, catalogue}
+use Rattle.rules.specs.declared.Layout.{Layout}
 use Rattle.rules.proofs.Map.{count-none, count-here, count-other, count-more, count-apart, count-append}
 use Rattle.rules.proofs.Indexed.{without-count, placed-count}
 use Rattle.rules.proofs.Staying.{files-kept}
@@ -58,12 +59,12 @@ unfolding catalogue
 lost-files image old none is only = refl
 lost-files image old (at k) is only = taken-out image old k is (files image) (λ j. only k j refl)
 
-won-files : (image after name : List ℕ) (comes : Slot) (ks : List ℕ) → IsNew image after name ks comes → ((j : ℕ) → 1 ≤ count j ks → nameIn after j ≡ nameIn image j)
+won-files : (layout : Layout) (image after name : List ℕ) (comes : Slot) (ks : List ℕ) → IsNew layout image after name ks comes → ((j : ℕ) → 1 ≤ count j ks → nameIn after j ≡ nameIn image j)
     → map (fileIn after) (coming image name comes ks) ≡ won after comes (map (fileIn after) ks)
-won-files image after name none ks new kept = refl
-won-files image after name (at k) ks new kept = placed-files image after name k (file-name after k ∙ new .named) ks (λ j there. file-name after j ∙ kept j there)
+won-files layout image after name none ks new kept = refl
+won-files layout image after name (at k) ks new kept = placed-files image after name k (file-name after k ∙ new .named) ks (λ j there. file-name after j ∙ kept j there)
 
-module _ {image after name : List ℕ} {goes comes : Slot} (r : Replaced image after name goes comes) (old : List ℕ) (is : IsNamed image goes old) where
+module _ (layout : Layout) {image after name : List ℕ} {goes comes : Slot} (r : Replaced layout image after name goes comes) (old : List ℕ) (is : IsNamed image goes old) where
   stays : (j : ℕ) → 1 ≤ count j (files image) → (nameIn image j ≡ old → ⊥) → 1 ≤ count j (staying goes (files image))
   stays = other-stays image old goes (r .listed) is
 
@@ -72,28 +73,28 @@ module _ {image after name : List ℕ} {goes comes : Slot} (r : Replaced image a
       record {
         label = r .mapped .label;
         listed = λ j there other. rw (r .numbered .files-are) (still-there image name comes j (staying goes (files image)) (stays j there other));
-        descriptor = λ j there other. descriptor-stands r j (stays j there other);
-        contents = λ j p there other here. sector-stands r j p (stays j there other) (omega (arith, here, count-more p j (placesIn image j)));
+        descriptor = λ j there other. descriptor-stands layout r j (stays j there other);
+        contents = λ j p there other here. sector-stands layout r j p (stays j there other) (omega (arith, here, count-more p j (placesIn image j)));
       }
 
   pub catalogue-after : catalogue after ≡ won after comes (lost goes old (catalogue image))
   unfolding catalogue
   catalogue-after =
       ap (map (fileIn after)) (r .numbered .files-are)
-      ∙ won-files image after name comes (staying goes (files image)) (r .new) (name-stands r)
+      ∙ won-files layout image after name comes (staying goes (files image)) (r .new) (name-stands layout r)
       ∙ ap (won after comes)
-      (files-kept image after (staying goes (files image)) (file-stands r)
-      ∙ lost-files image old goes is (λ k j e there same. listed-name image (r .sound) j k there (rw e at (r .listed)) same))
+      (files-kept image after (staying goes (files image)) (file-stands layout r)
+      ∙ lost-files image old goes is (λ k j e there same. listed-name layout image (r .sound) j k there (rw e at (r .listed)) same))
 
   pub replaced-done : (expected : List File) (took gave : ℕ) → catalogue after ≡ expected → length (held after comes) + gave ≡ length (held image goes) + took
-      → Done image after old (effect expected took gave)
+      → Done layout image after old (effect expected took gave)
   replaced-done expected took gave e sizes =
       record {
-        sound = sound-after r;
+        sound = sound-after layout r;
         size = r .size;
         kept = kept;
         catalogue-is = e;
-        free = omega (arith, sizes, free-after r);
+        free = omega (arith, sizes, free-after layout r);
       }
 
 -- sector 1 where it was laid anew, and the file that comes
@@ -101,9 +102,9 @@ abbrev pub those : Slot → List ℕ
 those none = []
 those (at k) = k ∷ []
 
-pub numbers-after : {image after name : List ℕ} {goes comes : Slot} (r : Replaced image after name goes comes)
+pub numbers-after : (layout : Layout) {image after name : List ℕ} {goes comes : Slot} (r : Replaced layout image after name goes comes)
     → sectorOf after 1 ≡ indexOf (coming image name comes (staying goes (files image))) → Numbers image after (those goes) (those comes)
-numbers-after {image} {after} {name} {goes} {comes} r laid =
+numbers-after layout {image} {after} {name} {goes} {comes} r laid =
     let others = staying goes (files image) in
     record {
       lists = λ j. omega (arith, ap (count j) (r .numbered .files-are), went image goes (r .listed) j, came image name comes j others);
@@ -118,9 +119,9 @@ numbers-after {image} {after} {name} {goes} {comes} r laid =
     came image name none j ks = omega (arith, count-none j)
     came image name (at k) j ks = omega (arith, placed-count k j image name ks, count-append j (k ∷ []) ks)
 
-pub lies-after : {image after name : List ℕ} {goes : Slot} {k : ℕ} (r : Replaced image after name goes (at k)) (places chain : List ℕ)
+pub lies-after : (layout : Layout) {image after name : List ℕ} {goes : Slot} {k : ℕ} (r : Replaced layout image after name goes (at k)) (places chain : List ℕ)
     → placesIn after k ≡ places → chainOf (sectorOf after k) ≡ chain → Lies after name k places chain
-lies-after {image} {after} {name} {goes} {k} r places chain placed chained =
+lies-after layout {image} {after} {name} {goes} {k} r places chain placed chained =
     let others = staying goes (files image) in
     record {
       listed = omega (arith, ap (count k) (r .numbered .files-are), placed-count k k image name others, count-here k others);
@@ -130,26 +131,26 @@ lies-after {image} {after} {name} {goes} {k} r places chain placed chained =
     }
 
 -- a file changed where it stands
-pub altered-done : {image after : List ℕ} {k : ℕ} {fresh : List ℕ} → Altered image after k fresh → (name : List ℕ) → name ≡ nameIn image k
-    → (change : File → File) → change (fileIn image k) ≡ fileIn after k → Done image after name (effect (changed name change (catalogue image)) (length fresh) 0)
+pub altered-done : (layout : Layout) {image after : List ℕ} {k : ℕ} {fresh : List ℕ} → Altered layout image after k fresh → (name : List ℕ) → name ≡ nameIn image k
+    → (change : File → File) → change (fileIn image k) ≡ fileIn after k → Done layout image after name (effect (changed name change (catalogue image)) (length fresh) 0)
 unfolding catalogue
-altered-done {image} {after} {k} {fresh} a name is change e =
-    let r = altered a in
-    replaced-done r name is _ (length fresh) 0
-    (ap (map (fileIn after)) (files-same a)
-    ∙ changed-files image name k is after change e (files image) (a .listed) (λ j there. listed-name image (a .sound) j k there (a .listed)) (file-stands r))
+altered-done layout {image} {after} {k} {fresh} a name is change e =
+    let r = altered layout a in
+    replaced-done layout r name is _ (length fresh) 0
+    (ap (map (fileIn after)) (files-same layout a)
+    ∙ changed-files image name k is after change e (files image) (a .listed) (λ j there. listed-name layout image (a .sound) j k there (a .listed)) (file-stands layout r))
     (omega (arith, ap length (a .places), length-append (placesIn image k) fresh))
 
-pub altered-lies : {image after : List ℕ} {k : ℕ} {fresh : List ℕ} → Altered image after k fresh → (name : List ℕ) → name ≡ nameIn image k → (chain : List ℕ) → chainOf (sectorOf after k) ≡ chain
+pub altered-lies : (layout : Layout) {image after : List ℕ} {k : ℕ} {fresh : List ℕ} → Altered layout image after k fresh → (name : List ℕ) → name ≡ nameIn image k → (chain : List ℕ) → chainOf (sectorOf after k) ≡ chain
     → Lies after name k (placesIn image k ++ fresh) chain
-altered-lies {image} {after} {k} {fresh} a name is chain chained = rw is (lies-after (altered a) (placesIn image k ++ fresh) chain (a .places) chained)
+altered-lies layout {image} {after} {k} {fresh} a name is chain chained = rw is (lies-after layout (altered layout a) (placesIn image k ++ fresh) chain (a .places) chained)
 
 -- the file that was found, of which something holds
-pub found-has : (image name : List ℕ) (p k : ℕ) → IsOpened image name p k → {holds : ℕ → Type 0} → holds k → Has image name holds
-found-has image name p k o so = record { sector = k; listed = opened-listed image name p k o; named = sym (o .named); so = so }
+pub found-has : (layout : Layout) (image name : List ℕ) (p k : ℕ) → IsOpened layout image name p k → {holds : ℕ → Type 0} → holds k → Has image name holds
+found-has layout image name p k o so = record { sector = k; listed = opened-listed layout image name p k o; named = sym (o .named); so = so }
 
 -- a byte of its descriptor, behind the name and before the chain
-module _ (image name : List ℕ) (p k : ℕ) (o : IsOpened image name p k) (i value : ℕ) (low : 10 ≤ i) (high : i < 28) (rules : IsDescriptor (sectorCount image) (set (sectorOf image k) i value)) where
+module _ (layout : Layout) (image name : List ℕ) (p k : ℕ) (o : IsOpened layout image name p k) (i value : ℕ) (low : 10 ≤ i) (high : i < 28) (rules : IsDescriptor layout (sectorCount image) (set (sectorOf image k) i value)) where
   abbrev d : List ℕ
   d = sectorOf image k
 
@@ -166,22 +167,22 @@ module _ (image name : List ℕ) (p k : ℕ) (o : IsOpened image name p k) (i va
   chain : chainOf (set d i value) ≡ chainOf d
   chain = chain-same d (set d i value) (length-set d i value) (λ j h. getD-set-other d i j value 0 (λ is. omega arith))
 
-  byte-altered : Altered image byte-after k []
-  byte-altered = redescribed image k (o .whole) (opened-listed image name p k o) (set d i value) long rules named chain
+  byte-altered : Altered layout image byte-after k []
+  byte-altered = redescribed layout image k (o .whole) (opened-listed layout image name p k o) (set d i value) long rules named chain
 
   pub byte-done : (change : File → File) → change (fileIn image k) ≡ record { header = set (headerIn image k) i value; contents = contentsIn image k }
-      → Done image byte-after name (effect (changed name change (catalogue image)) 0 0)
+      → Done layout image byte-after name (effect (changed name change (catalogue image)) 0 0)
   unfolding headerIn
   byte-done change e =
-      altered-done byte-altered name (o .named) change
-      (e ∙ sym (redescribed-file image k (o .whole) (opened-listed image name p k o) (set d i value) long rules named chain ∙ rw (take-set-lt 28 d i value high)))
+      altered-done layout byte-altered name (o .named) change
+      (e ∙ sym (redescribed-file layout image k (o .whole) (opened-listed layout image name p k o) (set d i value) long rules named chain ∙ rw (take-set-lt 28 d i value high)))
 
   pub byte-stays : Has image name (λ j. Stays image byte-after name j (j ∷ []))
   byte-stays =
-      found-has image name p k o
+      found-has layout image name p k o
       (record {
         lies =
             rw (append-nil (placesIn image k)) at
-            (altered-lies byte-altered name (o .named) (chainOf d) (ap chainOf (own-here image k (o .whole) (opened-listed image name p k o) k (set d i value) long (omega (arith, count-here k (placesIn image k)))) ∙ chain));
+            (altered-lies layout byte-altered name (o .named) (chainOf d) (ap chainOf (own-here layout image k (o .whole) (opened-listed layout image name p k o) k (set d i value) long (omega (arith, count-here k (placesIn image k)))) ∙ chain));
         others = λ j inside apart. sector-other image k (set d i value) long j (count-apart j k [] apart .0);
       })

@@ -18,6 +18,7 @@ use Rattle.rules.specs.Calls.Entry.{rowOf, noRow, entryTests, entryOf, entryRow
 use Rattle.rules.specs.Calls.Read.{readTests, reading, readOf}
 use Rattle.rules.specs.Calls.Load.{lengthIn, programIn, loadTests, loading, loadOf}
 use Rattle.rules.specs.Calls.Listing.{listingText, listingTests, listingOf}
+use Rattle.rules.specs.declared.Layout.{Layout}
 use Rattle.rules.specs.declared.Entry.{Entry}
 use Rattle.rules.specs.declared.Answer.the-variants.{Done}
 use Rattle.rules.specs.declared.Opened.{Opened}
@@ -32,76 +33,76 @@ use Rattle.demands.proofs.Lines.{kind-in}
 use Rattle.demands.proofs.Filed.{file-of, named-file}
 
 -- what a row shows of a descriptor is that of its file
-row-in : (image : List ℕ) → Sound image → (k : ℕ) → IsDescriptor (sectorCount image) (sectorOf image k) → rowOf (sectorOf image k) ≡ rowIs (fileIn image k)
+row-in : (layout : Layout) (image : List ℕ) → Sound layout image → (k : ℕ) → IsDescriptor layout (sectorCount image) (sectorOf image k) → rowOf (sectorOf image k) ≡ rowIs (fileIn image k)
 unfolding rowOf fileIn nameIn nameOf
-row-in image is k d = rw (kind-in image is k d, contents-count (sectorCount image) image k d, header-name image k, header-at image k 12 (omega arith))
+row-in layout image is k d = rw (kind-in layout image is k d, contents-count layout (sectorCount image) image k d, header-name image k, header-at image k 12 (omega arith))
 
 pub catalogue-length : (image : List ℕ) → length (catalogue image) ≡ length (files image)
 unfolding catalogue
 catalogue-length image = length-map (files image) (fileIn image)
 
 -- the entry at a place
-module _ (image : List ℕ) (is : Sound image) (place room : ℕ) (e : entryOf image place room .number ≡ 0) where
+module _ (layout : Layout) (image : List ℕ) (is : Sound layout image) (place room : ℕ) (e : entryOf layout image place room .number ≡ 0) where
   entry-inside : place < length (files image)
   unfolding entryOf entryTests Passed
-  entry-inside = leb-false (length (files image)) place (passed-both (volumeTests image) _ (all-passed (entryTests image place room) e) .1 .0)
+  entry-inside = leb-false (length (files image)) place (passed-both (volumeTests layout image) _ (all-passed (entryTests layout image place room) e) .1 .0)
 
-  pub entry-bytes : entryOf image place room .bytes ≡ fileOf image place .header
+  pub entry-bytes : entryOf layout image place room .bytes ≡ fileOf image place .header
   unfolding entryOf fileIn
-  entry-bytes = unless-passed (entryTests image place room) _ [] e ∙ rw (file-of image place entry-inside)
+  entry-bytes = unless-passed (entryTests layout image place room) _ [] e ∙ rw (file-of image place entry-inside)
 
-  pub entry-answers : _≡_ {A = Entry} (record { answer = answerOf (entryOf image place room .number); row = entryRow image place room }) (record { answer = Done; row = rowIs (fileOf image place) })
+  pub entry-answers : _≡_ {A = Entry} (record { answer = answerOf (entryOf layout image place room .number); row = entryRow layout image place room }) (record { answer = Done; row = rowIs (fileOf image place) })
   unfolding entryOf entryRow answerOf
   entry-answers =
       let k = fileAt image place in
-      rw (e, unless-passed (entryTests image place room) (rowOf (sectorOf image k)) noRow e, file-of image place entry-inside, row-in image is k (is .descriptors place entry-inside))
+      rw (e, unless-passed (entryTests layout image place room) (rowOf (sectorOf image k)) noRow e, file-of image place entry-inside, row-in layout image is k (is .descriptors place entry-inside))
 
 -- a reading of a named file that gave number 0: the file was found
-record Read (image name : List ℕ) (reading : ℕ → Report) : Type 0 where
+record Read (layout : Layout) (image name : List ℕ) (reading : ℕ → Report) : Type 0 where
   place : ℕ
   sector : ℕ
-  opened : IsOpened image name place sector
-  is : onFile (openOf image name) reading ≡ reading sector
+  opened : IsOpened layout image name place sector
+  is : onFile (openOf layout image name) reading ≡ reading sector
   number : reading sector .number ≡ 0
 
-read-done : (image name : List ℕ) (reading : ℕ → Report) → onFile (openOf image name) reading .number ≡ 0 → Read image name reading
+read-done : (layout : Layout) (image name : List ℕ) (reading : ℕ → Report) → onFile (openOf layout image name) reading .number ≡ 0 → Read layout image name reading
 unfolding onFile
-read-done image name reading = go (openOf image name) refl
+read-done layout image name reading = go (openOf layout image name) refl
   where
-    go : (o : Opened) → openOf image name ≡ o → onFile o reading .number ≡ 0 → Read image name reading
-    go (At p k) found e = record { place = p; sector = k; opened = opened-is image name p k found; is = rw found; number = e }
+    go : (o : Opened) → openOf layout image name ≡ o → onFile o reading .number ≡ 0 → Read layout image name reading
+    go (At p k) found e = record { place = p; sector = k; opened = opened-is layout image name p k found; is = rw found; number = e }
     go Absent found e = absurd (omega (arith, e))
-    go (Refused number) found e = absurd (open-refused image name number found .1 e)
+    go (Refused number) found e = absurd (open-refused layout image name number found .1 e)
     go (Misnamed place) found e = absurd (omega (arith, e))
 
 -- it is the file that the catalogue has under that name
-opened-named : (image name : List ℕ) (p k : ℕ) → IsOpened image name p k → named name (catalogue image) ≡ fileIn image k
-opened-named image name p k o = named-file image name k (o .whole) (opened-listed image name p k o) (o .named)
+opened-named : (layout : Layout) (image name : List ℕ) (p k : ℕ) → IsOpened layout image name p k → named name (catalogue image) ≡ fileIn image k
+opened-named layout image name p k o = named-file layout image name k (o .whole) (opened-listed layout image name p k o) (o .named)
 
-pub read-is : (image name : List ℕ) (offset room : ℕ) → readOf image name offset room .number ≡ 0
-    → readOf image name offset room .bytes ≡ getD (named name (catalogue image) .contents) offset []
+pub read-is : (layout : Layout) (image name : List ℕ) (offset room : ℕ) → readOf layout image name offset room .number ≡ 0
+    → readOf layout image name offset room .bytes ≡ getD (named name (catalogue image) .contents) offset []
 unfolding readOf reading readTests Passed fileIn
-read-is image name offset room e =
-    let r = read-done image name (reading image offset room) e in
+read-is layout image name offset room e =
+    let r = read-done layout image name (reading image offset room) e in
     let k = r .sector in
     let tests = readTests image offset room k in
     let inside = leb-false (sectorsOf (sectorOf image k)) offset (all-passed tests (r .number) .0) in
-    rw (r .is, unless-passed tests (sectorOf image (getD (placesIn image k) offset 0)) [] (r .number), opened-named image name (r .place) k (r .opened))
-    (sym (content-at (sectorCount image) image k (r .opened .descriptor) offset inside))
+    rw (r .is, unless-passed tests (sectorOf image (getD (placesIn image k) offset 0)) [] (r .number), opened-named layout image name (r .place) k (r .opened))
+    (sym (content-at layout (sectorCount image) image k (r .opened .descriptor) offset inside))
 
-length-in : (image : List ℕ) (k : ℕ) → IsDescriptor (sectorCount image) (sectorOf image k) → lengthIs (fileIn image k) ≡ lengthIn image k
+length-in : (layout : Layout) (image : List ℕ) (k : ℕ) → IsDescriptor layout (sectorCount image) (sectorOf image k) → lengthIs (fileIn image k) ≡ lengthIn image k
 unfolding lengthIn fileIn
-length-in image k is = rw (contents-count (sectorCount image) image k is, header-at image k 16 (omega arith))
+length-in layout image k is = rw (contents-count layout (sectorCount image) image k is, header-at image k 16 (omega arith))
 
-pub load-is : (image name : List ℕ) (room : ℕ) → loadOf image name room .number ≡ 0 →
+pub load-is : (layout : Layout) (image name : List ℕ) (room : ℕ) → loadOf layout image name room .number ≡ 0 →
     let file = named name (catalogue image) in
-    loadOf image name room ≡ gives (lengthIs file) (take (lengthIs file) (joined (file .contents)))
+    loadOf layout image name room ≡ gives (lengthIs file) (take (lengthIs file) (joined (file .contents)))
 unfolding loadOf loading programIn fileIn
-load-is image name room e =
-    let r = read-done image name (loading image room) e in
+load-is layout image name room e =
+    let r = read-done layout image name (loading image room) e in
     let k = r .sector in
-    rw (r .is, reported-given (loadTests image room k) (lengthIn image k) (programIn image k) (r .number), opened-named image name (r .place) k (r .opened), length-in image k (r .opened .descriptor))
+    rw (r .is, reported-given (loadTests image room k) (lengthIn image k) (programIn image k) (r .number), opened-named layout image name (r .place) k (r .opened), length-in layout image k (r .opened .descriptor))
 
-pub listing-is : (image : List ℕ) (room : ℕ) → listingOf image room .number ≡ 0 → listingOf image room ≡ gives (length (listingText image)) (listingText image)
+pub listing-is : (layout : Layout) (image : List ℕ) (room : ℕ) → listingOf layout image room .number ≡ 0 → listingOf layout image room ≡ gives (length (listingText layout image)) (listingText layout image)
 unfolding listingOf
-listing-is image room e = reported-given (listingTests image room) (length (listingText image)) (listingText image) e
+listing-is layout image room e = reported-given (listingTests layout image room) (length (listingText layout image)) (listingText layout image) e

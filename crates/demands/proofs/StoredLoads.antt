@@ -10,10 +10,12 @@ use Rattle.rules.specs.Bytes.{byteAt, bitOf}
 use Rattle.rules.specs.Sectors.{sectorOf, sectorCount}
 use Rattle.rules.specs.Name.{IsName}
 use Rattle.rules.specs.Map.{count}
-use Rattle.rules.specs.Kind.{programLength, sectorsFor}
+use Rattle.rules.specs.Kind.{programLength, sectorsFor, marking}
 use Rattle.rules.specs.Descriptor.{sectorsOf, IsDescriptor}
 use Rattle.rules.specs.Volume.{File, files, nameIn, fileIn, catalogue}
 use Rattle.rules.specs.Sound.{Sound, fileAt}
+use Rattle.rules.specs.declared.Layout.{Layout}
+use Rattle.rules.proofs.Marks.{marking-bit}
 use Rattle.rules.proofs.Map.{count-at}
 use Rattle.rules.proofs.Volume.{contents-count, header-at}
 use Rattle.rules.proofs.Listed.{listed-name, listed-descriptor}
@@ -48,9 +50,9 @@ none-both [] more none behind = behind
 none-both (g ∷ gs) more none behind = (none .0, none-both gs more (none .1) behind)
 
 -- a sound volume has none of the faults 1 to 6
-faultless : (image : List ℕ) → Sound image → None (faults image)
+faultless : (layout : Layout) (image : List ℕ) → Sound layout image → None (faults layout image)
 unfolding None faults
-faultless image is = (
+faultless layout image is = (
   (λ none. none (record { whole = is .whole; range = is .size })),
   (
     (λ none. none (is .label)),
@@ -64,7 +66,7 @@ faultless image is = (
   ),
 )
 
-module _ (version : Version) (all : Demand2 version) (name bytes image : List ℕ) (is : Sound image) where
+module _ (layout : Layout) (version : Version) (all : Demand2 layout version) (name bytes image : List ℕ) (is : Sound layout image) where
   abbrev storing : Call
   storing = call.change name (call.store bytes)
 
@@ -72,10 +74,10 @@ module _ (version : Version) (all : Demand2 version) (name bytes image : List �
   after = version storing image .image
 
   abbrev file : File
-  file = newProgram name bytes
+  file = newProgram layout name bytes
 
   module _ (zero : numberOf version storing image ≡ 0) where
-    changed : Changed (call.store bytes) image after name
+    changed : Changed layout (call.store bytes) image after name
     unfolding Means
     changed = all .means storing image is zero .0
 
@@ -89,8 +91,8 @@ module _ (version : Version) (all : Demand2 version) (name bytes image : List �
     abbrev there : 1 ≤ count k (files after)
     there = enters .gains .lies .listed
 
-    rules : IsDescriptor (sectorCount after) (sectorOf after k)
-    rules = listed-descriptor after (changed .sound) k there
+    rules : IsDescriptor layout (sectorCount after) (sectorOf after k)
+    rules = listed-descriptor layout after (changed .sound) k there
 
     is-name : IsName name
     unfolding nameIn
@@ -108,17 +110,17 @@ module _ (version : Version) (all : Demand2 version) (name bytes image : List �
         let inside : p < length (files after) = omega (arith, stands .inside, ap length (changed .catalogue-is), length-map (files after) (fileIn after)) in
         let found = sym (file-of after p inside) ∙ ap (λ (l : List File). getD l p noFile) (changed .catalogue-is) ∙ stands .is in
         let same : fileAt after p ≡ k =
-        listed-name after (changed .sound) (fileAt after p) k (count-at (files after) p inside) there
-        (sym (file-name after (fileAt after p)) ∙ ap fileName found ∙ header-name name 0x01 0 (length bytes % 256) 0 ten (sectorsFor (length bytes)) ∙ sym (enters .gains .lies .named))
+        listed-name layout after (changed .sound) (fileAt after p) k (count-at (files after) p inside) there
+        (sym (file-name after (fileAt after p)) ∙ ap fileName found ∙ header-name name (marking layout 0x01) 0 (length bytes % 256) 0 ten (sectorsFor (length bytes)) ∙ sym (enters .gains .lies .named))
         in
         rw same at found
 
     named-now : named name (catalogue after) ≡ file
-    named-now = named-file after name k (changed .sound) there (sym (enters .gains .lies .named)) ∙ file-now
+    named-now = named-file layout after name k (changed .sound) there (sym (enters .gains .lies .named)) ∙ file-now
 
     -- it is one of as many bytes as were lent
     sized : OfLength file (length bytes)
-    sized = let c = sectorsFor (length bytes) in of-length file (length bytes) (pieces-length c bytes) (header-end name 0x01 0 (length bytes % 256) 0 ten c)
+    sized = let c = sectorsFor (length bytes) in of-length file (length bytes) (pieces-length c bytes) (header-end name (marking layout 0x01) 0 (length bytes % 256) 0 ten c)
 
     -- what the grounds speak of
     this : Has after name (λ j. Unit {0})
@@ -130,7 +132,7 @@ module _ (version : Version) (all : Demand2 version) (name bytes image : List �
 
     length-now : programLength (sectorsOf (sectorOf after k)) (byteAt (sectorOf after k) 16) ≡ length bytes
     unfolding fileIn
-    length-now = rw (← contents-count (sectorCount after) after k rules, at-header 16 (omega arith)) (ap (λ (f : File). programLength (length (f .contents)) (byteAt (file .header) 16)) file-now ∙ sized .long)
+    length-now = rw (← contents-count layout (sectorCount after) after k rules, at-header 16 (omega arith)) (ap (λ (f : File). programLength (length (f .contents)) (byteAt (file .header) 16)) file-now ∙ sized .long)
 
     module _ (buffer : List ℕ) (room : length bytes ≤ length buffer) where
       abbrev loading : Call
@@ -139,28 +141,28 @@ module _ (version : Version) (all : Demand2 version) (name bytes image : List �
       loads : numberOf version loading after ≡ 0
       unfolding grounds lookGrounds None this
       loads =
-          first-none (numberOf version loading after) (grounds loading after)
-          (none-both (faults after) _ (faultless after (changed .sound)) (
+          first-none (numberOf version loading after) (grounds layout loading after)
+          (none-both (faults layout after) _ (faultless layout after (changed .sound)) (
             (λ none. none is-name),
             (
               (λ none. none this),
               (
-                (λ other. of-first after name (changed .sound) this other (ap (λ (b : ℕ). bitOf b 0) (at-header 12 (omega arith) ∙ header-status name 0x01 0 (length bytes % 256) 0 ten (sectorsFor (length bytes))))),
-                ((λ short. omega (arith, room, length-now, of-first after name (changed .sound) this short)), tt),
+                (λ other. of-first layout after name (changed .sound) this other (ap (λ (b : ℕ). bitOf b 0) (at-header 12 (omega arith) ∙ header-status name (marking layout 0x01) 0 (length bytes % 256) 0 ten (sectorsFor (length bytes))) ∙ marking-bit layout 0x01 0 (λ e. omega (arith, e)))),
+                ((λ short. omega (arith, room, length-now, of-first layout after name (changed .sound) this short)), tt),
               ),
             ),
           ))
           (all .progress loading after)
 
-pub stored-length : StoredLength
+pub stored-length : (layout : Layout) → StoredLength layout
 unfolding StoredLength
-stored-length version all name bytes image is zero = rw (named-now version all name bytes image is zero) (sized version all name bytes image is zero)
+stored-length layout version all name bytes image is zero = rw (named-now layout version all name bytes image is zero) (sized layout version all name bytes image is zero)
 
-pub stored-loads : StoredLoads
+pub stored-loads : (layout : Layout) → StoredLoads layout
 unfolding StoredLoads Means Shows
-stored-loads version all name bytes buffer image is room zero =
+stored-loads layout version all name bytes buffer image is room zero =
     let loaded =
-    all .means (loading version all name bytes image is zero buffer room) (after version all name bytes image is) (changed version all name bytes image is zero .sound)
-    (loads version all name bytes image is zero buffer room)
+    all .means (loading layout version all name bytes image is zero buffer room) (after layout version all name bytes image is) (changed layout version all name bytes image is zero .sound)
+    (loads layout version all name bytes image is zero buffer room)
     in
-    rw (named-now version all name bytes image is zero, sized version all name bytes image is zero .long, joined-pieces (sectorsFor (length bytes)) bytes (omega arith)) at loaded
+    rw (named-now layout version all name bytes image is zero, sized layout version all name bytes image is zero .long, joined-pieces (sectorsFor (length bytes)) bytes (omega arith)) at loaded

@@ -1,12 +1,12 @@
 -- Store, where its number is 0: a new program was entered, with a free sector for each 256 of its bytes and for the rest.
-use mathlib.Core.Path.{_≡_, refl, sym, _∙_}
+use mathlib.Core.Path.{_≡_, sym, _∙_}
 use mathlib.Core.List.{List, [], _∷_, _++_}
 use Prim.Native.Nat.{ℕ, _+_, _%_, _≤_, _<_}
 use native.Mathlib.Omega.{arith}
 use lib.ListN.{length}
 use borrow.Author.Tests.{ltb-false, leb-false}
 use Rattle.rules.specs.Sectors.{Write, sectorOf, sectorCount, written}
-use Rattle.rules.specs.Kind.{kindOf, sectorsFor, IsStatus, IsKind}
+use Rattle.rules.specs.Kind.{allowedBits, marking, kindOf, sectorsFor, IsKind}
 use Rattle.rules.specs.Map.{count, freeCount, marked, markedAll}
 use Rattle.rules.specs.Chain.{extendedAll}
 use Rattle.rules.specs.Descriptor.{newDescriptor, withChain}
@@ -16,7 +16,9 @@ use Rattle.rules.specs.Tests.{Passed}
 use Rattle.rules.specs.Opening.{openOf}
 use Rattle.rules.specs.Calls.Create.{entered}
 use Rattle.rules.specs.Calls.Store.{dataWrites, newSectors, newBlocks, storeTests, storing, storeOf}
+use Rattle.rules.specs.declared.Layout.{Layout}
 use Rattle.rules.proofs.Name.{name-is}
+use Rattle.rules.proofs.Marks.{allowed-four, marking-status, marking-kind, program-status}
 use Rattle.rules.proofs.Choice.{Chosen, sound-fenced, choices-length, new-free, new-once}
 use Rattle.rules.proofs.Listed.{label-long}
 use Rattle.rules.proofs.Tests.{all-passed, unless-passed}
@@ -32,30 +34,27 @@ use Rattle.demands.proofs.NewFile.{with-chain-made}
 use Rattle.demands.proofs.Taking.{descriptor-lowest, new-takes}
 use Rattle.demands.proofs.Entering.{new-file-done}
 
-program-status : IsStatus 0x01
-program-status = record { others = refl; excludes = λ e. (refl, refl) }
-
-program-kind : (c endOffset : ℕ) → (c ≡ 0 → endOffset ≡ 0) → IsKind (kindOf 0x01 c endOffset 0) c endOffset
+program-kind : (layout : Layout) (c endOffset : ℕ) → (c ≡ 0 → endOffset ≡ 0) → IsKind (kindOf (marking layout 0x01) c endOffset 0) c endOffset
 unfolding kindOf IsKind
-program-kind c endOffset rule = rule
+program-kind layout c endOffset rule = rw (marking-kind layout 0x01 c endOffset 0) rule
 
 -- the new program, with c sectors ks
-program-done : (image name bytes : List ℕ) (k : ℕ) (ks : List ℕ) (c : ℕ) → length ks ≡ c → (c ≡ 0 → length bytes % 256 ≡ 0) → c ≤ 4096 → IsAbsent image name → length (files image) < 127
+program-done : (layout : Layout) (image name bytes : List ℕ) (k : ℕ) (ks : List ℕ) (c : ℕ) → length ks ≡ c → (c ≡ 0 → length bytes % 256 ≡ 0) → c ≤ 4096 → IsAbsent layout image name → length (files image) < 127
     → ((j : ℕ) → count j (k ∷ ks) ≤ 1) → ((j : ℕ) → 1 ≤ count j (k ∷ ks) → Chosen (sectorCount image) (sectorOf image 0) j) → length (extendedAll [] ks) ≤ 76
     → ForDescriptor image k → Takes image (k ∷ []) [] [] ks (extendedAll [] ks)
     → let endOffset = length bytes % 256 in
-    let descriptor = withChain (newDescriptor name 0x01 0 endOffset 0) c (extendedAll [] ks) in
+    let descriptor = withChain (newDescriptor name (marking layout 0x01) 0 endOffset 0) c (extendedAll [] ks) in
     let after = written image (dataWrites bytes ks ++ entered image name k descriptor (markedAll 1 (sectorOf image 0) (k ∷ ks))) in
-    Done image after name (effect (putIn (record { header = newHeader name 0x01 0 c endOffset 0; contents = pieces c bytes }) (catalogue image)) (1 + c) 0) × Enters image after name c
-program-done image name bytes k ks c many empty small absent few once free short chosen takes =
+    Done layout image after name (effect (putIn (record { header = newHeader name (marking layout 0x01) 0 c endOffset 0; contents = pieces c bytes }) (catalogue image)) (1 + c) 0) × Enters image after name c
+program-done layout image name bytes k ks c many empty small absent few once free short chosen takes =
     let endOffset = length bytes % 256 in
-    let made = with-chain-made name 0x01 0 endOffset 0 (name-is name (absent .rule) .ten) c (extendedAll [] ks) in
+    let made = with-chain-made name (marking layout 0x01) 0 endOffset 0 (name-is name (absent .rule) .ten) c (extendedAll [] ks) in
     rw many at
-    (new-file-done image name bytes k ks 0x01 0 endOffset 0 absent few once free short (omega (arith, many, small)) program-status (program-kind (length ks) endOffset (λ none. empty (sym many ∙ none)))
-    (withChain (newDescriptor name 0x01 0 endOffset 0) c (extendedAll [] ks)) (rw many made) chosen takes)
+    (new-file-done layout image name bytes k ks (marking layout 0x01) 0 endOffset 0 absent few once free short (omega (arith, many, small)) (marking-status layout 0x01 (program-status (allowedBits layout) (allowed-four layout))) (program-kind layout (length ks) endOffset (λ none. empty (sym many ∙ none)))
+    (withChain (newDescriptor name (marking layout 0x01) 0 endOffset 0) c (extendedAll [] ks)) (rw many made) chosen takes)
 
 -- what is stored, with the sectors chosen for it
-module _ (image name bytes : List ℕ) where
+module _ (layout : Layout) (image name bytes : List ℕ) where
   abbrev sector0 : List ℕ
   sector0 = sectorOf image 0
 
@@ -69,21 +68,21 @@ module _ (image name bytes : List ℕ) where
   ks = dataChoices c (marked 1 sector0 k)
 
   abbrev writes : List Write
-  writes = dataWrites bytes ks ++ entered image name k (withChain (newDescriptor name 0x01 0 (length bytes % 256) 0) c (extendedAll [] ks)) (markedAll 1 sector0 (k ∷ ks))
+  writes = dataWrites bytes ks ++ entered image name k (withChain (newDescriptor name (marking layout 0x01) 0 (length bytes % 256) 0) c (extendedAll [] ks)) (markedAll 1 sector0 (k ∷ ks))
 
-  stored-done : IsAbsent image name → Passed (storeTests image bytes)
-      → Done image (written image writes) name (effect (putIn (newProgram name bytes) (catalogue image)) (1 + c) 0) × Enters image (written image writes) name c
+  stored-done : IsAbsent layout image name → Passed (storeTests image bytes)
+      → Done layout image (written image writes) name (effect (putIn (newProgram layout name bytes) (catalogue image)) (1 + c) 0) × Enters image (written image writes) name c
   unfolding storeTests newBlocks newSectors Passed
   stored-done absent passed =
-      let fence = sound-fenced image (absent .whole) in
+      let fence = sound-fenced layout image (absent .whole) in
       let free = ltb-false (freeCount sector0) (1 + c) (passed .1 .1 .0) in
-      program-done image name bytes k ks c (choices-length c (marked 1 sector0 k)) (λ none. omega (arith, none)) (omega (arith, ltb-false 32768 (length bytes) (passed .0))) absent
-      (leb-false 127 (length (files image)) (passed .1 .0)) (new-once (sectorCount image) sector0 c (label-long image (absent .whole)) fence free) (new-free (sectorCount image) sector0 c (label-long image (absent .whole)) fence free)
-      (ltb-false 76 (length (extendedAll [] ks)) (passed .1 .1 .1 .0)) (descriptor-lowest image (absent .whole) (omega (arith, free))) (new-takes image c (absent .whole) free)
+      program-done layout image name bytes k ks c (choices-length c (marked 1 sector0 k)) (λ none. omega (arith, none)) (omega (arith, ltb-false 32768 (length bytes) (passed .0))) absent
+      (leb-false 127 (length (files image)) (passed .1 .0)) (new-once (sectorCount image) sector0 c (label-long layout image (absent .whole)) fence free) (new-free (sectorCount image) sector0 c (label-long layout image (absent .whole)) fence free)
+      (ltb-false 76 (length (extendedAll [] ks)) (passed .1 .1 .1 .0)) (descriptor-lowest layout image (absent .whole) (omega (arith, free))) (new-takes layout image c (absent .whole) free)
 
-pub stores : (bytes : List ℕ) → Does (store bytes)
+pub stores : (layout : Layout) (bytes : List ℕ) → Does layout (store bytes)
 unfolding outcome storeOf storing newBlocks newSectors Touches
-stores bytes image name e =
-    let added = added-done (openOf image name) (storing image name bytes) (open-refused image name) e in
+stores layout bytes image name e =
+    let added = added-done (openOf layout image name) (storing layout image name bytes) (open-refused layout image name) e in
     let tests = storeTests image bytes in
-    rw (added .is, unless-passed tests (writes image name bytes) [] (added .number)) (stored-done image name bytes (absent-is image name (added .absent)) (all-passed tests (added .number)))
+    rw (added .is, unless-passed tests (writes layout image name bytes) [] (added .number)) (stored-done layout image name bytes (absent-is layout image name (added .absent)) (all-passed tests (added .number)))

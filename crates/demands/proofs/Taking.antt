@@ -9,6 +9,7 @@ use native.Mathlib.Decide.{decLt, ℕ-discrete}
 use lib.ListN.{length, length-append}
 use Rattle.rules.specs.Sectors.{sectorOf, sectorCount}
 use Rattle.rules.specs.Map.{mapBit, count, freeCount, marked}
+use Rattle.rules.specs.declared.Layout.{Layout}
 use Rattle.rules.specs.declared.Block.{Block}
 use Rattle.rules.specs.Chain.{blocks, placesFrom, places, extended, extendedAll, Linked}
 use Rattle.rules.specs.Descriptor.{sectorsOf, chainOf}
@@ -141,12 +142,12 @@ marks-more image taken sector0 many k marks chosen =
           ∙ marks .is-free j (record { inside = free .inside; free = free .free; other = omega (arith, none, count-more j k taken) });
     }
 
-module _ (image : List ℕ) (is : Sound image) where
+module _ (layout : Layout) (image : List ℕ) (is : Sound layout image) where
   marks-none : (many : ℕ) → many ≤ freeCount (sectorOf image 0) → Marks image [] (sectorOf image 0) many
   marks-none many room =
       record {
-        long = label-long image is;
-        fence = sound-fenced image is;
+        long = label-long layout image is;
+        fence = sound-fenced layout image is;
         room = room;
         free-is = λ j inside free. record { inside = inside; free = free; other = count-none j };
         is-free = λ j free. free .free;
@@ -177,7 +178,7 @@ module _ (image : List ℕ) (is : Sound image) where
         ]
 
   descriptor-chosen : 1 ≤ freeCount (sectorOf image 0) → Chosen (sectorCount image) (sectorOf image 0) (descriptorChoice (sectorOf image 0))
-  descriptor-chosen = descriptor-choice-free (sectorCount image) (sectorOf image 0) (sound-fenced image is)
+  descriptor-chosen = descriptor-choice-free (sectorCount image) (sectorOf image 0) (sound-fenced layout image is)
 
   -- several, one after another
   choices-taken : (many : ℕ) (taken sector0 : List ℕ) → Marks image taken sector0 many → (c : ℕ) (bs : List Block) → Linked (sectorCount image) c 0 bs
@@ -194,23 +195,23 @@ module _ (image : List ℕ) (is : Sound image) where
         record { between = extended 0 bs k; to = extended-longer n c k bs linked; from = rw (extended-places n k c 0 bs linked) at rest },
       )
 
-pub descriptor-lowest : (image : List ℕ) → Sound image → 1 ≤ freeCount (sectorOf image 0) → ForDescriptor image (descriptorChoice (sectorOf image 0))
+pub descriptor-lowest : (layout : Layout) (image : List ℕ) → Sound layout image → 1 ≤ freeCount (sectorOf image 0) → ForDescriptor image (descriptorChoice (sectorOf image 0))
 unfolding descriptorChoice
-descriptor-lowest image is some =
-    found-lowest image is [] (sectorOf image 0) 0 (marks-none image is 1 some) 2 1598 (descriptorChoice (sectorOf image 0)) refl (descriptor-chosen image is some)
+descriptor-lowest layout image is some =
+    found-lowest layout image is [] (sectorOf image 0) 0 (marks-none layout image is 1 some) 2 1598 (descriptorChoice (sectorOf image 0)) refl (descriptor-chosen layout image is some)
 
-pub append-takes : (image : List ℕ) (k : ℕ) → Sound image → 1 ≤ count k (files image) → 1 ≤ freeCount (sectorOf image 0)
+pub append-takes : (layout : Layout) (image : List ℕ) (k : ℕ) → Sound layout image → 1 ≤ count k (files image) → 1 ≤ freeCount (sectorOf image 0)
     → Takes image [] (placesIn image k) (blocks (chainOf (sectorOf image k))) (dataChoice (sectorOf image 0) ∷ []) (longerBlocks image k)
 unfolding placesIn places longerBlocks dataChoices extendedAll
-append-takes image k is there some =
-    choices-taken image is 1 [] (sectorOf image 0) (marks-none image is 1 some) (sectorsOf (sectorOf image k)) (blocks (chainOf (sectorOf image k)))
-    (listed-descriptor image is k there .chain .linked)
+append-takes layout image k is there some =
+    choices-taken layout image is 1 [] (sectorOf image 0) (marks-none layout image is 1 some) (sectorsOf (sectorOf image k)) (blocks (chainOf (sectorOf image k)))
+    (listed-descriptor layout image is k there .chain .linked)
 
-pub new-takes : (image : List ℕ) (many : ℕ) → Sound image → 1 + many ≤ freeCount (sectorOf image 0)
+pub new-takes : (layout : Layout) (image : List ℕ) (many : ℕ) → Sound layout image → 1 + many ≤ freeCount (sectorOf image 0)
     → Takes image (descriptorChoice (sectorOf image 0) ∷ []) [] [] (newSectors image many) (newBlocks image many)
 unfolding newSectors newBlocks placesFrom Linked
-new-takes image many is room =
+new-takes layout image many is room =
     let sector0 = sectorOf image 0 in
     let k = descriptorChoice sector0 in
-    choices-taken image is many (k ∷ []) (marked 1 sector0 k)
-    (marks-more image [] sector0 many k (marks-none image is (suc many) (omega (arith, room))) (descriptor-chosen image is (omega (arith, room)))) 0 [] refl
+    choices-taken layout image is many (k ∷ []) (marked 1 sector0 k)
+    (marks-more image [] sector0 many k (marks-none layout image is (suc many) (omega (arith, room))) (descriptor-chosen layout image is (omega (arith, room)))) 0 [] refl

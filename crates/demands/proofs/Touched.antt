@@ -1,6 +1,7 @@
 -- Two images that a change leaves are one. Both have the catalogue that the change asks for, so the file of a name that lies in the same sector with the same chain is the same sector by
 -- sector; sector 0 is said; sector 1 is fixed by the names of the numbers that it lists; and all else stands as it stood.
 use mathlib.Core.Path.{_≡_, sym, ap, _∙_}
+use mathlib.Core.Bool.{Bool, true, false, cond}
 use mathlib.Core.List.{List, [], _∷_, _++_}
 use Prim.Native.Nat.{ℕ, _+_, _/_, _≤_, _<_}
 use native.Mathlib.Omega.{arith}
@@ -13,6 +14,7 @@ use Rattle.rules.specs.Descriptor.{nameOf, chainOf}
 use Rattle.rules.specs.Index.{indexOf}
 use Rattle.rules.specs.Volume.{File, files, nameIn, placesIn, headerIn, contentsIn, fileIn}
 use Rattle.rules.specs.Sound.{Sound}
+use Rattle.rules.specs.declared.Layout.{Layout}
 use Rattle.rules.specs.declared.Block.{Block}
 use Rattle.rules.proofs.Bytes.{halves}
 use Rattle.rules.proofs.Sectors.{sector-length, image-same}
@@ -24,7 +26,7 @@ use Rattle.demands.specs.Call.{Change}
 use Rattle.demands.specs.Catalogue.{named}
 use Rattle.demands.specs.Effects.{Effect, Done}
 use Rattle.demands.specs.Grounds.{Has}
-use Rattle.demands.specs.Touches.{Others, Numbers, Lies, Stays, Gains, Enters, Leaves, Touches}
+use Rattle.demands.specs.Touches.{Others, Numbers, Lies, Stays, Gains, Enters, Leaves, overwriteTouches, Touches}
 use Rattle.demands.proofs.Filed.{named-file}
 use Rattle.demands.proofs.Taking.{lowest-one, takes-one}
 
@@ -39,16 +41,24 @@ among P k ks here later j some =
 none : (P : ℕ → Type 0) (j : ℕ) → 1 ≤ count j [] → P j
 none P j some = absurd (omega (arith, some, count-none j))
 
+-- one of those that overwriting touches
+overwrite-among : (layout : Layout) (P : ℕ → Type 0) (k place : ℕ) → P k → P place → (j : ℕ) → 1 ≤ count j (overwriteTouches layout k place) → P j
+overwrite-among layout P k place own written = go (layout .marks)
+  where
+    go : (t : Bool) (j : ℕ) → 1 ≤ count j (cond t (k ∷ (place ∷ [])) (place ∷ [])) → P j
+    go true = among P k (place ∷ []) own (among P place [] written (none P))
+    go false = among P place [] written (none P)
+
 -- from 2 up the two system sectors do not count
 pub behind-system : (j : ℕ) (ks : List ℕ) → 2 ≤ j → count j (0 ∷ (1 ∷ ks)) ≡ count j ks
 behind-system j ks two = count-other j 0 (1 ∷ ks) (λ e. omega (arith, e, two)) ∙ count-other j 1 ks (λ e. omega (arith, e, two))
 
 -- the file of a name is one, so what holds of it holds where it was found first
-pub of-first : (image name : List ℕ) → Sound image → {P Q : ℕ → Type 0} → (first : Has image name P) → Has image name Q → Q (first .sector)
-of-first image name is first second =
-    rw (listed-name image is (second .sector) (first .sector) (second .listed) (first .listed) (second .named ∙ sym (first .named))) at (second .so)
+pub of-first : (layout : Layout) (image name : List ℕ) → Sound layout image → {P Q : ℕ → Type 0} → (first : Has image name P) → Has image name Q → Q (first .sector)
+of-first layout image name is first second =
+    rw (listed-name layout image is (second .sector) (first .sector) (second .listed) (first .listed) (second .named ∙ sym (first .named))) at (second .so)
 
-module _ (image a b name : List ℕ) (effect : Effect) (done : Done image a name effect) (done′ : Done image b name effect) (is : Sound image) where
+module _ (layout : Layout) (image a b name : List ℕ) (effect : Effect) (done : Done layout image a name effect) (done′ : Done layout image b name effect) (is : Sound layout image) where
   abbrev Same : ℕ → Type 0
   Same j = sectorOf a j ≡ sectorOf b j
 
@@ -59,15 +69,15 @@ module _ (image a b name : List ℕ) (effect : Effect) (done : Done image a name
   module _ (own : List ℕ) (k : ℕ) (places chain : List ℕ) (lies : Lies a own k places chain) (lies′ : Lies b own k places chain) where
     file-one : fileIn a k ≡ fileIn b k
     file-one =
-        sym (named-file a own k (done .sound) (lies .listed) (sym (lies .named)))
+        sym (named-file layout a own k (done .sound) (lies .listed) (sym (lies .named)))
         ∙ ap (named own) (done .catalogue-is ∙ sym (done′ .catalogue-is))
-        ∙ named-file b own k (done′ .sound) (lies′ .listed) (sym (lies′ .named))
+        ∙ named-file layout b own k (done′ .sound) (lies′ .listed) (sym (lies′ .named))
 
     descriptor-one : Same k
     unfolding fileIn headerIn chainOf
     descriptor-one =
-        let long = sector-length a k (sector-inside a (done .sound) k (listed-range a (done .sound) k (lies .listed) .1)) in
-        let long′ = sector-length b k (sector-inside b (done′ .sound) k (listed-range b (done′ .sound) k (lies′ .listed) .1)) in
+        let long = sector-length a k (sector-inside layout a (done .sound) k (listed-range layout a (done .sound) k (lies .listed) .1)) in
+        let long′ = sector-length b k (sector-inside layout b (done′ .sound) k (listed-range layout b (done′ .sound) k (lies′ .listed) .1)) in
         halves 28 228 (sectorOf a k) (sectorOf b k) long long′ (ap (λ (file : File). file .header) file-one) (lies .chain-is ∙ sym (lies′ .chain-is))
 
     place-one : (j : ℕ) → 1 ≤ count j places → Same j
@@ -92,7 +102,7 @@ module _ (image a b name : List ℕ) (effect : Effect) (done : Done image a name
     module _ (goes comes : List ℕ) (numbers : Numbers image a goes comes) (numbers′ : Numbers image b goes comes) (here : (j : ℕ) → 2 ≤ j → 1 ≤ count j touched → Same j) where
       listed-one : (j : ℕ) → 1 ≤ count j (files a) → Same j
       listed-one j there =
-          let range = listed-range a (done .sound) j there in
+          let range = listed-range layout a (done .sound) j there in
           elim (decLt 0 (count j touched)) [
             | yes some ↦ here j (range .0) some
             | no apart ↦ stand-one j (omega (arith, range .1, many)) (omega arith)
@@ -184,15 +194,16 @@ module _ (image a b name : List ℕ) (effect : Effect) (done : Done image a name
       let e = lowest-one image [] 2 (enters′ .k) (enters .k) (enters′ .chosen) (enters .chosen) in
       entered-one m (enters .k) (enters .gains) (rw e at (enters′ .gains)) (enters .numbers) (rw e at (enters′ .numbers))
 
-  pub touches-one : (change : Change) → Touches change image a name → Touches change image b name → a ≡ b
+  pub touches-one : (change : Change) → Touches layout change image a name → Touches layout change image b name → a ≡ b
   unfolding Touches
   touches-one (call.create status recordLength recordsPerSector) t t′ = enters-one 0 t t′
   touches-one (call.store bytes) t t′ = enters-one _ t t′
-  touches-one (call.append bytes) t t′ = grown-one (t .sector) _ _ (t .so) (of-first image name is t t′)
+  touches-one (call.append bytes) t t′ = grown-one (t .sector) _ _ (t .so) (of-first layout image name is t t′)
   touches-one (call.overwrite offset bytes) t t′ =
-      stays-one name (t .sector) _ (t .so .1) (of-first image name is t t′ .1)
-      (λ j some same places. places j (rw (only-one _ j some) at (count-at (placesIn image (t .sector)) offset (t .so .0))))
-  touches-one call.protect t t′ = stays-one name (t .sector) _ (t .so) (of-first image name is t t′) (λ j some same places. rw (only-one _ j some) at same)
-  touches-one call.unprotect t t′ = stays-one name (t .sector) _ (t .so) (of-first image name is t t′) (λ j some same places. rw (only-one _ j some) at same)
-  touches-one call.delete t t′ = leaves-one (t .sector) (t .so) (of-first image name is t t′)
-  touches-one (call.rename new) t t′ = let second = of-first image name is t t′ in renamed-one new (t .sector) (t .so .0) (second .0) (t .so .1) (second .1)
+      stays-one name (t .sector) _ (t .so .1) (of-first layout image name is t t′ .1)
+      (λ j some same places. overwrite-among layout Same (t .sector) (getD (placesIn image (t .sector)) offset 0) same (places _ (count-at (placesIn image (t .sector)) offset (t .so .0))) j some)
+  touches-one call.protect t t′ = stays-one name (t .sector) _ (t .so) (of-first layout image name is t t′) (λ j some same places. rw (only-one _ j some) at same)
+  touches-one call.unprotect t t′ = stays-one name (t .sector) _ (t .so) (of-first layout image name is t t′) (λ j some same places. rw (only-one _ j some) at same)
+  touches-one call.clear t t′ = stays-one name (t .sector) _ (t .so) (of-first layout image name is t t′) (λ j some same places. rw (only-one _ j some) at same)
+  touches-one call.delete t t′ = leaves-one (t .sector) (t .so) (of-first layout image name is t t′)
+  touches-one (call.rename new) t t′ = let second = of-first layout image name is t t′ in renamed-one new (t .sector) (t .so .0) (second .0) (t .so .1) (second .1)

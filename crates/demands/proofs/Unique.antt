@@ -7,6 +7,7 @@ use Rattle.rules.specs.Verdict.{volumeTests, verdict}
 use Rattle.rules.specs.Outcome.{Report, answerOf}
 use Rattle.rules.specs.Calls.Summary.{freeCountOf, summaryOf, SummarySays, summaryAnswer}
 use Rattle.rules.specs.Calls.Entry.{EntrySays}
+use Rattle.rules.specs.declared.Layout.{Layout}
 use Rattle.rules.specs.declared.Answer.{Answer}
 use Rattle.rules.specs.declared.Entry.{Entry}
 use Rattle.rules.specs.declared.Row.{Row}
@@ -20,10 +21,10 @@ use Rattle.demands.specs.Call.{Names, Form, AnsweredTo, Answered, Look, 
 use Rattle.demands.specs.Ours.{answered, seen, ours}
 use Rattle.demands.specs.Unique.{LookPromised, Says, Promised, IsOurs, Unique}
 
-says-summary : (image : List ℕ) (given : Summary) → SummarySays image given (summaryOf image) → given ≡ summaryAnswer image
+says-summary : (layout : Layout) (image : List ℕ) (given : Summary) → SummarySays image given (summaryOf layout image) → given ≡ summaryAnswer layout image
 unfolding SummarySays summaryOf summaryAnswer verdict
-says-summary image (summary.Given sectors listed free) said = rw (said .1, said .2, said .3) (sym (unless-passed (volumeTests image) _ _ (said .0)))
-says-summary image (summary.Refused refused) said = rw (said .0) (sym (unless-met (volumeTests image) _ _ (said .1)))
+says-summary layout image (summary.Given sectors listed free) said = rw (said .1, said .2, said .3) (sym (unless-passed (volumeTests layout image) _ _ (said .0)))
+says-summary layout image (summary.Refused refused) said = rw (said .0) (sym (unless-met (volumeTests layout image) _ _ (said .1)))
 
 same-entry : (entry : Entry) (row : Row) (report : Report) → EntrySays row entry report → entry ≡ record { answer = answerOf (report .number); row = row }
 same-entry entry row report said = go (entry .answer) (entry .row) (says-answer (entry .answer) (report .number) (said .said)) (said .row-is)
@@ -40,26 +41,26 @@ pub same-result : (form : Form) (answer answer′ : Answered form) (buffer buffe
     → _≡_ {A = Result form} (record { answer = answer; buffer = buffer; image = image }) (record { answer = answer′; buffer = buffer′; image = image′ })
 same-result form answer answer′ buffer buffer′ image image′ a b i = rw (a, b, i)
 
-look-ours : {form : Form} (look : Look form) (buffer image : List ℕ) (given : Answered form) (after : List ℕ) → LookPromised look buffer image given after
-    → (given ≡ seen look buffer image .answer) × (after ≡ seen look buffer image .buffer)
+look-ours : (layout : Layout) {form : Form} (look : Look form) (buffer image : List ℕ) (given : Answered form) (after : List ℕ) → LookPromised layout look buffer image given after
+    → (given ≡ seen layout look buffer image .answer) × (after ≡ seen layout look buffer image .buffer)
 unfolding LookPromised seen Says
-look-ours call.judge buffer image given after p = (p .0, p .1 ∙ sym (splice-none buffer 0))
-look-ours call.freeCount buffer image given after p = (says-amount given (freeCountOf image) (p .0), p .1 ∙ sym (splice-none buffer 0))
-look-ours call.summarize buffer image given after p = (says-summary image given (p .said), p .left)
-look-ours (call.entry place) buffer image given after p = (same-entry given _ _ (p .said), p .left)
-look-ours (call.read name offset) buffer image given after p = (says-names (call.one name) given _ (p .said), p .left)
-look-ours (call.load name) buffer image given after p = (says-named-amount (wrongPlace name) given _ (p .said), p .left)
-look-ours call.list buffer image given after p = (says-amount given _ (p .said), p .left)
-look-ours call.pack buffer image given after p = (says-answer given _ (p .0), p .1)
+look-ours layout call.judge buffer image given after p = (p .0, p .1 ∙ sym (splice-none buffer 0))
+look-ours layout call.freeCount buffer image given after p = (says-amount given (freeCountOf layout image) (p .0), p .1 ∙ sym (splice-none buffer 0))
+look-ours layout call.summarize buffer image given after p = (says-summary layout image given (p .said), p .left)
+look-ours layout (call.entry place) buffer image given after p = (same-entry given _ _ (p .said), p .left)
+look-ours layout (call.read name offset) buffer image given after p = (says-names (call.one name) given _ (p .said), p .left)
+look-ours layout (call.load name) buffer image given after p = (says-named-amount (wrongPlace name) given _ (p .said), p .left)
+look-ours layout call.list buffer image given after p = (says-amount given _ (p .said), p .left)
+look-ours layout call.pack buffer image given after p = (says-answer given _ (p .0), p .1)
 
-pub is-ours : IsOurs
+pub is-ours : (layout : Layout) → IsOurs layout
 unfolding IsOurs Promised ours
-is-ours (call.look {form} look buffer) image r p =
-    let seen-so = look-ours look buffer image (r .answer) (r .buffer) (p .0) in
+is-ours layout (call.look {form} look buffer) image r p =
+    let seen-so = look-ours layout look buffer image (r .answer) (r .buffer) (p .0) in
     same-result form (r .answer) _ (r .buffer) _ (r .image) image (seen-so .0) (seen-so .1) (p .1)
-is-ours (call.change name change) image r p = same-result (formOf (call.change name change)) (r .answer) _ (r .buffer) [] (r .image) _ (says-names (namesOf name change) (r .answer) _ (p .0 .said)) (p .1) (p .0 .left)
-is-ours (call.format n name geometry) image r p = same-result (formOf (call.format n name geometry)) (r .answer) _ (r .buffer) [] (r .image) _ (says-names (call.one name) (r .answer) _ (p .0)) (p .2) (p .1)
+is-ours layout (call.change name change) image r p = same-result (formOf (call.change name change)) (r .answer) _ (r .buffer) [] (r .image) _ (says-names (namesOf name change) (r .answer) _ (p .0 .said)) (p .1) (p .0 .left)
+is-ours layout (call.format n name geometry) image r p = same-result (formOf (call.format n name geometry)) (r .answer) _ (r .buffer) [] (r .image) _ (says-names (call.one name) (r .answer) _ (p .0)) (p .2) (p .1)
 
-pub unique : Unique
+pub unique : (layout : Layout) → Unique layout
 unfolding Unique IsOurs
-unique c image r r′ p p′ = is-ours c image r p ∙ sym (is-ours c image r′ p′)
+unique layout c image r r′ p p′ = is-ours layout c image r p ∙ sym (is-ours layout c image r′ p′)

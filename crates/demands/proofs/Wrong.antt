@@ -11,6 +11,7 @@ use Rattle.rules.specs.Bytes.{allAre}
 use Rattle.rules.specs.Sectors.{sectorOf, sectorCount}
 use Rattle.rules.specs.Name.{nameByte, padded, nameRule}
 use Rattle.rules.specs.Map.{mapBit, count}
+use Rattle.rules.specs.declared.Layout.{Layout}
 use Rattle.rules.specs.declared.Block.{Block}
 use Rattle.rules.specs.Volume.{files, fileHolders, holders, fileIn, catalogue}
 use Rattle.rules.specs.Tests.{firstOf}
@@ -26,7 +27,7 @@ use Rattle.rules.proofs.Formatted.{formatted-length}
 use Rattle.rules.proofs.Altered.{own-inside}
 use Rattle.demands.specs.Catalogue.{named}
 use Rattle.demands.specs.Call as call
-use Rattle.demands.specs.Call.{Change, Call, Result, Version, formOf, numberIn, numberOf}
+use Rattle.demands.specs.Call.{Change, Call, Result, Version, formOf, numberIn, numberOf, changeRule}
 use Rattle.demands.specs.Ours.{seen, outcome, ours}
 use Rattle.demands.specs.CaseM.{notes, caseM}
 use Rattle.demands.specs.Bench.{diskX, geometry}
@@ -52,29 +53,29 @@ rule-x : nameRule diskX ≡ true
 unfolding nameRule nameByte padded allAre
 rule-x = refl
 
-new-volume : (n : ℕ) → 3 ≤ n → n ≤ 1600 → EmptyVolume (volume n)
+new-volume : (layout : Layout) (n : ℕ) → 3 ≤ n → n ≤ 1600 → EmptyVolume layout (volume n)
 unfolding Formatting
-new-volume n large small = formatting n diskX geometry large small rule-x
+new-volume layout n large small = formatting layout n diskX geometry large small rule-x
 
-no-files : (image : List ℕ) → EmptyVolume image → files image ≡ []
+no-files : (layout : Layout) (image : List ℕ) → EmptyVolume layout image → files image ≡ []
 unfolding catalogue
-no-files image new = go (files image) (new .empty)
+no-files layout image new = go (files image) (new .empty)
   where
     go : (ks : List ℕ) → map (fileIn image) ks ≡ [] → ks ≡ []
     go [] e = refl
     go (k ∷ ks) e = let one = ap length e in absurd (omega (arith, one))
 
-free-is : (image : List ℕ) → EmptyVolume image → (free : ℕ) → FreeIs image free → free + 2 ≡ sectorCount image
+free-is : (layout : Layout) (image : List ℕ) → EmptyVolume layout image → (free : ℕ) → FreeIs image free → free + 2 ≡ sectorCount image
 unfolding holders fileHolders
-free-is image new free counted = rw (no-files image new) at (counted .is)
+free-is layout image new free counted = rw (no-files layout image new) at (counted .is)
 
-module _ (version : Version) (all : Demand2 version) where
+module _ (layout : Layout) (version : Version) (all : Demand2 layout version) where
   -- its numbers are ours
-  number-ours : (c : Call) (image : List ℕ) → numberOf version c image ≡ numberOf ours c image
+  number-ours : (c : Call) (image : List ℕ) → numberOf version c image ≡ numberOf (ours layout) c image
   unfolding OnlyOurs
-  number-ours c image = ap (λ (r : Result (formOf c)). numberIn (formOf c) (r .answer)) (only-ours version all c image)
+  number-ours c image = ap (λ (r : Result (formOf c)). numberIn (formOf c) (r .answer)) (only-ours layout version all c image)
 
-  judges : (image : List ℕ) → numberOf version (call.look call.judge []) image ≡ verdict image
+  judges : (image : List ℕ) → numberOf version (call.look call.judge []) image ≡ verdict layout image
   unfolding ours seen
   judges image = number-ours (call.look call.judge []) image
 
@@ -82,80 +83,80 @@ module _ (version : Version) (all : Demand2 version) where
   abbrev appending : Call
   appending = call.change notes (call.append secondSector)
 
-  appends : numberOf version appending caseM ≡ 0
+  appends : numberOf version appending (caseM layout) ≡ 0
   unfolding ours outcome
-  appends = number-ours appending caseM ∙ named-number (call.one notes) (appendOf caseM notes secondSector .number) ∙ computed .appended
+  appends = number-ours appending (caseM layout) ∙ named-number (call.one notes) (appendOf layout (caseM layout) notes secondSector .number) ∙ computed layout .appended
 
-  append-marks : version appending caseM .image ≡ caseM → ⊥
+  append-marks : version appending (caseM layout) .image ≡ caseM layout → ⊥
   unfolding Means
   append-marks same =
-      let free = rw same at (all .means appending caseM (sound caseM (computed .judged)) appends .0 .free) in
+      let free = rw same at (all .means appending (caseM layout) (sound layout (caseM layout) (computed layout .judged)) appends .0 .free) in
       omega (arith, free)
 
   -- the free count of an empty volume
   counts : (n : ℕ) → 3 ≤ n → n ≤ 1600 → version (call.look call.freeCount []) (volume n) .answer ≡ amount.Given (n - 2)
   unfolding ours seen freeCountOf verdict Means Shows
   counts n large small =
-      let new = new-volume n large small in
+      let new = new-volume layout n large small in
       let counting = call.look call.freeCount [] in
-      let zero = number-ours counting (volume n) ∙ amount-number (freeCountOf (volume n)) ∙ new .judged in
+      let zero = number-ours counting (volume n) ∙ amount-number (freeCountOf layout (volume n)) ∙ new .judged in
       let given = all .means counting (volume n) (new .sound) zero .0 in
       let size : sectorCount (volume n) ≡ n = rw (formatted-length n diskX geometry refl (omega arith)) (omega arith) in
-      let free : given .free ≡ n - 2 = omega (arith, free-is (volume n) new (given .free) (given .count), size) in
+      let free : given .free ≡ n - 2 = omega (arith, free-is layout (volume n) new (given .free) (given .count), size) in
       given .is ∙ ap amount.Given free
 
-refuses-always : (version : Version) → NeverDone version → Demand2 version → ⊥
+refuses-always : (layout : Layout) (version : Version) → NeverDone version → Demand2 layout version → ⊥
 unfolding NeverDone
-refuses-always version kind all = kind (call.look call.judge []) caseM (judges version all caseM ∙ computed .judged)
+refuses-always layout version kind all = kind (call.look call.judge []) (caseM layout) (judges layout version all (caseM layout) ∙ computed layout .judged)
 
 -- the judge gives 0 to case M's volume and 1 to no bytes at all
-answers-same : (version : Version) → OneNumber version → Demand2 version → ⊥
+answers-same : (layout : Layout) (version : Version) → OneNumber version → Demand2 layout version → ⊥
 unfolding verdict volumeTests firstOf sizeRule
-answers-same version kind all =
-    let zero = sym (kind .is (call.look call.judge []) caseM) ∙ judges version all caseM ∙ computed .judged in
-    let one : kind .number ≡ 1 = sym (kind .is (call.look call.judge []) []) ∙ judges version all [] in
+answers-same layout version kind all =
+    let zero = sym (kind .is (call.look call.judge []) (caseM layout)) ∙ judges layout version all (caseM layout) ∙ computed layout .judged in
+    let one : kind .number ≡ 1 = sym (kind .is (call.look call.judge []) []) ∙ judges layout version all [] in
     omega (arith, zero, one)
 
-does-nothing : (version : Version) → DoesNothing version → Demand2 version → ⊥
+does-nothing : (layout : Layout) (version : Version) → DoesNothing version → Demand2 layout version → ⊥
 unfolding DoesNothing
-does-nothing version kind all = append-marks version all (kind (appending version all) caseM .0)
+does-nothing layout version kind all = append-marks layout version all (kind (appending layout version all) (caseM layout) .0)
 
 -- a volume of 64 sectors and one of 65
-invents-free : (version : Version) → InventsFree version → Demand2 version → ⊥
+invents-free : (layout : Layout) (version : Version) → InventsFree layout version → Demand2 layout version → ⊥
 unfolding InventsFree
-invents-free version kind all =
-    let first = counts version all 64 (omega arith) (omega arith) in
-    let second = counts version all 65 (omega arith) (omega arith) in
+invents-free layout version kind all =
+    let first = counts layout version all 64 (omega arith) (omega arith) in
+    let second = counts layout version all 65 (omega arith) (omega arith) in
     let same : amount.Given 62 ≡ amount.Given 63 =
-    sym first ∙ kind (volume 64) (volume 65) (new-volume 64 (omega arith) (omega arith) .sound) (new-volume 65 (omega arith) (omega arith) .sound) ∙ second
+    sym first ∙ kind (volume 64) (volume 65) (new-volume layout 64 (omega arith) (omega arith) .sound) (new-volume layout 65 (omega arith) (omega arith) .sound) ∙ second
     in
     let free : _≡_ {A = ℕ} 62 63 = cc in
     omega (arith, free)
 
-only-reports : (version : Version) → OnlyReports version → Demand2 version → ⊥
+only-reports : (layout : Layout) (version : Version) → OnlyReports layout version → Demand2 layout version → ⊥
 unfolding OnlyReports
-only-reports version kind all = append-marks version all (kind caseM notes secondSector (sound caseM (computed .judged)) (computed .held))
+only-reports layout version kind all = append-marks layout version all (kind (caseM layout) notes secondSector (sound layout (caseM layout) (computed layout .judged)) (computed layout .held))
 
 -- what demand 2 says of the sectors where a change was done
-touched : (version : Version) → Demand2 version → {change : Change} → (some : Instance version change) → Touches change (some .image) (after some) (some .name)
+touched : (layout : Layout) (version : Version) → Demand2 layout version → {change : Change} → (some : Instance layout version change) → Touches (changeRule layout change) change (some .image) (after some) (some .name)
 unfolding Means
-touched version all {change} some = all .means (call.change (some .name) change) (some .image) (some .sound) (some .done) .1
+touched layout version all {change} some = all .means (call.change (some .name) change) (some .image) (some .sound) (some .done) .1
 
-abbrev this-file : {version : Version} {change : Change} → (some : Instance version change) → Has (some .image) (some .name) (λ k. Unit {0})
-this-file some = record { sector = some .k; listed = some .listed; named = some .is-named; so = tt }
+abbrev this-file : (layout : Layout) {version : Version} {change : Change} → (some : Instance layout version change) → Has (some .image) (some .name) (λ k. Unit {0})
+this-file layout some = record { sector = some .k; listed = some .listed; named = some .is-named; so = tt }
 
-wipes : (version : Version) → Wipes version → Demand2 version → ⊥
+wipes : (layout : Layout) (version : Version) → Wipes layout version → Demand2 layout version → ⊥
 unfolding Touches
-wipes version kind all =
+wipes layout version kind all =
     let some = kind .some in
-    let inside = own-inside (some .image) (some .k) (some .sound) (some .listed) (kind .sector) (kind .own) in
-    kind .wiped (touched version all some .so .others (kind .sector) (inside .1) (behind-system (kind .sector) [] (inside .0) ∙ count-none (kind .sector)))
+    let inside = own-inside layout (some .image) (some .k) (some .sound) (some .listed) (kind .sector) (kind .own) in
+    kind .wiped (touched layout version all some .so .others (kind .sector) (inside .1) (behind-system (kind .sector) [] (inside .0) ∙ count-none (kind .sector)))
 
-moves-data : (version : Version) → MovesData version → Demand2 version → ⊥
+moves-data : (layout : Layout) (version : Version) → MovesData layout version → Demand2 layout version → ⊥
 unfolding Touches
-moves-data version kind all =
+moves-data layout version kind all =
     let some = kind .some in
-    kind .moved (of-first (some .image) (some .name) (some .sound) (this-file some) (touched version all some) .0 .lies .places-are)
+    kind .moved (of-first layout (some .image) (some .name) (some .sound) (this-file layout some) (touched layout version all some) .0 .lies .places-are)
 
 -- the sector taken is the lowest free one from 34 up, where there is one
 taken-low : (image : List ℕ) (before after : List Block) (places ks : List ℕ) (lower higher : ℕ) → 34 ≤ lower → lower < higher → Free image [] lower
@@ -170,24 +171,24 @@ taken-low image before after places (k ∷ []) lower higher low order free takes
     go (inr none) e = none .0 lower low free
 taken-low image before after places (k ∷ (j ∷ ks)) lower higher low order free takes one = absurd (omega (arith, one))
 
-takes-higher : (version : Version) → TakesHigher version → Demand2 version → ⊥
+takes-higher : (layout : Layout) (version : Version) → TakesHigher layout version → Demand2 layout version → ⊥
 unfolding Touches
-takes-higher version kind all =
+takes-higher layout version kind all =
     let some = kind .some in
-    let gains = touched version all some .so in
+    let gains = touched layout version all some .so in
     let apart = taken-low (some .image) _ (gains .taken .chain) _ (gains .taken .ks) (kind .lower) (kind .higher) (kind .order .0) (kind .order .1) (kind .lower-free) (gains .taken .takes) (gains .taken .so-many) in
     let stays = all-other 1 (omega arith) (sectorOf (some .image) 0) (gains .taken .ks) (kind .higher) apart in
     omega (arith, sym (kind .taken) ∙ ap (λ (s : List ℕ). mapBit s (kind .higher)) (gains .map) ∙ stays ∙ kind .higher-free .free)
 
-pub wrong-versions : WrongVersions
-wrong-versions =
+pub wrong-versions : (layout : Layout) → WrongVersions layout
+wrong-versions layout =
     record {
-      refuses-always = refuses-always;
-      answers-same = answers-same;
-      does-nothing = does-nothing;
-      invents-free = invents-free;
-      only-reports = only-reports;
-      wipes = wipes;
-      moves-data = moves-data;
-      takes-higher = takes-higher;
+      refuses-always = refuses-always layout;
+      answers-same = answers-same layout;
+      does-nothing = does-nothing layout;
+      invents-free = invents-free layout;
+      only-reports = only-reports layout;
+      wipes = wipes layout;
+      moves-data = moves-data layout;
+      takes-higher = takes-higher layout;
     }

@@ -11,6 +11,7 @@ use Rattle.rules.specs.Map.{freeCount}
 use Rattle.rules.specs.Descriptor.{sectorsOf}
 use Rattle.rules.specs.Volume.{files, nameIn, placesIn, catalogue}
 use Rattle.rules.specs.Calls.Format.{Geometry, formatted}
+use Rattle.rules.specs.declared.Layout.{Layout}
 use Rattle.demands.specs.CaseM.{alpha, notes, caseM}
 
 -- a case: its number in the paper, what the rules compute, and what the paper prints
@@ -49,9 +50,9 @@ tableOf empty35 empty360 m =
     ∷ (case 8 (part (sectorOf (packedOf m) 2) 28 3 ++ (part (sectorOf (packedOf m) 3) 28 3 ++ (byteAt (sectorOf (packedOf m) 0) 56 ∷ []))) (0x04 ∷ (0x10 ∷ (0x00 ∷ (0x06 ∷ (0x00 ∷ (0x00 ∷ (0x7F ∷ [])))))))
     ∷ (case 9 (sectorsOf (sectorOf m 2) ∷ (byteAt (sectorOf m 2) 16 ∷ [])) (2 ∷ (44 ∷ [])) ∷ []))))))))
 
-unfoldable pub table : List Case
-table = tableOf (empty 35) (empty 360) caseM
+unfoldable pub table : Layout → List Case
+table layout = tableOf (empty 35) (empty 360) (caseM layout)
 
 -- the statement: each case of the table, by its place in it
-unfoldable pub Bench : Type 0
-Bench = (p : ℕ) → p < length table → getD table p (case 0 [] []) .computed ≡ getD table p (case 0 [] []) .printed
+unfoldable pub Bench : Layout → Type 0
+Bench layout = (p : ℕ) → p < length (table layout) → getD (table layout) p (case 0 [] []) .computed ≡ getD (table layout) p (case 0 [] []) .printed

@@ -4,8 +4,10 @@ use mathlib.Core.Path.{_≡_}
 use mathlib.Core.List.{List, [], _∷_}
 use Prim.Native.Nat.{ℕ}
 use Rattle.rules.specs.Name.{IsName, WrongAt}
+use Rattle.rules.specs.Kind.{withMarks}
 use Rattle.rules.specs.Calls.Format.{Geometry}
 use Rattle.rules.specs.Calls.Entry.{noRow}
+use Rattle.rules.specs.declared.Layout.{Layout}
 use Rattle.rules.specs.declared.Answer.{Answer}
 use Rattle.rules.specs.declared.Amount.{Amount}
 use Rattle.rules.specs.declared.Summary.{Summary}
@@ -131,6 +133,7 @@ pub data Change : Type 0 where
   overwrite : (offset : ℕ) (bytes : List ℕ) → Change
   protect : Change
   unprotect : Change
+  clear : Change
   store : (bytes : List ℕ) → Change
   delete : Change
   rename : (new : List ℕ) → Change
@@ -141,6 +144,23 @@ pub data Call : Type 0 where
   change : (name : List ℕ) → Change → Call
   format : (n : ℕ) (name : List ℕ) (geometry : Geometry) → Call
 
+-- the rule that a call goes by: the one that was chosen; clearing a mark goes by the rule with marks always
+abbrev pub changeRule : Layout → Change → Layout
+changeRule layout (create status recordLength recordsPerSector) = layout
+changeRule layout (append bytes) = layout
+changeRule layout (overwrite offset bytes) = layout
+changeRule layout protect = layout
+changeRule layout unprotect = layout
+changeRule layout clear = withMarks layout
+changeRule layout (store bytes) = layout
+changeRule layout delete = layout
+changeRule layout (rename new) = layout
+
+abbrev pub ruleOf : Layout → Call → Layout
+ruleOf layout (look this buffer) = layout
+ruleOf layout (change name this) = changeRule layout this
+ruleOf layout (format n name geometry) = layout
+
 -- the names of a change
 abbrev pub namesOf : (name : List ℕ) → Change → Names
 namesOf name (create status recordLength recordsPerSector) = one name
@@ -148,6 +168,7 @@ namesOf name (append bytes) = one name
 namesOf name (overwrite offset bytes) = one name
 namesOf name protect = one name
 namesOf name unprotect = one name
+namesOf name clear = one name
 namesOf name (store bytes) = one name
 namesOf name delete = one name
 namesOf name (rename new) = both name new

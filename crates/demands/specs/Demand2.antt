@@ -1,4 +1,4 @@
--- Demand 2, a statement about any version of the software: answers and bytes are those of the layout, and through any run of calls a sound volume stays sound.
+-- Demand 2, a statement about any version of the software under one layout, to which a run of calls keeps: answers and bytes are those of the layout, and through any run of calls a sound volume stays sound.
 use mathlib.Core.Path.{_≡_}
 use mathlib.Core.List.{List, []}
 use Prim.Native.Nat.{ℕ, _+_, _≤_}
@@ -8,6 +8,7 @@ use Rattle.rules.specs.Sectors.{sectorOf, sectorCount, joined}
 use Rattle.rules.specs.Volume.{holders, catalogue}
 use Rattle.rules.specs.Sound.{Sound}
 use Rattle.rules.specs.Calls.Format.{Geometry}
+use Rattle.rules.specs.declared.Layout.{Layout}
 use Rattle.rules.specs.declared.Amount.{Amount}
 use Rattle.rules.specs.declared.Amount.the-variants as amount
 use Rattle.rules.specs.declared.NamedAmount.the-variants as loaded
@@ -21,7 +22,7 @@ use Rattle.demands.specs.Packing.{Packs}
 use Rattle.demands.specs.Formatting.{EmptyVolume, Formats}
 use Rattle.demands.specs.Catalogue.{named, fileOf, lengthIs, rowIs}
 use Rattle.demands.specs.Call as call
-use Rattle.demands.specs.Call.{Form, Look, Call, Result, Version, Carries, formOf, lent, numberOf, run}
+use Rattle.demands.specs.Call.{Form, Look, Call, Result, Version, Carries, formOf, ruleOf, lent, numberOf, run}
 use Rattle.demands.specs.Grounds.{First, grounds}
 
 -- the free count of a volume: n less the holders
@@ -39,32 +40,32 @@ pub record Summarized (image : List ℕ) (given : Summary) : Type 0 where
   pub count : FreeIs image free
 
 -- the text of the listing, put at the front of the buffer
-pub record Listed (image buffer : List ℕ) (given : Amount) (after : List ℕ) : Type 0 where
+pub record Listed (layout : Layout) (image buffer : List ℕ) (given : Amount) (after : List ℕ) : Type 0 where
   pub text : List ℕ
-  pub lists : Lists image text
+  pub lists : Lists layout image text
   pub is : given ≡ amount.Given (length text)
   pub put : after ≡ splice buffer 0 text
 
 -- what a look that was done shows of the volume; it leaves the rest of the buffer
-unfoldable pub Shows : {form : Form} → Look form → (buffer image : List ℕ) → Result form → Type 0
-Shows call.judge buffer image r = r .buffer ≡ buffer
-Shows call.freeCount buffer image r = FreeGiven image (r .answer) × (r .buffer ≡ buffer)
-Shows call.summarize buffer image r = Summarized image (r .answer) × (r .buffer ≡ splice buffer 0 (part (sectorOf image 0) 0 10))
-Shows (call.entry place) buffer image r =
+unfoldable pub Shows : Layout → {form : Form} → Look form → (buffer image : List ℕ) → Result form → Type 0
+Shows layout call.judge buffer image r = r .buffer ≡ buffer
+Shows layout call.freeCount buffer image r = FreeGiven image (r .answer) × (r .buffer ≡ buffer)
+Shows layout call.summarize buffer image r = Summarized image (r .answer) × (r .buffer ≡ splice buffer 0 (part (sectorOf image 0) 0 10))
+Shows layout (call.entry place) buffer image r =
     let file = fileOf image place in
     (r .answer ≡ record { answer = answer.Done; row = rowIs file }) × (r .buffer ≡ splice buffer 0 (file .header))
-Shows (call.read name offset) buffer image r = r .buffer ≡ splice buffer 0 (getD (named name (catalogue image) .contents) offset [])
-Shows (call.load name) buffer image r =
+Shows layout (call.read name offset) buffer image r = r .buffer ≡ splice buffer 0 (getD (named name (catalogue image) .contents) offset [])
+Shows layout (call.load name) buffer image r =
     let file = named name (catalogue image) in
     (r .answer ≡ loaded.Given (lengthIs file)) × (r .buffer ≡ splice buffer 0 (take (lengthIs file) (joined (file .contents))))
-Shows call.list buffer image r = Listed image buffer (r .answer) (r .buffer)
-Shows call.pack buffer image r = Sound (r .buffer) × Packs image (r .buffer)
+Shows layout call.list buffer image r = Listed layout image buffer (r .answer) (r .buffer)
+Shows layout call.pack buffer image r = Sound layout (r .buffer) × Packs image (r .buffer)
 
 -- what a call that was done means: of what it gives back, or on the catalogue and the sectors
-unfoldable pub Means : (c : Call) → List ℕ → Result (formOf c) → Type 0
-Means (call.look look buffer) image r = Shows look buffer image r
-Means (call.change name change) image r = Changed change image (r .image) name × Touches change image (r .image) name
-Means (call.format n name geometry) image r = EmptyVolume (r .image) × Formats n name geometry (r .image)
+unfoldable pub Means : Layout → (c : Call) → List ℕ → Result (formOf c) → Type 0
+Means layout (call.look look buffer) image r = Shows layout look buffer image r
+Means layout (call.change name change) image r = Changed layout change image (r .image) name × Touches layout change image (r .image) name
+Means layout (call.format n name geometry) image r = EmptyVolume layout (r .image) × Formats n name geometry (r .image)
 
 -- what a call leaves as it stood, done or refused: a look the image; a change the label, and every file but the one it names; formatting leaves nothing
 unfoldable pub Frame : Call → List ℕ → List ℕ → Type 0
@@ -72,7 +73,7 @@ Frame (call.look look buffer) image after = after ≡ image
 Frame (call.change name change) image after = Kept image after name
 Frame (call.format n name geometry) image after = Unit {0}
 
-pub record Demand2 (version : Version) : Type 0 where
+pub record Demand2 (layout : Layout) (version : Version) : Type 0 where
   -- what a refusal carries: its number; with 7, and with 7 alone, the place where the name is wrong, and of a rename which of its names that is; nothing else
   pub carries : (c : Call) (image : List ℕ) → Carries (formOf c) (version c image .answer)
   -- the image and the buffer lent keep their lengths
@@ -80,20 +81,20 @@ pub record Demand2 (version : Version) : Type 0 where
   -- a number other than 0 leaves every buffer as it was, whatever the image
   pub refuses : (c : Call) (image : List ℕ) → (numberOf version c image ≡ 0 → ⊥) → (version c image .image ≡ image) × (version c image .buffer ≡ lent c)
   -- a sound volume stays sound through any list of calls; what formatting makes of any image is sound
-  pub sound : (calls : List Call) (image : List ℕ) → Sound image → Sound (run version calls image)
+  pub sound : (calls : List Call) (image : List ℕ) → Sound layout image → Sound layout (run version calls image)
   pub formats : (n : ℕ) (name : List ℕ) (geometry : Geometry) (image : List ℕ) →
       let c = call.format n name geometry in
-      numberOf version c image ≡ 0 → Means c image (version c image)
+      numberOf version c image ≡ 0 → Means layout c image (version c image)
   -- the frame
-  pub frame : (c : Call) (image : List ℕ) → Sound image → Frame c image (version c image .image)
+  pub frame : (c : Call) (image : List ℕ) → Sound (ruleOf layout c) image → Frame c image (version c image .image)
   -- the meaning
-  pub means : (c : Call) (image : List ℕ) → Sound image → numberOf version c image ≡ 0 → Means c image (version c image)
+  pub means : (c : Call) (image : List ℕ) → Sound (ruleOf layout c) image → numberOf version c image ≡ 0 → Means (ruleOf layout c) c image (version c image)
   -- progress: the number is that of the first ground that is there, and 0 exactly where none is
-  pub progress : (c : Call) (image : List ℕ) → First (numberOf version c image) (grounds c image)
+  pub progress : (c : Call) (image : List ℕ) → First (numberOf version c image) (grounds (ruleOf layout c) c image)
 
 -- So what was stored is what a load gives, its bytes and their number, whatever the length, in every version that meets it.
-unfoldable pub StoredLoads : Type 0
-StoredLoads = (version : Version) → Demand2 version → (name bytes buffer image : List ℕ) → Sound image → length bytes ≤ length buffer →
+unfoldable pub StoredLoads : Layout → Type 0
+StoredLoads layout = (version : Version) → Demand2 layout version → (name bytes buffer image : List ℕ) → Sound layout image → length bytes ≤ length buffer →
     let c = call.change name (call.store bytes) in
     let program = version (call.look (call.load name) buffer) (version c image .image) in
     numberOf version c image ≡ 0 → (program .answer ≡ loaded.Given (length bytes)) × (program .buffer ≡ splice buffer 0 bytes)

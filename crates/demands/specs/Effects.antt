@@ -9,7 +9,8 @@ use Rattle.rules.specs.Sectors.{sectorOf}
 use Rattle.rules.specs.Map.{count, freeCount}
 use Rattle.rules.specs.Volume.{File, files, nameIn, placesIn, catalogue}
 use Rattle.rules.specs.Sound.{Sound}
-use Rattle.rules.specs.Kind.{sectorsFor}
+use Rattle.rules.specs.Kind.{sectorsFor, marking}
+use Rattle.rules.specs.declared.Layout.{Layout}
 use Rattle.demands.specs.Catalogue.{putIn, takenOut, changed, named, held}
 use Rattle.demands.specs.Call as call
 use Rattle.demands.specs.Call.{Change}
@@ -31,8 +32,8 @@ abbrev pub effect : (expected : List File) (took gave : ℕ) → Effect
 effect expected took gave = record { expected = expected; took = took; gave = gave }
 
 -- what a change of the file of that name leaves where it was done
-pub record Done (image after name : List ℕ) (effect : Effect) : Type 0 where
-  pub sound : Sound after
+pub record Done (layout : Layout) (image after name : List ℕ) (effect : Effect) : Type 0 where
+  pub sound : Sound layout after
   pub size : length after ≡ length image
   pub kept : Kept image after name
   pub catalogue-is : catalogue after ≡ effect .expected
@@ -48,10 +49,14 @@ unfoldable pub pieces : ℕ → List ℕ → List (List ℕ)
 pieces zero bytes = []
 pieces (suc many) bytes = over (replicate 256 0) bytes ∷ pieces many (drop 256 bytes)
 
-abbrev pub newProgram : List ℕ → List ℕ → File
-newProgram name bytes =
+abbrev pub newProgram : Layout → List ℕ → List ℕ → File
+newProgram layout name bytes =
     let c = sectorsFor (length bytes) in
-    record { header = newHeader name 0x01 0 c (length bytes % 256) 0; contents = pieces c bytes }
+    record { header = newHeader name (marking layout 0x01) 0 c (length bytes % 256) 0; contents = pieces c bytes }
+
+-- a file that a call changes: by the rule with marks it is marked
+unfoldable pub markedFile : Layout → File → File
+markedFile layout file = record { header = set (file .header) 12 (marking layout (byteAt (file .header) 12)); contents = file .contents }
 
 -- a file with a sector more at its end
 unfoldable pub longer : List ℕ → File → File
@@ -61,25 +66,26 @@ longer bytes file = record { header = splice (file .header) 14 (wordBytes (lengt
 unfoldable pub overwritten : ℕ → List ℕ → File → File
 overwritten offset bytes file = record { header = file .header; contents = set (file .contents) offset bytes }
 
--- with its protection made `bit`
-unfoldable pub withProtection : ℕ → File → File
-withProtection bit file = record { header = set (file .header) 12 (withBit (byteAt (file .header) 12) 3 bit); contents = file .contents }
+-- with bit j of its status made `bit`: 3 is the protection, 4 the mark
+unfoldable pub withStatus : (j bit : ℕ) → File → File
+withStatus j bit file = record { header = set (file .header) 12 (withBit (byteAt (file .header) 12) j bit); contents = file .contents }
 
 -- under another name
 unfoldable pub renamed : List ℕ → File → File
 renamed name file = record { header = splice (file .header) 0 name; contents = file .contents }
 
--- on the files of a catalogue: create and store put a file in; append, overwrite, protect and unprotect change the one of that name; delete takes it out; rename takes it out and puts it in anew
-abbrev pub effectOf : Change → (name : List ℕ) → List File → Effect
-effectOf (call.create status recordLength recordsPerSector) name files =
-    effect (putIn (record { header = newHeader name status recordsPerSector 0 0 recordLength; contents = [] }) files) 1 0
-effectOf (call.store bytes) name files = effect (putIn (newProgram name bytes) files) (1 + sectorsFor (length bytes)) 0
-effectOf (call.append bytes) name files = effect (changed name (longer bytes) files) 1 0
-effectOf (call.overwrite offset bytes) name files = effect (changed name (overwritten offset bytes) files) 0 0
-effectOf call.protect name files = effect (changed name (withProtection 1) files) 0 0
-effectOf call.unprotect name files = effect (changed name (withProtection 0) files) 0 0
-effectOf call.delete name files = effect (takenOut name files) 0 (held (named name files))
-effectOf (call.rename new) name files = effect (putIn (renamed new (named name files)) (takenOut name files)) 0 0
+-- on the files of a catalogue: create and store put a file in; append, overwrite, protect, unprotect and clear change the one of that name; delete takes it out; rename takes it out and puts it in anew. By the rule with marks create, store, append, overwrite and rename mark it
+abbrev pub effectOf : Layout → Change → (name : List ℕ) → List File → Effect
+effectOf layout (call.create status recordLength recordsPerSector) name files =
+    effect (putIn (record { header = newHeader name (marking layout status) recordsPerSector 0 0 recordLength; contents = [] }) files) 1 0
+effectOf layout (call.store bytes) name files = effect (putIn (newProgram layout name bytes) files) (1 + sectorsFor (length bytes)) 0
+effectOf layout (call.append bytes) name files = effect (changed name (λ file. longer bytes (markedFile layout file)) files) 1 0
+effectOf layout (call.overwrite offset bytes) name files = effect (changed name (λ file. overwritten offset bytes (markedFile layout file)) files) 0 0
+effectOf layout call.protect name files = effect (changed name (withStatus 3 1) files) 0 0
+effectOf layout call.unprotect name files = effect (changed name (withStatus 3 0) files) 0 0
+effectOf layout call.clear name files = effect (changed name (withStatus 4 0) files) 0 0
+effectOf layout call.delete name files = effect (takenOut name files) 0 (held (named name files))
+effectOf layout (call.rename new) name files = effect (putIn (renamed new (markedFile layout (named name files))) (takenOut name files)) 0 0
 
-abbrev pub Changed : Change → (image after name : List ℕ) → Type 0
-Changed change image after name = Done image after name (effectOf change name (catalogue image))
+abbrev pub Changed : Layout → Change → (image after name : List ℕ) → Type 0
+Changed layout change image after name = Done layout image after name (effectOf layout change name (catalogue image))

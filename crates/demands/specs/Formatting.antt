@@ -9,10 +9,11 @@ use Rattle.rules.specs.Volume.{catalogue}
 use Rattle.rules.specs.Verdict.{verdict}
 use Rattle.rules.specs.Sound.{Sound}
 use Rattle.rules.specs.Calls.Format.{Geometry}
+use Rattle.rules.specs.declared.Layout.{Layout}
 
-pub record EmptyVolume (image : List ℕ) : Type 0 where
-  pub sound : Sound image
-  pub judged : verdict image ≡ 0
+pub record EmptyVolume (layout : Layout) (image : List ℕ) : Type 0 where
+  pub sound : Sound layout image
+  pub judged : verdict layout image ≡ 0
   pub empty : catalogue image ≡ []
 
 -- disk name; n, sectors per track, "DSK", a space, tracks, sides, density; zeros at 20-55; the map; a zero sector 1; and E5 hex in every other byte

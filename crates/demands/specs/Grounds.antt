@@ -15,6 +15,7 @@ use Rattle.rules.specs.Descriptor.{statusOf, sectorsOf, chainOf, IsDescriptor}
 use Rattle.rules.specs.Index.{IsIndex}
 use Rattle.rules.specs.Volume.{files, nameIn, placesIn, holders}
 use Rattle.rules.specs.Sound.{fileAt}
+use Rattle.rules.specs.declared.Layout.{Layout}
 use Rattle.rules.specs.declared.Block.{Block}
 use Rattle.demands.specs.Taking.{ForDescriptor, Taken}
 use Rattle.demands.specs.Lines.{Lists}
@@ -38,8 +39,8 @@ pub record IsSize (image : List ℕ) : Type 0 where
   pub whole : length image ≡ 256 * sectorCount image
   pub range : (3 ≤ sectorCount image) × (sectorCount image ≤ 1600)
 
-pub record HasDescriptors (image : List ℕ) : Type 0 where
-  pub descriptors : (p : ℕ) → p < length (files image) → IsDescriptor (sectorCount image) (sectorOf image (fileAt image p))
+pub record HasDescriptors (layout : Layout) (image : List ℕ) : Type 0 where
+  pub descriptors : (p : ℕ) → p < length (files image) → IsDescriptor layout (sectorCount image) (sectorOf image (fileAt image p))
   pub ascending : (p q : ℕ) → p < q → q < length (files image) → Before (nameIn image (fileAt image p)) (nameIn image (fileAt image q))
 
 pub record HeldTwice (image : List ℕ) : Type 0 where
@@ -50,12 +51,12 @@ pub record HasMap (image : List ℕ) : Type 0 where
   pub marked : (k : ℕ) → k < sectorCount image → mapBit (sectorOf image 0) k ≡ count k (holders image)
   pub filled : (k : ℕ) → sectorCount image ≤ k → k < 1600 → mapBit (sectorOf image 0) k ≡ 1
 
-unfoldable pub faults : List ℕ → List {1} Ground
-faults image =
+unfoldable pub faults : Layout → List ℕ → List {1} Ground
+faults layout image =
     ground 1 (IsSize image → ⊥)
     ∷ (ground 2 (IsLabel (sectorCount image) (sectorOf image 0) → ⊥)
     ∷ (ground 3 (IsIndex (sectorCount image) (sectorOf image 1) → ⊥)
-    ∷ (ground 4 (HasDescriptors image → ⊥)
+    ∷ (ground 4 (HasDescriptors layout image → ⊥)
     ∷ (ground 5 (HeldTwice image)
     ∷ (ground 6 (HasMap image → ⊥) ∷ [])))))
 
@@ -90,27 +91,27 @@ pub record NewOverfull (image : List ℕ) (many : ℕ) : Type 0 where
   pub overfull : Overfull image (k ∷ []) [] [] many
 
 -- 15: the text of the listing is longer than the buffer
-pub record TextOver (image : List ℕ) (room : ℕ) : Type 0 where
+pub record TextOver (layout : Layout) (image : List ℕ) (room : ℕ) : Type 0 where
   pub text : List ℕ
-  pub lists : Lists image text
+  pub lists : Lists layout image text
   pub over : room < length text
 
 -- of a look, on a sound volume
-unfoldable pub lookGrounds : {form : Form} → Look form → (buffer image : List ℕ) → List {1} Ground
-lookGrounds call.judge buffer image = []
-lookGrounds call.freeCount buffer image = []
-lookGrounds call.summarize buffer image = []
-lookGrounds (call.entry place) buffer image = ground 8 (length (files image) ≤ place) ∷ (ground 15 (length buffer < 28) ∷ [])
-lookGrounds (call.read name offset) buffer image =
+unfoldable pub lookGrounds : Layout → {form : Form} → Look form → (buffer image : List ℕ) → List {1} Ground
+lookGrounds layout call.judge buffer image = []
+lookGrounds layout call.freeCount buffer image = []
+lookGrounds layout call.summarize buffer image = []
+lookGrounds layout (call.entry place) buffer image = ground 8 (length (files image) ≤ place) ∷ (ground 15 (length buffer < 28) ∷ [])
+lookGrounds layout (call.read name offset) buffer image =
     ground 7 (IsName name → ⊥)
     ∷ (ground 8 (Present image name → ⊥)
     ∷ (ground 15 (Has image name (λ k. sectorsOf (sectorOf image k) ≤ offset)) ∷ (ground 15 (length buffer < 256) ∷ [])))
-lookGrounds (call.load name) buffer image =
+lookGrounds layout (call.load name) buffer image =
     ground 7 (IsName name → ⊥)
     ∷ (ground 8 (Present image name → ⊥)
     ∷ (ground 14 (Has image name (λ k. isProgram image k → ⊥)) ∷ (ground 15 (Has image name (λ k. length buffer < programLength (sectorsOf (sectorOf image k)) (byteAt (sectorOf image k) 16))) ∷ [])))
-lookGrounds call.list buffer image = ground 15 (TextOver image (length buffer)) ∷ []
-lookGrounds call.pack buffer image = ground 15 (length buffer ≡ length image → ⊥) ∷ []
+lookGrounds layout call.list buffer image = ground 15 (TextOver layout image (length buffer)) ∷ []
+lookGrounds layout call.pack buffer image = ground 15 (length buffer ≡ length image → ⊥) ∷ []
 
 -- of a change, on a sound volume and under a name that keeps its rule
 unfoldable pub changeGrounds : Change → (image name : List ℕ) → List {1} Ground
@@ -129,6 +130,7 @@ changeGrounds (call.overwrite offset bytes) image name =
     ∷ (ground 15 (Has image name (λ k. sectorsOf (sectorOf image k) ≤ offset)) ∷ (ground 15 (length bytes ≡ 256 → ⊥) ∷ []))))
 changeGrounds call.protect image name = ground 8 (Present image name → ⊥) ∷ []
 changeGrounds call.unprotect image name = ground 8 (Present image name → ⊥) ∷ []
+changeGrounds call.clear image name = ground 8 (Present image name → ⊥) ∷ []
 changeGrounds (call.store bytes) image name =
     ground 9 (Present image name)
     ∷ (ground 15 (32768 < length bytes)
@@ -139,8 +141,8 @@ changeGrounds (call.rename new) image name =
     ground 7 (IsName new → ⊥)
     ∷ (ground 8 (Present image name → ⊥) ∷ (ground 9 (Present image new) ∷ (ground 10 (Has image name (isProtected image)) ∷ [])))
 
-unfoldable pub grounds : Call → List ℕ → List {1} Ground
-grounds (call.look look buffer) image = faults image ++ lookGrounds look buffer image
-grounds (call.change name change) image = faults image ++ (ground 7 (IsName name → ⊥) ∷ changeGrounds change image name)
-grounds (call.format n name geometry) image =
+unfoldable pub grounds : Layout → Call → List ℕ → List {1} Ground
+grounds layout (call.look look buffer) image = faults layout image ++ lookGrounds layout look buffer image
+grounds layout (call.change name change) image = faults layout image ++ (ground 7 (IsName name → ⊥) ∷ changeGrounds change image name)
+grounds layout (call.format n name geometry) image =
     ground 1 (IsSize image → ⊥) ∷ (ground 1 (n ≡ sectorCount image → ⊥) ∷ (ground 7 (IsName name → ⊥) ∷ []))

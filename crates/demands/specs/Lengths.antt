@@ -6,6 +6,7 @@ use lib.ListN.{length}
 use Rattle.rules.specs.Bytes.{byteAt, bitOf}
 use Rattle.rules.specs.Volume.{File, catalogue}
 use Rattle.rules.specs.Sound.{Sound}
+use Rattle.rules.specs.declared.Layout.{Layout}
 use Rattle.demands.specs.Catalogue.{fileOf, named, lengthIs}
 use Rattle.demands.specs.Call as call
 use Rattle.demands.specs.Call.{Version, numberOf}
@@ -19,14 +20,14 @@ pub record OfLength (file : File) (size : ℕ) : Type 0 where
   pub long : lengthIs file ≡ size
 
 -- what was stored is a program of as many bytes as were lent, in every version that meets demand 2
-unfoldable pub StoredLength : Type 0
-StoredLength = (version : Version) → Demand2 version → (name bytes image : List ℕ) → Sound image →
+unfoldable pub StoredLength : Layout → Type 0
+StoredLength layout = (version : Version) → Demand2 layout version → (name bytes image : List ℕ) → Sound layout image →
     let c = call.change name (call.store bytes) in
     numberOf version c image ≡ 0 → OfLength (named name (catalogue (version c image .image))) (length bytes)
 
 -- and so is every program of a sound volume of bytes, whoever stored it: one of as many bytes as its length
-unfoldable pub EveryLength : Type 0
-EveryLength = (image : List ℕ) → Sound image → ((i : ℕ) → byteAt image i < 256) → (p : ℕ) → p < length (catalogue image) →
+unfoldable pub EveryLength : Layout → Type 0
+EveryLength layout = (image : List ℕ) → Sound layout image → ((i : ℕ) → byteAt image i < 256) → (p : ℕ) → p < length (catalogue image) →
     let file = fileOf image p in
     bitOf (byteAt (file .header) 12) 0 ≡ 1 → OfLength file (lengthIs file)
 

@@ -14,6 +14,7 @@ pub mod Formatting
 pub mod Does
 pub mod Packing
 pub mod Demand2
+pub mod Rules
 pub mod Lengths
 pub mod Wrong
 pub mod Unique

@@ -1,4 +1,4 @@
--- The catalogue program's lines, as facts about a volume and a text. First line: disk name, n, free count. Then one line a file in name order: name, kind (PROGRAM, DIS/FIX, DIS/VAR, INT/FIX, INT/VAR), length in bytes for a program or else record length, sectors, P or U for protected or not. Fields are parted by one space, names without their padding; every line ends in one newline.
+-- The catalogue program's lines, as facts about a volume and a text. First line: disk name, n, free count. Then one line a file in name order: name, kind (PROGRAM, DIS/FIX, DIS/VAR, INT/FIX, INT/VAR), length in bytes for a program or else record length, sectors, P or U for protected or not; by the rule with marks a last field, M for marked or a hyphen. Fields are parted by one space, names without their padding; every line ends in one newline.
 use mathlib.Core.Path.{_≡_}
 use mathlib.Core.Bool.{true, false}
 use mathlib.Core.List.{List, [], _∷_, _++_}
@@ -7,6 +7,7 @@ use lib.ListN.{length, getD, replicate}
 use Rattle.rules.specs.Bytes.{byteAt, bitOf, part}
 use Rattle.rules.specs.Sectors.{sectorOf, sectorCount, joined}
 use Rattle.rules.specs.Volume.{File, catalogue, holders}
+use Rattle.rules.specs.declared.Layout.{Layout}
 use Rattle.rules.specs.declared.Kind.{Kind}
 use Rattle.rules.specs.declared.Kind.the-variants.{Program, Fixed, Variable}
 use Rattle.demands.specs.Catalogue.{fileName, fileOf, kindIs}
@@ -36,6 +37,12 @@ pub record IsUnpadded (name word : List ℕ) : Type 0 where
 pub record IsProtection (status : ℕ) (word : List ℕ) : Type 0 where
   pub protected : bitOf status 3 ≡ 1 → word ≡ 0x50 ∷ []
   pub unprotected : bitOf status 3 ≡ 0 → word ≡ 0x55 ∷ []
+
+-- by the rule with marks there is one word more, M or a hyphen, by the 10 bit of a status
+pub record AreMarks (layout : Layout) (status : ℕ) (words : List (List ℕ)) : Type 0 where
+  pub marked : layout .marks ≡ true → bitOf status 4 ≡ 1 → words ≡ (0x4D ∷ []) ∷ []
+  pub unmarked : layout .marks ≡ true → bitOf status 4 ≡ 0 → words ≡ (0x2D ∷ []) ∷ []
+  pub without : layout .marks ≡ false → words ≡ []
 
 -- PROGRAM, DIS/FIX, DIS/VAR, INT/FIX, INT/VAR
 unfoldable pub wordOf : Kind → List ℕ
@@ -69,7 +76,7 @@ pub record IsDiskLine (image line : List ℕ) : Type 0 where
   pub free-is : IsDecimal count free
   pub is : line ≡ parted (name ∷ (size ∷ (free ∷ [])))
 
-pub record IsFileLine (file : File) (line : List ℕ) : Type 0 where
+pub record IsFileLine (layout : Layout) (file : File) (line : List ℕ) : Type 0 where
   pub name : List ℕ
   pub name-is : IsUnpadded (fileName file) name
   pub size : List ℕ
@@ -78,13 +85,15 @@ pub record IsFileLine (file : File) (line : List ℕ) : Type 0 where
   pub sectors-are : IsDecimal (length (file .contents)) sectors
   pub protection : List ℕ
   pub protection-is : IsProtection (byteAt (file .header) 12) protection
-  pub is : line ≡ parted (name ∷ (wordOf (kindIs file) ∷ (size ∷ (sectors ∷ (protection ∷ [])))))
+  pub marks : List (List ℕ)
+  pub marks-are : AreMarks layout (byteAt (file .header) 12) marks
+  pub is : line ≡ parted (name ∷ (wordOf (kindIs file) ∷ (size ∷ (sectors ∷ (protection ∷ marks)))))
 
 -- the text: the first line, and then a line for each file of the catalogue, in its order
-pub record Lists (image text : List ℕ) : Type 0 where
+pub record Lists (layout : Layout) (image text : List ℕ) : Type 0 where
   pub first : List ℕ
   pub first-is : IsDiskLine image first
   pub lines : List (List ℕ)
   pub many : length lines ≡ length (catalogue image)
-  pub each : (p : ℕ) → p < length lines → IsFileLine (fileOf image p) (getD lines p [])
+  pub each : (p : ℕ) → p < length lines → IsFileLine layout (fileOf image p) (getD lines p [])
   pub is : text ≡ first ++ joined lines

@@ -16,11 +16,12 @@ use Rattle.rules.specs.Calls.Listing.{listingOf}
 use Rattle.rules.specs.Calls.Create.{createOf}
 use Rattle.rules.specs.Calls.Append.{appendOf}
 use Rattle.rules.specs.Calls.Overwrite.{overwriteOf}
-use Rattle.rules.specs.Calls.Protect.{protectOf, unprotectOf}
+use Rattle.rules.specs.Calls.Protect.{protectOf, unprotectOf, clearOf}
 use Rattle.rules.specs.Calls.Store.{storeOf}
 use Rattle.rules.specs.Calls.Delete.{deleteOf}
 use Rattle.rules.specs.Calls.Rename.{renameOf}
 use Rattle.rules.specs.Calls.Pack.{packNumber, afterPack}
+use Rattle.rules.specs.declared.Layout.{Layout}
 use Rattle.demands.specs.Call as call
 use Rattle.demands.specs.Call.{Names, Form, AnsweredTo, Answered, Look, Change, Version, namesOf}
 
@@ -37,31 +38,32 @@ pub record Seen (form : Form) : Type 0 where
 abbrev putting : {form : Form} → Answered form → (bytes buffer : List ℕ) → Seen form
 putting answer bytes buffer = record { answer = answer; buffer = splice buffer 0 bytes }
 
-unfoldable pub seen : {form : Form} → Look form → (buffer image : List ℕ) → Seen form
-seen call.judge buffer image = putting (verdict image) [] buffer
-seen call.freeCount buffer image = putting (amountOf (freeCountOf image)) [] buffer
-seen call.summarize buffer image = putting (summaryAnswer image) (summaryOf image .bytes) buffer
-seen (call.entry place) buffer image =
-    putting (record { answer = answerOf (entryOf image place (length buffer) .number); row = entryRow image place (length buffer) }) (entryOf image place (length buffer) .bytes) buffer
-seen (call.read name offset) buffer image =
-    putting (answered (call.one name) (readOf image name offset (length buffer) .number)) (readOf image name offset (length buffer) .bytes) buffer
-seen (call.load name) buffer image =
-    putting (namedAmountOf (wrongPlace name) (loadOf image name (length buffer))) (loadOf image name (length buffer) .bytes) buffer
-seen call.list buffer image = putting (amountOf (listingOf image (length buffer))) (listingOf image (length buffer) .bytes) buffer
-seen call.pack buffer image = record { answer = answerOf (packNumber image buffer); buffer = afterPack image buffer }
+unfoldable pub seen : Layout → {form : Form} → Look form → (buffer image : List ℕ) → Seen form
+seen layout call.judge buffer image = putting (verdict layout image) [] buffer
+seen layout call.freeCount buffer image = putting (amountOf (freeCountOf layout image)) [] buffer
+seen layout call.summarize buffer image = putting (summaryAnswer layout image) (summaryOf layout image .bytes) buffer
+seen layout (call.entry place) buffer image =
+    putting (record { answer = answerOf (entryOf layout image place (length buffer) .number); row = entryRow layout image place (length buffer) }) (entryOf layout image place (length buffer) .bytes) buffer
+seen layout (call.read name offset) buffer image =
+    putting (answered (call.one name) (readOf layout image name offset (length buffer) .number)) (readOf layout image name offset (length buffer) .bytes) buffer
+seen layout (call.load name) buffer image =
+    putting (namedAmountOf (wrongPlace name) (loadOf layout image name (length buffer))) (loadOf layout image name (length buffer) .bytes) buffer
+seen layout call.list buffer image = putting (amountOf (listingOf layout image (length buffer))) (listingOf layout image (length buffer) .bytes) buffer
+seen layout call.pack buffer image = record { answer = answerOf (packNumber layout image buffer); buffer = afterPack layout image buffer }
 
 -- what a change of the file of that name gives: its number, and the sectors that it writes
-unfoldable pub outcome : Change → (image name : List ℕ) → Outcome
-outcome (call.create status recordLength recordsPerSector) image name = createOf image name status recordLength recordsPerSector
-outcome (call.append bytes) image name = appendOf image name bytes
-outcome (call.overwrite offset bytes) image name = overwriteOf image name offset bytes
-outcome call.protect image name = protectOf image name
-outcome call.unprotect image name = unprotectOf image name
-outcome (call.store bytes) image name = storeOf image name bytes
-outcome call.delete image name = deleteOf image name
-outcome (call.rename new) image name = renameOf image name new
+unfoldable pub outcome : Layout → Change → (image name : List ℕ) → Outcome
+outcome layout (call.create status recordLength recordsPerSector) image name = createOf layout image name status recordLength recordsPerSector
+outcome layout (call.append bytes) image name = appendOf layout image name bytes
+outcome layout (call.overwrite offset bytes) image name = overwriteOf layout image name offset bytes
+outcome layout call.protect image name = protectOf layout image name
+outcome layout call.unprotect image name = unprotectOf layout image name
+outcome layout call.clear image name = clearOf layout image name
+outcome layout (call.store bytes) image name = storeOf layout image name bytes
+outcome layout call.delete image name = deleteOf layout image name
+outcome layout (call.rename new) image name = renameOf layout image name new
 
-unfoldable pub ours : Version
-ours (call.look look buffer) image = record { answer = seen look buffer image .answer; buffer = seen look buffer image .buffer; image = image }
-ours (call.change name change) image = record { answer = answered (namesOf name change) (outcome change image name .number); buffer = []; image = written image (outcome change image name .writes) }
-ours (call.format n name geometry) image = record { answer = answered (call.one name) (formatNumber image n name); buffer = []; image = afterFormat image n name geometry }
+unfoldable pub ours : Layout → Version
+ours layout (call.look look buffer) image = record { answer = seen layout look buffer image .answer; buffer = seen layout look buffer image .buffer; image = image }
+ours layout (call.change name change) image = record { answer = answered (namesOf name change) (outcome layout change image name .number); buffer = []; image = written image (outcome layout change image name .writes) }
+ours layout (call.format n name geometry) image = record { answer = answered (call.one name) (formatNumber image n name); buffer = []; image = afterFormat image n name geometry }

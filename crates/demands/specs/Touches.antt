@@ -1,6 +1,7 @@
 -- Which sectors a change touches, and what it leaves there; every other sector stands as it stood. In the words of the choices where the layout is free. What a file then holds, header
 -- and contents, the catalogue says (Effects).
 use mathlib.Core.Path.{_≡_}
+use mathlib.Core.Bool.{cond}
 use mathlib.Core.List.{List, [], _∷_, _++_}
 use Prim.Native.Nat.{ℕ, _+_, _≤_, _<_}
 use lib.ListN.{length, getD}
@@ -11,6 +12,7 @@ use Rattle.rules.specs.Kind.{sectorsFor}
 use Rattle.rules.specs.Descriptor.{chainOf}
 use Rattle.rules.specs.Index.{indexOf}
 use Rattle.rules.specs.Volume.{files, nameIn, placesIn}
+use Rattle.rules.specs.declared.Layout.{Layout}
 use Rattle.rules.specs.declared.Block.{Block}
 use Rattle.demands.specs.Call as call
 use Rattle.demands.specs.Call.{Change}
@@ -59,15 +61,20 @@ pub record Leaves (image after : List ℕ) (k : ℕ) : Type 0 where
   pub numbers : Numbers image after (k ∷ []) []
   pub others : Others image after (0 ∷ (1 ∷ []))
 
+-- overwriting touches a data sector, and by the rule with marks the descriptor before it
+abbrev pub overwriteTouches : Layout → (k place : ℕ) → List ℕ
+overwriteTouches layout k place = cond (layout .marks) (k ∷ (place ∷ [])) (place ∷ [])
+
 -- change by change: k is the sector of the descriptor of the file of that name
-unfoldable pub Touches : Change → (image after name : List ℕ) → Type 0
-Touches (call.create status recordLength recordsPerSector) image after name = Enters image after name 0
-Touches (call.store bytes) image after name = Enters image after name (sectorsFor (length bytes))
-Touches (call.append bytes) image after name =
+unfoldable pub Touches : Layout → Change → (image after name : List ℕ) → Type 0
+Touches layout (call.create status recordLength recordsPerSector) image after name = Enters image after name 0
+Touches layout (call.store bytes) image after name = Enters image after name (sectorsFor (length bytes))
+Touches layout (call.append bytes) image after name =
     Has image name (λ k. Gains image after name k [] (placesIn image k) (blocks (chainOf (sectorOf image k))) 1 (0 ∷ []))
-Touches (call.overwrite offset bytes) image after name =
-    Has image name (λ k. (offset < length (placesIn image k)) × Stays image after name k (getD (placesIn image k) offset 0 ∷ []))
-Touches call.protect image after name = Has image name (λ k. Stays image after name k (k ∷ []))
-Touches call.unprotect image after name = Has image name (λ k. Stays image after name k (k ∷ []))
-Touches call.delete image after name = Has image name (Leaves image after)
-Touches (call.rename new) image after name = Has image name (λ k. Stays image after new k (1 ∷ (k ∷ [])) × Numbers image after [] [])
+Touches layout (call.overwrite offset bytes) image after name =
+    Has image name (λ k. (offset < length (placesIn image k)) × Stays image after name k (overwriteTouches layout k (getD (placesIn image k) offset 0)))
+Touches layout call.protect image after name = Has image name (λ k. Stays image after name k (k ∷ []))
+Touches layout call.unprotect image after name = Has image name (λ k. Stays image after name k (k ∷ []))
+Touches layout call.clear image after name = Has image name (λ k. Stays image after name k (k ∷ []))
+Touches layout call.delete image after name = Has image name (Leaves image after)
+Touches layout (call.rename new) image after name = Has image name (λ k. Stays image after new k (1 ∷ (k ∷ [])) × Numbers image after [] [])

@@ -14,22 +14,23 @@ use Rattle.rules.specs.Calls.Read.{readOf}
 use Rattle.rules.specs.Calls.Load.{loadOf}
 use Rattle.rules.specs.Calls.Listing.{listingOf}
 use Rattle.rules.specs.Calls.Pack.{packNumber, afterPack}
+use Rattle.rules.specs.declared.Layout.{Layout}
 use Rattle.demands.specs.Call as call
 use Rattle.demands.specs.Call.{Names, Form, AnsweredTo, Answered, Look, Call, Result, Version, namesOf, formOf}
 use Rattle.demands.specs.Ours.{outcome, ours}
 use Rattle.demands.specs.Demand2.{Demand2}
 
 -- the contract of a look in the code: what its answer says, and the buffer afterwards; where none is lent, it stays
-unfoldable pub LookPromised : {form : Form} → Look form → (buffer image : List ℕ) → Answered form → (after : List ℕ) → Type 0
-LookPromised call.judge buffer image given after = (given ≡ verdict image) × (after ≡ buffer)
-LookPromised call.freeCount buffer image given after = AmountSays given (freeCountOf image) × (after ≡ buffer)
-LookPromised call.summarize buffer image given after = Gives (SummarySays image) (summaryOf image) given buffer after
-LookPromised (call.entry place) buffer image given after =
-    Gives (EntrySays (entryRow image place (length buffer))) (entryOf image place (length buffer)) given buffer after
-LookPromised (call.read name offset) buffer image given after = Gives (ReadSays (wrongPlace name)) (readOf image name offset (length buffer)) given buffer after
-LookPromised (call.load name) buffer image given after = Gives (NamedAmountSays (wrongPlace name)) (loadOf image name (length buffer)) given buffer after
-LookPromised call.list buffer image given after = Gives AmountSays (listingOf image (length buffer)) given buffer after
-LookPromised call.pack buffer image given after = AnswerSays given (packNumber image buffer) × (after ≡ afterPack image buffer)
+unfoldable pub LookPromised : Layout → {form : Form} → Look form → (buffer image : List ℕ) → Answered form → (after : List ℕ) → Type 0
+LookPromised layout call.judge buffer image given after = (given ≡ verdict layout image) × (after ≡ buffer)
+LookPromised layout call.freeCount buffer image given after = AmountSays given (freeCountOf layout image) × (after ≡ buffer)
+LookPromised layout call.summarize buffer image given after = Gives (SummarySays image) (summaryOf layout image) given buffer after
+LookPromised layout (call.entry place) buffer image given after =
+    Gives (EntrySays (entryRow layout image place (length buffer))) (entryOf layout image place (length buffer)) given buffer after
+LookPromised layout (call.read name offset) buffer image given after = Gives (ReadSays (wrongPlace name)) (readOf layout image name offset (length buffer)) given buffer after
+LookPromised layout (call.load name) buffer image given after = Gives (NamedAmountSays (wrongPlace name)) (loadOf layout image name (length buffer)) given buffer after
+LookPromised layout call.list buffer image given after = Gives AmountSays (listingOf layout image (length buffer)) given buffer after
+LookPromised layout call.pack buffer image given after = AnswerSays given (packNumber layout image buffer) × (after ≡ afterPack layout image buffer)
 
 -- what the answer of a call that takes names says
 unfoldable pub Says : (names : Names) → AnsweredTo names → ℕ → Type 0
@@ -37,21 +38,21 @@ Says (call.one name) given number = NamedSays (wrongPlace name) given number
 Says (call.both old new) given number = RenameSays (wrongPlace old) (wrongPlace new) given number
 
 -- and of a call
-unfoldable pub Promised : (c : Call) → List ℕ → Result (formOf c) → Type 0
-Promised (call.look look buffer) image r = LookPromised look buffer image (r .answer) (r .buffer) × (r .image ≡ image)
-Promised (call.change name change) image r = Meets (Says (namesOf name change)) (outcome change image name) (r .answer) image (r .image) × (r .buffer ≡ [])
-Promised (call.format n name geometry) image r =
+unfoldable pub Promised : Layout → (c : Call) → List ℕ → Result (formOf c) → Type 0
+Promised layout (call.look look buffer) image r = LookPromised layout look buffer image (r .answer) (r .buffer) × (r .image ≡ image)
+Promised layout (call.change name change) image r = Meets (Says (namesOf name change)) (outcome layout change image name) (r .answer) image (r .image) × (r .buffer ≡ [])
+Promised layout (call.format n name geometry) image r =
     Says (call.one name) (r .answer) (formatNumber image n name) × (r .image ≡ afterFormat image n name geometry) × (r .buffer ≡ [])
 
-unfoldable pub IsOurs : Type 0
-IsOurs = (c : Call) (image : List ℕ) (r : Result (formOf c)) → Promised c image r → r ≡ ours c image
+unfoldable pub IsOurs : Layout → Type 0
+IsOurs layout = (c : Call) (image : List ℕ) (r : Result (formOf c)) → Promised layout c image r → r ≡ ours layout c image
 
-unfoldable pub Unique : Type 0
-Unique = (c : Call) (image : List ℕ) (r r′ : Result (formOf c)) → Promised c image r → Promised c image r′ → r ≡ r′
+unfoldable pub Unique : Layout → Type 0
+Unique layout = (c : Call) (image : List ℕ) (r r′ : Result (formOf c)) → Promised layout c image r → Promised layout c image r′ → r ≡ r′
 
 -- two versions that meet demand 2 give the same answer, the same buffer and the same image, at every call with any arguments and on every image; so one that meets it is ours
-unfoldable pub OneVersion : Type 0
-OneVersion = (v w : Version) → Demand2 v → Demand2 w → (c : Call) (image : List ℕ) → v c image ≡ w c image
+unfoldable pub OneVersion : Layout → Type 0
+OneVersion layout = (v w : Version) → Demand2 layout v → Demand2 layout w → (c : Call) (image : List ℕ) → v c image ≡ w c image
 
-unfoldable pub OnlyOurs : Type 0
-OnlyOurs = (v : Version) → Demand2 v → (c : Call) (image : List ℕ) → v c image ≡ ours c image
+unfoldable pub OnlyOurs : Layout → Type 0
+OnlyOurs layout = (v : Version) → Demand2 layout v → (c : Call) (image : List ℕ) → v c image ≡ ours layout c image

@@ -6,6 +6,7 @@ use Prim.Native.Nat.{ℕ, _≤_, _<_}
 use Rattle.rules.specs.Sectors.{sectorOf, sectorCount}
 use Rattle.rules.specs.Map.{count}
 use Rattle.rules.specs.Volume.{holders}
+use Rattle.rules.specs.declared.Layout.{Layout}
 use Rattle.demands.specs.Demand3.{Packer, Packable, Demand3}
 
 -- where it packs, the target is the source
@@ -23,18 +24,18 @@ Copying pack =
     → sectorOf (pack source target .target) k ≡ sectorOf source k
 
 -- two volumes that differ in free sectors alone come out different
-pub record Showing (pack : Packer) : Type 0 where
+pub record Showing (layout : Layout) (pack : Packer) : Type 0 where
   pub first : List ℕ
   pub second : List ℕ
   pub target : List ℕ
   pub other : List ℕ
-  pub can : Packable first target
-  pub can′ : Packable second other
+  pub can : Packable layout first target
+  pub can′ : Packable layout second other
   pub held : (k : ℕ) → 1 ≤ count k (holders first) → sectorOf second k ≡ sectorOf first k
   pub differ : pack first target .target ≡ pack second other .target → ⊥
 
-pub record WrongPacking : Type 0 where
-  pub not-identity : (pack : Packer) → Identity pack → Demand3 pack → ⊥
-  pub not-constant : (pack : Packer) → Constant pack → Demand3 pack → ⊥
-  pub not-copying : (pack : Packer) → Copying pack → Demand3 pack → ⊥
-  pub not-showing : (pack : Packer) → Showing pack → Demand3 pack → ⊥
+pub record WrongPacking (layout : Layout) : Type 0 where
+  pub not-identity : (pack : Packer) → Identity pack → Demand3 layout pack → ⊥
+  pub not-constant : (pack : Packer) → Constant pack → Demand3 layout pack → ⊥
+  pub not-copying : (pack : Packer) → Copying pack → Demand3 layout pack → ⊥
+  pub not-showing : (pack : Packer) → Showing layout pack → Demand3 layout pack → ⊥

@@ -1,20 +1,28 @@
 // Status and kind.
 ghost use mathlib.Core.Path.{_≡_};
 ghost use Prim.Native.Nat.{_<_};
-ghost use Rattle.rules.specs.Kind.{programLength, statusRule, kindOf};
+ghost use Rattle.rules.specs.Kind.{programLength, allowedBits, statusRule, marking, kindOf};
 ghost use Rattle.rules.specs.Calls.Listing.{kindLength};
 use rules::Kind;
+use rules::Layout;
 
 // Whether a status has allowed bits alone, and a program's is neither internal nor variable.
-pub fn status_rule(status: usize) -> bool
-    ensures { λ r. ⌜ r ≡ statusRule status ⌝ }
+pub fn status_rule(layout: Layout, status: usize) -> bool
+    ensures { λ r. ⌜ r ≡ statusRule (allowedBits layout) status ⌝ }
 {
     let program = status % 2;
     let internal = status / 2 % 2;
     let protected = status / 8 % 2;
     let variable = status / 128 % 2;
-    if status != program + 2 * internal + 8 * protected + 128 * variable {
-        return false;
+    let plain = program + 2 * internal + 8 * protected + 128 * variable;
+    // The layout is asked only of a status that has more than document 01's bits.
+    if status != plain {
+        if !layout.marks {
+            return false;
+        }
+        if status != plain + 16 {
+            return false;
+        }
     }
     if program == 1 {
         if internal == 1 {
@@ -23,6 +31,18 @@ pub fn status_rule(status: usize) -> bool
         return variable != 1;
     }
     true
+}
+
+// The status of a file that a call makes or changes: by the rule with marks it has the mark.
+pub fn marking(layout: Layout, status: u8) -> u8
+    ensures { λ r. ⌜ r ≡ marking layout status ⌝ }
+{
+    if layout.marks {
+        if status / 16 % 2 == 0 {
+            return status + 16;
+        }
+    }
+    status
 }
 
 // Past the full sectors the last is used up to the end offset; end offset 0 means that it is full too.

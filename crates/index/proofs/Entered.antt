@@ -14,6 +14,7 @@ use Rattle.rules.specs.Sound.{Sound}
 use Rattle.rules.specs.Outcome.{write}
 use Rattle.rules.specs.Calls.Create.{entered}
 use Rattle.rules.specs.Calls.Store.{dataWrites}
+use Rattle.rules.specs.declared.Layout.{Layout}
 use Rattle.rules.proofs.Map.{count-here, count-more, count-apart}
 use Rattle.rules.proofs.Choice.{Chosen}
 use Rattle.rules.proofs.Staying.{placed-kept, file-held, system-held, free-unheld}
@@ -21,7 +22,7 @@ use Rattle.rules.proofs.Listed.{sector-inside, listed-range}
 use Rattle.rules.proofs.Written.{Whole, Apart, written-length, written-both, written-apart, data-whole, data-apart}
 
 -- the data to the sectors ks, and the descriptor to sector k
-module _ (image name bytes : List ℕ) (k : ℕ) (ks descriptor sector0 : List ℕ) (is : Sound image) (free : (j : ℕ) → 1 ≤ count j (k ∷ ks) → Chosen (sectorCount image) (sectorOf image 0) j)
+module _ (layout : Layout) (image name bytes : List ℕ) (k : ℕ) (ks descriptor sector0 : List ℕ) (is : Sound layout image) (free : (j : ℕ) → 1 ≤ count j (k ∷ ks) → Chosen (sectorCount image) (sectorOf image 0) j)
     (long : length descriptor ≡ 256) (long′ : length sector0 ≡ 256) where
   abbrev laid : List ℕ
   laid = written image (dataWrites bytes ks)
@@ -30,13 +31,13 @@ module _ (image name bytes : List ℕ) (k : ℕ) (ks descriptor sector0 : List �
   last = write k descriptor ∷ (write 0 sector0 ∷ [])
 
   fits : (j : ℕ) → 1 ≤ count j (k ∷ ks) → 256 * j + 256 ≤ length image
-  fits j some = sector-inside image is j (free j some .inside)
+  fits j some = sector-inside layout image is j (free j some .inside)
 
   -- what is held was not free
   other : (j : ℕ) → 1 ≤ count j (holders image) → count j (k ∷ ks) ≡ 0
   other j held =
       elim (decLt 0 (count j (k ∷ ks))) [
-        | yes some ↦ let chosen = free j some in absurd (omega (arith, held, free-unheld image j is (chosen .inside) (chosen .free)))
+        | yes some ↦ let chosen = free j some in absurd (omega (arith, held, free-unheld layout image j is (chosen .inside) (chosen .free)))
         | no none ↦ omega arith
       ]
 
@@ -57,7 +58,7 @@ module _ (image name bytes : List ℕ) (k : ℕ) (ks descriptor sector0 : List �
   written-entered there after there-is after-is =
       let index =
       placed-kept image (written image (dataWrites bytes ks ++ last)) name k (stands 1 (λ e. omega (arith, e)) (system-held image .1))
-      (λ j listed. stands j (λ e. omega (arith, e, listed-range image is j listed .0)) (omega (arith, file-held image j j listed, count-here j (placesIn image j))))
+      (λ j listed. stands j (λ e. omega (arith, e, listed-range layout image is j listed .0)) (omega (arith, file-held image j j listed, count-here j (placesIn image j))))
       in
       after-is
       ∙ rw (there-is, index)

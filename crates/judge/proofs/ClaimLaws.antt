@@ -16,6 +16,7 @@ use Rattle.rules.specs.Chain.{run}
 use Rattle.rules.specs.Map.{mapBit, count, taken, mapRule, mapOf, byteOf, marked, markedAll}
 use Rattle.rules.specs.Volume.{files, fileHolders, holders}
 use Rattle.rules.specs.Verdict.{heldTwice}
+use Rattle.rules.specs.declared.Layout.{Layout}
 use Rattle.rules.proofs.Tests.{absurd-test}
 use Rattle.rules.proofs.Bytes.{part-length, part-behind}
 use Rattle.rules.proofs.Map.{count-none, count-here, count-other, count-more, count-append, taken-below, taken-once, bytes-at, map-of-bits, map-of-bytes, map-compared}
@@ -134,14 +135,14 @@ map-below n hs once i =
     ]
 
 -- What the files hold, on an image that has passed the tests before, lies below its end.
-pub holders-below : (image : List ℕ) → FourPassed image → Below (sectorCount image) (fileHolders image (files image))
+pub holders-below : (layout : Layout) (image : List ℕ) → FourPassed layout image → Below (sectorCount image) (fileHolders image (files image))
 unfolding files
-holders-below image passed k some =
-    file-holders-inside (sectorCount image) image (files image) k (index-is (sectorCount image) (sectorOf image 1) (passed .indexed) .range)
-    (descriptors-are (sectorCount image) image [] (files image) (passed .described)) some .1
+holders-below layout image passed k some =
+    file-holders-inside layout (sectorCount image) image (files image) k (index-is (sectorCount image) (sectorOf image 1) (passed .indexed) .range)
+    (descriptors-are layout (sectorCount image) image [] (files image) (passed .described)) some .1
 
 -- The judge's marks on such an image, first the map with the two system sectors held.
-module _ (image marks : List ℕ) (first : marks ≡ mapOf (sectorCount image) (run 0 2)) (passed : FourPassed image) where
+module _ (layout : Layout) (image marks : List ℕ) (first : marks ≡ mapOf (sectorCount image) (run 0 2)) (passed : FourPassed layout image) where
   long : length (asMap marks) ≡ 256
   long = omega (arith, as-map-length marks, ap length first, map-length (sectorCount image) (run 0 2))
 
@@ -155,7 +156,7 @@ module _ (image marks : List ℕ) (first : marks ≡ mapOf (sectorCount image) (
     unfolding holders
     judged-twice =
         let size = size-is image (passed .sized) in
-        clash-is (sectorCount image) (fileHolders image (files image)) (asMap marks) (size .1) (size .2) long bits (holders-below image passed) ∙ sym is
+        clash-is (sectorCount image) (fileHolders image (files image)) (asMap marks) (size .1) (size .2) long bits (holders-below layout image passed) ∙ sym is
 
     -- where none was, a map that is compared with the marks is compared with the holders
     module _ (once : twice ≡ false) (after : List ℕ) (left : asMap after ≡ markedAll 1 (asMap marks) (fileHolders image (files image))) (kept : length after ≡ 200) where
@@ -172,7 +173,7 @@ module _ (image marks : List ℕ) (first : marks ≡ mapOf (sectorCount image) (
           sym (as-map-part after kept) ∙ ap (λ (s : List ℕ). part s 56 200) left
           ∙ map-of-bytes (sectorCount image) (holders image) whole (part-length whole 56 200 (omega (arith, as-long)))
           (all-below 1 (omega arith) (asMap marks) hs (as-map-below marks (rw first (map-below (sectorCount image) (0 ∷ (1 ∷ [])) system-once))))
-          (map-left (sectorCount image) hs (asMap marks) (size .1) (size .2) long bits (holders-below image passed) (judged-twice ∙ once))
+          (map-left (sectorCount image) hs (asMap marks) (size .1) (size .2) long bits (holders-below layout image passed) (judged-twice ∙ once))
 
       pub judged-map : (map sector0 : List ℕ) → map ≡ part sector0 56 200 → sector0 ≡ sectorOf image 0 → ((i : ℕ) → byteAt image i < 256)
           → same map after ≡ mapRule (sectorCount image) (holders image) (sectorOf image 0)

@@ -14,6 +14,7 @@ use Rattle.rules.specs.Name.{precedes}
 use Rattle.rules.specs.Descriptor.{nameOf, descriptorRule}
 use Rattle.rules.specs.Volume.{nameIn}
 use Rattle.rules.specs.Verdict.{descriptorsRule}
+use Rattle.rules.specs.declared.Layout.{Layout}
 use Rattle.rules.proofs.Tests.{both, same-test}
 
 -- what is tested where the numbers end, and the rule of what is left
@@ -59,12 +60,12 @@ range-step n k ks more ranged here =
     (ltb-true k n (high .0), high .1)
 
 -- the descriptors
-module _ (n : ℕ) (image previous ks : List ℕ) where
+module _ (layout : Layout) (n : ℕ) (image previous ks : List ℕ) where
   pub descriptors-step : (k : ℕ) (more descriptor name : List ℕ) → ks ≡ k ∷ more → descriptor ≡ sectorOf image k → name ≡ nameOf descriptor
-      → descriptorsRule n image previous ks ≡ (descriptorRule n descriptor && (precedes previous name && descriptorsRule n image name more))
+      → descriptorsRule layout n image previous ks ≡ (descriptorRule layout n descriptor && (precedes previous name && descriptorsRule layout n image name more))
   unfolding descriptorsRule nameIn
   descriptors-step k more descriptor name here ed en = rw (here, en, ed)
 
-  pub descriptors-past : ks ≡ [] → descriptorsRule n image previous ks ≡ true
+  pub descriptors-past : ks ≡ [] → descriptorsRule layout n image previous ks ≡ true
   unfolding descriptorsRule
   descriptors-past none = rw none

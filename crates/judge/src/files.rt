@@ -17,6 +17,7 @@ use descriptor::kind::status_rule;
 use descriptor::name::name_rule;
 use descriptor::name::precedes;
 use rules::Kind;
+use rules::Layout;
 use sector::bytes::all_are;
 use sector::bytes::byte;
 use sector::bytes::part;
@@ -67,14 +68,14 @@ fn kind_rule(kind: Kind, c: usize, end_offset: usize) -> bool
     }
 }
 
-fn descriptor_rule(n: usize, descriptor: &[u8]) -> bool
-    ensures { λ r. ⌜ r ≡ descriptorRule n (now (descriptor .entry)) ⌝ }
+fn descriptor_rule(layout: Layout, n: usize, descriptor: &[u8]) -> bool
+    ensures { λ r. ⌜ r ≡ descriptorRule layout n (now (descriptor .entry)) ⌝ }
 {
     if !name_rule(part(descriptor, 0, 10)) {
         return false;
     }
     let status = byte(descriptor, 12);
-    if !status_rule(status) {
+    if !status_rule(layout, status) {
         return false;
     }
     let c = word(descriptor, 14);
@@ -86,9 +87,9 @@ fn descriptor_rule(n: usize, descriptor: &[u8]) -> bool
     chain_rule(n, c, part(descriptor, 28, 228))
 }
 
-pub(crate) fn descriptors_rule(n: usize, image: &[u8]) -> bool
+pub(crate) fn descriptors_rule(layout: Layout, n: usize, image: &[u8]) -> bool
     requires { ⌜ (2 ≤ n) × (length (now image) ≡ 256 * n) × (rangeRule n (files (now image)) ≡ true) ⌝ }
-    ensures { λ r. ⌜ r ≡ descriptorsRule n (now (image .entry)) [] (files (now (image .entry))) ⌝ }
+    ensures { λ r. ⌜ r ≡ descriptorsRule layout n (now (image .entry)) [] (files (now (image .entry))) ⌝ }
 {
     let sector1 = sector_in(image, 1);
     let mut previous = part(image, 0, 0);
@@ -99,7 +100,7 @@ pub(crate) fn descriptors_rule(n: usize, image: &[u8]) -> bool
             return true;
         }
         let descriptor = sector_in(image, k);
-        if !descriptor_rule(n, descriptor) {
+        if !descriptor_rule(layout, n, descriptor) {
             return false;
         }
         let name = part(descriptor, 0, 10);

@@ -12,14 +12,15 @@ use files::descriptors_rule;
 use holders::claim_files;
 use map::laid::lay_map;
 use marks::map_rule;
+use rules::Layout;
 use sector::bytes::part;
 use sector::bytes::sector_in;
 use system::index_rule;
 use system::label_rule;
 
 // The number of an image by the table: 0 where it is a sound volume, else the first of 1 to 6 that is due.
-pub fn judge(image: &[u8]) -> u32
-    ensures { λ r. ⌜ r ≡ verdict (now (image .entry)) ⌝ }
+pub fn judge(layout: Layout, image: &[u8]) -> u32
+    ensures { λ r. ⌜ r ≡ verdict layout (now (image .entry)) ⌝ }
 {
     if image.len() % 256 != 0 {
         return 1;
@@ -38,7 +39,7 @@ pub fn judge(image: &[u8]) -> u32
     if !index_rule(n, sector_in(image, 1)) {
         return 3;
     }
-    if !descriptors_rule(n, image) {
+    if !descriptors_rule(layout, n, image) {
         return 4;
     }
     let mut marks = [0u8; 200];

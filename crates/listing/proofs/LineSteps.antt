@@ -8,35 +8,36 @@ use Rattle.rules.specs.Sectors.{sectorOf}
 use Rattle.rules.specs.Index.{numbers}
 use Rattle.rules.specs.Volume.{files}
 use Rattle.rules.specs.Calls.Listing.{fileLine, fileLines}
+use Rattle.rules.specs.declared.Layout.{Layout}
 use Rattle.rules.proofs.Bytes.{part-short}
 use Rattle.rules.proofs.Pieces.{Pieces, pieces-first, pieces-next, pieces-last}
 use Rattle.sector.specs.Numbers.{NumbersFrom}
 use Rattle.line.specs.Laid.{Laid}
 
-abbrev pub linesFrom : List ℕ → List ℕ → ℕ → List ℕ
-linesFrom image sector1 place = fileLines image (numbers (drop place sector1))
+abbrev pub linesFrom : Layout → List ℕ → List ℕ → ℕ → List ℕ
+linesFrom layout image sector1 place = fileLines layout image (numbers (drop place sector1))
 
-pub record Ahead (image sector1 before after : List ℕ) (at next place : ℕ) : Type 0 where
+pub record Ahead (layout : Layout) (image sector1 before after : List ℕ) (at next place : ℕ) : Type 0 where
   pub inside : place ≤ length sector1
-  pub near : next ≤ at + 63 * place
-  pub pieces : Pieces (fileLines image (files image)) before at (linesFrom image sector1 place) after next
+  pub near : next ≤ at + 65 * place
+  pub pieces : Pieces (fileLines layout image (files image)) before at (linesFrom layout image sector1 place) after next
 
-pub ahead-start : (image sector1 text : List ℕ) (at : ℕ) → sector1 ≡ sectorOf image 1 → Ahead image sector1 text text at at 0
+pub ahead-start : (layout : Layout) (image sector1 text : List ℕ) (at : ℕ) → sector1 ≡ sectorOf image 1 → Ahead layout image sector1 text text at at 0
 unfolding files
-ahead-start image sector1 text at e = record { inside = omega arith; near = omega arith; pieces = rw e (pieces-first _ text at) }
+ahead-start layout image sector1 text at e = record { inside = omega arith; near = omega arith; pieces = rw e (pieces-first _ text at) }
 
-pub ahead-step : {image sector1 before after later descriptor : List ℕ} {at next further place k : ℕ} → Ahead image sector1 before after at next place
-    → NumbersFrom sector1 place k → (k ≡ 0 → ⊥) → descriptor ≡ sectorOf image k → Laid 63 after later next further (fileLine descriptor) → Ahead image sector1 before later at further (place + 2)
+pub ahead-step : {layout : Layout} {image sector1 before after later descriptor : List ℕ} {at next further place k : ℕ} → Ahead layout image sector1 before after at next place
+    → NumbersFrom sector1 place k → (k ≡ 0 → ⊥) → descriptor ≡ sectorOf image k → Laid 65 after later next further (fileLine layout descriptor) → Ahead layout image sector1 before later at further (place + 2)
 unfolding fileLines
-ahead-step {descriptor = descriptor} ahead from some ed laid =
+ahead-step {layout} {descriptor = descriptor} ahead from some ed laid =
     record {
       inside = from .inside some;
       near = omega (arith, ahead .near, laid .ends, laid .short);
-      pieces = pieces-next (ahead .pieces) (fileLine descriptor) (rw (from .some some, ed)) (laid .left) (laid .ends);
+      pieces = pieces-next (ahead .pieces) (fileLine layout descriptor) (rw (from .some some, ed)) (laid .left) (laid .ends);
     }
 
-pub ahead-end : {image sector1 before after : List ℕ} {at next place : ℕ} → Ahead image sector1 before after at next place → numbers (drop place sector1) ≡ [] → length sector1 ≤ 256
-    → Laid 16128 before after at next (fileLines image (files image))
+pub ahead-end : {layout : Layout} {image sector1 before after : List ℕ} {at next place : ℕ} → Ahead layout image sector1 before after at next place → numbers (drop place sector1) ≡ [] → length sector1 ≤ 256
+    → Laid 16640 before after at next (fileLines layout image (files image))
 unfolding fileLines
 ahead-end ahead none short =
     let all = pieces-last (ahead .pieces) (rw none) in

@@ -10,41 +10,42 @@ use Rattle.rules.specs.Bytes.{byteAt, part, splice}
 use Rattle.rules.specs.Verdict.{verdict}
 use Rattle.rules.specs.Outcome.{Report, AmountSays, Gives}
 use Rattle.rules.specs.Calls.Listing.{listingText, listingTests, listingOf, refusedLine, listed, shown}
+use Rattle.rules.specs.declared.Layout.{Layout}
 use Rattle.rules.specs.declared.Amount.the-variants.{Given, Refused}
 use Rattle.rules.proofs.Tests.{unless-passed, unless-met}
 use Rattle.rules.proofs.Splice.{splice-none, splice-front}
-use Rattle.rules.proofs.Listing.{decimal-short, listing-short, listing-unsound, listing-fits}
+use Rattle.rules.proofs.Listing.{decimal-short, listing-room, listing-unsound, listing-fits}
 use Rattle.rules.proofs.Verdict.{verdict-small}
 
 -- by the two answers of the listing
-module _ (image before : List ℕ) where
+module _ (layout : Layout) (image before : List ℕ) where
   abbrev report : Report
-  report = listingOf image (length before)
+  report = listingOf layout image (length before)
 
-  shown-text : report .number ≡ 0 → shown image (length before) ≡ listingText image
+  shown-text : report .number ≡ 0 → shown layout image (length before) ≡ listingText layout image
   unfolding shown
   shown-text e = rw (eq-eqb (report .number) 0 e)
 
-  shown-line : (report .number ≡ 0 → ⊥) → shown image (length before) ≡ refusedLine (report .number)
+  shown-line : (report .number ≡ 0 → ⊥) → shown layout image (length before) ≡ refusedLine (report .number)
   unfolding shown
   shown-line some = rw (ne-eqb (report .number) 0 some)
 
   pub shown-given : {size : ℕ} {after : List ℕ} → Gives AmountSays report (Given size) before after
-      → (size ≡ length (shown image (length before))) × (after ≡ splice before 0 (shown image (length before)))
+      → (size ≡ length (shown layout image (length before))) × (after ≡ splice before 0 (shown layout image (length before)))
   unfolding AmountSays listingOf
   shown-given gave =
       let none = gave .said .0 in
       let text = shown-text none in (
-        gave .said .1 ∙ unless-passed (listingTests image (length before)) (length (listingText image)) 0 none ∙ sym (ap length text),
-        gave .left ∙ ap (splice before 0) (unless-passed (listingTests image (length before)) (listingText image) [] none ∙ sym text),
+        gave .said .1 ∙ unless-passed (listingTests layout image (length before)) (length (listingText layout image)) 0 none ∙ sym (ap length text),
+        gave .left ∙ ap (splice before 0) (unless-passed (listingTests layout image (length before)) (listingText layout image) [] none ∙ sym text),
       )
 
   -- a refusal leaves the buffer, and the line goes over it
-  pub shown-refused : {number : ℕ} {after : List ℕ} → Gives AmountSays report (Refused number) before after → (after ≡ before) × (refusedLine number ≡ shown image (length before))
+  pub shown-refused : {number : ℕ} {after : List ℕ} → Gives AmountSays report (Refused number) before after → (after ≡ before) × (refusedLine number ≡ shown layout image (length before))
   unfolding AmountSays listingOf
   shown-refused gave =
       let some = gave .said .1 in (
-        gave .left ∙ ap (splice before 0) (unless-met (listingTests image (length before)) (listingText image) [] some) ∙ splice-none before 0,
+        gave .left ∙ ap (splice before 0) (unless-met (listingTests layout image (length before)) (listingText layout image) [] some) ∙ splice-none before 0,
         ap refusedLine (gave .said .0) ∙ sym (shown-line some),
       )
 
@@ -63,21 +64,21 @@ unfolding refusedLine
 refused-short number few = simp length-append (omega (arith, decimal-short 0 number few))
 
 -- where there is room for any text
-module _ (image : List ℕ) (room : ℕ) (small : (i : ℕ) → byteAt image i < 256) (wide : 4212 ≤ room) where
+module _ (layout : Layout) (image : List ℕ) (room : ℕ) (small : (i : ℕ) → byteAt image i < 256) (wide : 4466 ≤ room) where
   pub record IsListed : Type 0 where
-    pub is : shown image room ≡ listed image
-    pub number : listingOf image room .number ≡ verdict image
-    pub fits : length (listed image) ≤ room
+    pub is : shown layout image room ≡ listed layout image
+    pub number : listingOf layout image room .number ≡ verdict layout image
+    pub fits : length (listed layout image) ≤ room
 
   pub is-listed : IsListed
   unfolding listed shown
   is-listed =
-      elim (ℕ-discrete (verdict image) 0) [
+      elim (ℕ-discrete (verdict layout image) 0) [
         | yes sound ↦
-            let short = listing-short image small sound in
-            let t = eq-eqb (verdict image) 0 sound in
-            record { is = rw (listing-fits image room sound (omega arith), t); number = rw (listing-fits image room sound (omega arith)) (sym sound); fits = rw t (omega arith) }
-        | no unsound ↦ record { is = rw (listing-unsound image room unsound); number = rw (listing-unsound image room unsound) refl; fits = rw (ne-eqb (verdict image) 0 unsound) (omega (arith, refused-short (verdict image) (omega (arith, verdict-small image)))) }
+            let short = listing-room layout image small sound in
+            let t = eq-eqb (verdict layout image) 0 sound in
+            record { is = rw (listing-fits layout image room sound (omega arith), t); number = rw (listing-fits layout image room sound (omega arith)) (sym sound); fits = rw t (omega arith) }
+        | no unsound ↦ record { is = rw (listing-unsound layout image room unsound); number = rw (listing-unsound layout image room unsound) refl; fits = rw (ne-eqb (verdict layout image) 0 unsound) (omega (arith, refused-short (verdict layout image) (omega (arith, verdict-small layout image)))) }
       ]
 
 -- what was laid over a text that has room for it stands at its front

@@ -1,4 +1,4 @@
-// The fields of a line that are the listing's own: names, kinds, protection. Each is laid down as the pieces of crate
+// The fields of a line that are the listing's own: names, kinds, protection, marks. Each is laid down as the pieces of crate
 // line are. How long the text can get is the rules' law `listing-short`.
 ghost use mathlib.Core.Path.{_≡_};
 ghost use mathlib.Core.Bool.{cond};
@@ -6,10 +6,11 @@ ghost use mathlib.Core.List.{[], _∷_, _++_};
 ghost use Prim.Native.Nat.{_≤_};
 ghost use lib.ListN.{length};
 ghost use Rattle.rules.specs.Kind.{isProtected};
-ghost use Rattle.rules.specs.Calls.Listing.{unpadded, kindWord};
+ghost use Rattle.rules.specs.Calls.Listing.{unpadded, kindWord, markField};
 ghost use Rattle.line.specs.Laid.{Laid};
 use line::put;
 use rules::Kind;
+use rules::Layout;
 use sector::bytes::part;
 
 // A name up to its padding.
@@ -63,13 +64,27 @@ pub(crate) fn put_kind(text: &mut [u8], at: usize, kind: Kind) -> usize
     }
 }
 
-// P for a protected file or U for another, and the end of its line.
+// P for a protected file or U for another.
 pub(crate) fn put_protection(text: &mut [u8], at: usize, status: usize) -> usize
     requires { ⌜ at ≤ 100000 ⌝ }
-    ensures { λ r. ⌜ Laid 2 (now (text .entry)) (now (text .exit)) at r (cond (isProtected status) 0x50 0x55 ∷ (10 ∷ [])) ⌝ }
+    ensures { λ r. ⌜ Laid 1 (now (text .entry)) (now (text .exit)) at r (cond (isProtected status) 0x50 0x55 ∷ []) ⌝ }
 {
     if status / 8 % 2 == 1 {
-        return put(text, at, b"P\n");
+        return put(text, at, b"P");
     }
-    put(text, at, b"U\n")
+    put(text, at, b"U")
+}
+
+// By the rule with marks M for a marked file or a hyphen for another; and the end of its line.
+pub(crate) fn put_mark(layout: Layout, text: &mut [u8], at: usize, status: usize) -> usize
+    requires { ⌜ at ≤ 100000 ⌝ }
+    ensures { λ r. ⌜ Laid 3 (now (text .entry)) (now (text .exit)) at r (markField layout status ++ (10 ∷ [])) ⌝ }
+{
+    if layout.marks {
+        if status / 16 % 2 == 1 {
+            return put(text, at, b" M\n");
+        }
+        return put(text, at, b" -\n");
+    }
+    put(text, at, b"\n")
 }

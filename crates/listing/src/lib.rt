@@ -13,21 +13,22 @@ use line::put;
 use line::put_number;
 use lines::put_listing;
 use rules::Amount;
+use rules::Layout;
 
 // The text is laid down twice, first where there is no room, which gives its length: nothing is written where it does not fit.
-pub fn listing(image: &[u8], out: &mut [u8]) -> Amount
-    ensures { λ r. ⌜ Gives AmountSays (listingOf (now (image .entry)) (length (now (out .entry)))) r (now (out .entry)) (now (out .exit)) ⌝ }
+pub fn listing(layout: Layout, image: &[u8], out: &mut [u8]) -> Amount
+    ensures { λ r. ⌜ Gives AmountSays (listingOf layout (now (image .entry)) (length (now (out .entry)))) r (now (out .entry)) (now (out .exit)) ⌝ }
 {
-    let number = judge(image);
+    let number = judge(layout, image);
     if number != 0 {
         return Amount::Refused(number);
     }
     let mut nothing = [0u8; 0];
-    let size = put_listing(&mut nothing, image);
+    let size = put_listing(layout, &mut nothing, image);
     if size > out.len() {
         return Amount::Refused(15);
     }
-    put_listing(out, image);
+    put_listing(layout, out, image);
     Amount::Given(size)
 }
 
@@ -46,11 +47,11 @@ pub struct Shown {
 }
 
 // The listing of an image, or the line of its refusal.
-pub fn show(image: &[u8], out: &mut [u8]) -> Shown
-    ensures { λ r. ⌜ (r .size ≡ length (shown (now (image .entry)) (length (now (out .entry))))) × (now (out .exit) ≡ splice (now (out .entry)) 0 (shown (now (image .entry)) (length (now (out .entry))))) ⌝ }
-    ensures { λ r. ⌜ r .number ≡ listingOf (now (image .entry)) (length (now (out .entry))) .number ⌝ }
+pub fn show(layout: Layout, image: &[u8], out: &mut [u8]) -> Shown
+    ensures { λ r. ⌜ (r .size ≡ length (shown layout (now (image .entry)) (length (now (out .entry))))) × (now (out .exit) ≡ splice (now (out .entry)) 0 (shown layout (now (image .entry)) (length (now (out .entry))))) ⌝ }
+    ensures { λ r. ⌜ r .number ≡ listingOf layout (now (image .entry)) (length (now (out .entry))) .number ⌝ }
 {
-    let amount = listing(image, out);
+    let amount = listing(layout, image, out);
     match amount {
         Amount::Given(size) => Shown { number: 0, size },
         Amount::Refused(number) => Shown {

@@ -4,12 +4,14 @@ ghost use Rattle.rules.specs.Volume.{files};
 ghost use Rattle.rules.specs.Calls.Listing.{diskLine, fileLine, fileLines, listingText};
 ghost use Rattle.line.specs.Laid.{Laid};
 use crate::fields::put_kind;
+use crate::fields::put_mark;
 use crate::fields::put_name;
 use crate::fields::put_protection;
 use descriptor::kind::kind_length;
 use descriptor::kind::kind_of;
 use line::put_number;
 use map::free::free_count_of;
+use rules::Layout;
 use sector::bytes::byte;
 use sector::bytes::part;
 use sector::bytes::sector_of;
@@ -26,10 +28,10 @@ fn put_disk_line(text: &mut [u8], image: &[u8]) -> usize
     put_number(text, counted, free_count_of(sector0), b'\n')
 }
 
-// Name, kind, length, sectors, protection.
-fn put_file_line(text: &mut [u8], at: usize, descriptor: &[u8]) -> usize
+// Name, kind, length, sectors, protection, and by the rule with marks the mark.
+fn put_file_line(layout: Layout, text: &mut [u8], at: usize, descriptor: &[u8]) -> usize
     requires { ⌜ at ≤ 50000 ⌝ }
-    ensures { λ r. ⌜ Laid 63 (now (text .entry)) (now (text .exit)) at r (fileLine (now (descriptor .entry))) ⌝ }
+    ensures { λ r. ⌜ Laid 65 (now (text .entry)) (now (text .exit)) at r (fileLine layout (now (descriptor .entry))) ⌝ }
 {
     let status = byte(descriptor, 12);
     let sectors = word(descriptor, 14);
@@ -38,13 +40,14 @@ fn put_file_line(text: &mut [u8], at: usize, descriptor: &[u8]) -> usize
     let sorted = put_kind(text, named, kind);
     let measured = put_number(text, sorted, kind_length(kind), b' ');
     let counted = put_number(text, measured, sectors, b' ');
-    put_protection(text, counted, status)
+    let kept = put_protection(text, counted, status);
+    put_mark(layout, text, kept, status)
 }
 
 // A line for each number of sector 1 up to the first zero.
-fn put_file_lines(text: &mut [u8], at: usize, image: &[u8]) -> usize
+fn put_file_lines(layout: Layout, text: &mut [u8], at: usize, image: &[u8]) -> usize
     requires { ⌜ at ≤ 53 ⌝ }
-    ensures { λ r. ⌜ Laid 16128 (now (text .entry)) (now (text .exit)) at r (fileLines (now (image .entry)) (files (now (image .entry)))) ⌝ }
+    ensures { λ r. ⌜ Laid 16640 (now (text .entry)) (now (text .exit)) at r (fileLines layout (now (image .entry)) (files (now (image .entry)))) ⌝ }
 {
     let sector1 = sector_of(image, 1);
     let mut next = at;
@@ -54,14 +57,14 @@ fn put_file_lines(text: &mut [u8], at: usize, image: &[u8]) -> usize
         if k == 0 {
             return next;
         }
-        next = put_file_line(text, next, sector_of(image, k));
+        next = put_file_line(layout, text, next, sector_of(image, k));
         place += 2;
     }
 }
 
-pub(crate) fn put_listing(text: &mut [u8], image: &[u8]) -> usize
-    ensures { λ r. ⌜ Laid 16181 (now (text .entry)) (now (text .exit)) 0 r (listingText (now (image .entry))) ⌝ }
+pub(crate) fn put_listing(layout: Layout, text: &mut [u8], image: &[u8]) -> usize
+    ensures { λ r. ⌜ Laid 16693 (now (text .entry)) (now (text .exit)) 0 r (listingText layout (now (image .entry))) ⌝ }
 {
     let next = put_disk_line(text, image);
-    put_file_lines(text, next, image)
+    put_file_lines(layout, text, next, image)
 }

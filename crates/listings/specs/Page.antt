@@ -4,14 +4,15 @@ use mathlib.Core.List.{List, [], _∷_, _++_}
 use Prim.Native.Nat.{ℕ}
 use Rattle.rules.specs.Bytes.{part}
 use Rattle.rules.specs.Calls.Listing.{listed}
+use Rattle.rules.specs.declared.Layout.{Layout}
 use Rattle.line.specs.Letters.{letters}
 use Rattle.input.specs.declared.Received.{Received}
 use Rattle.input.specs.declared.Received.the-variants.{Bytes, Failed}
 
 -- the text of what was put into the buffer, or the line of an image that was not read
-unfoldable pub textOf : Received → List ℕ → List ℕ
-textOf (Bytes count) buffer = listed (part buffer 0 count)
-textOf Failed buffer = letters "-\n"
+unfoldable pub textOf : Layout → Received → List ℕ → List ℕ
+textOf layout (Bytes count) buffer = listed layout (part buffer 0 count)
+textOf layout Failed buffer = letters "-\n"
 
 -- an empty line in front of all pages but the first
 unfoldable pub partingOf : Bool → List ℕ

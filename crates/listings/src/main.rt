@@ -26,11 +26,12 @@ use input::read_file;
 use libc::STDOUT_FILENO;
 use line::put;
 use listing::show;
+use rules::Layout;
 use sector::buffer::lay;
 use sector::bytes::part;
 
-// Room for every listing: a line of at most 21 bytes and at most 127 of at most 33.
-const TEXT_ROOM: usize = 4212;
+// Room for every listing: a line of at most 21 bytes and at most 127 of at most 35.
+const TEXT_ROOM: usize = 4466;
 
 // What an image is counted as, and the length of its text.
 struct Listed {
@@ -39,13 +40,13 @@ struct Listed {
 }
 
 // Each `put_` puts a text at the front of the lent one and gives its length.
-fn put_listing(image: &[u8], text: &mut [u8]) -> Listed
-    requires { ⌜ length (now text) ≡ 4212 ⌝ }
-    ensures { λ r. ⌜ part (now (text .exit)) 0 (r .size) ≡ listed (now (image .entry)) ⌝ }
-    ensures { λ r. ⌜ (r .size ≡ length (listed (now (image .entry)))) × (now (text .exit) ≡ splice (now (text .entry)) 0 (listed (now (image .entry)))) ⌝ }
-    ensures { λ r. ⌜ r .mark ≡ 48 + verdict (now (image .entry)) ⌝ }
+fn put_listing(layout: Layout, image: &[u8], text: &mut [u8]) -> Listed
+    requires { ⌜ length (now text) ≡ 4466 ⌝ }
+    ensures { λ r. ⌜ part (now (text .exit)) 0 (r .size) ≡ listed layout (now (image .entry)) ⌝ }
+    ensures { λ r. ⌜ (r .size ≡ length (listed layout (now (image .entry)))) × (now (text .exit) ≡ splice (now (text .entry)) 0 (listed layout (now (image .entry)))) ⌝ }
+    ensures { λ r. ⌜ r .mark ≡ 48 + verdict layout (now (image .entry)) ⌝ }
 {
-    let shown = show(image, text);
+    let shown = show(layout, image, text);
     Listed {
         mark: b'0' + shown.number as u8,
         size: shown.size,
@@ -74,7 +75,7 @@ fn put_parting(first: bool, page: &mut [u8]) -> usize
 
 // The text is the first `size` bytes of that lent. As much of the page as there is room for; its length is given in any case.
 fn put_page(first: bool, path: &[u8], text: &[u8], size: usize, page: &mut [u8]) -> usize
-    requires { ⌜ length (now text) ≡ 4212 ⌝ }
+    requires { ⌜ length (now text) ≡ 4466 ⌝ }
     ensures { λ r. ⌜ (r ≡ length (pageOf first (now (path .entry)) (part (now (text .entry)) 0 size))) × (now (page .exit) ≡ splice (now (page .entry)) 0 (pageOf first (now (path .entry)) (part (now (text .entry)) 0 size))) ⌝ }
 {
     let parted = put_parting(first, page);
@@ -84,12 +85,12 @@ fn put_page(first: bool, path: &[u8], text: &[u8], size: usize, page: &mut [u8])
     put(page, headed, part(text, 0, size))
 }
 
-fn put_received(received: Received, buffer: &[u8], text: &mut [u8]) -> Listed
-    requires { ⌜ length (now text) ≡ 4212 ⌝ }
-    ensures { λ r. ⌜ (r .size ≡ length (textOf received (now (buffer .entry)))) × (now (text .exit) ≡ splice (now (text .entry)) 0 (textOf received (now (buffer .entry)))) ⌝ }
+fn put_received(layout: Layout, received: Received, buffer: &[u8], text: &mut [u8]) -> Listed
+    requires { ⌜ length (now text) ≡ 4466 ⌝ }
+    ensures { λ r. ⌜ (r .size ≡ length (textOf layout received (now (buffer .entry)))) × (now (text .exit) ≡ splice (now (text .entry)) 0 (textOf layout received (now (buffer .entry)))) ⌝ }
 {
     match received {
-        Received::Bytes(length) => put_listing(part(buffer, 0, length), text),
+        Received::Bytes(length) => put_listing(layout, part(buffer, 0, length), text),
         Received::Failed => put_unread(text),
     }
 }
@@ -98,7 +99,7 @@ fn put_received(received: Received, buffer: &[u8], text: &mut [u8]) -> Listed
 // processes on one output do not mix; on a pipe this holds for 4,096 bytes. The answer, here and below,
 // is whether it could be written.
 fn write_page(first: bool, path: &[u8], size: usize, buffer: &mut [u8], text: &[u8]) -> bool
-    requires { ⌜ length (now text) ≡ 4212 ⌝ }
+    requires { ⌜ length (now text) ≡ 4466 ⌝ }
 {
     let end = put_page(first, path, text, size, buffer);
     io::write_all(STDOUT_FILENO, part(buffer, 0, end))
@@ -106,21 +107,23 @@ fn write_page(first: bool, path: &[u8], size: usize, buffer: &mut [u8], text: &[
 
 // Lists the image of that path, counts it and writes its page.
 fn list_file(
+    layout: Layout,
     first: bool,
     path: &mut [u8],
     buffer: &mut [u8],
     text: &mut [u8],
     tally: &mut [usize; 8],
 ) -> bool
-    requires { ⌜ length (now text) ≡ 4212 ⌝ }
+    requires { ⌜ length (now text) ≡ 4466 ⌝ }
 {
     let received = read_file(path, buffer);
-    let listed = put_received(received, buffer, text);
+    let listed = put_received(layout, received, buffer, text);
     count(tally, listed.mark);
     write_page(first, path, listed.size, buffer, text)
 }
 
 fn list_argument(
+    layout: Layout,
     first: bool,
     position: usize,
     argument: &mut [u8],
@@ -128,7 +131,7 @@ fn list_argument(
     text: &mut [u8],
     tally: &mut [usize; 8],
 ) -> bool
-    requires { ⌜ length (now text) ≡ 4212 ⌝ }
+    requires { ⌜ length (now text) ≡ 4466 ⌝ }
 {
     let length = os::arg(position, argument);
     if os::errno() != 0 {
@@ -137,10 +140,11 @@ fn list_argument(
         count(tally, listed.mark);
         return write_page(first, b"", listed.size, buffer, text);
     }
-    list_file(first, &mut argument[..length], buffer, text, tally)
+    list_file(layout, first, &mut argument[..length], buffer, text, tally)
 }
 
 fn list_arguments(
+    layout: Layout,
     first: usize,
     end: usize,
     argument: &mut [u8; ARGUMENT_ROOM],
@@ -149,7 +153,15 @@ fn list_arguments(
     tally: &mut [usize; 8],
 ) -> bool {
     for position in first..end {
-        if !list_argument(position == first, position, argument, buffer, text, tally) {
+        if !list_argument(
+            layout,
+            position == first,
+            position,
+            argument,
+            buffer,
+            text,
+            tally,
+        ) {
             return false;
         }
     }
@@ -169,18 +181,23 @@ fn run(
     if usage(
         options.help,
         options.unknown || options.verbose || options.sums,
-        b"usage: listings [--] IMAGE...
+        b"usage: listings [--marks] [--] IMAGE...
 Lists each image of a disk behind a line that names it: its name, size and free count, then a line a
 file. REFUSED and its number for one that is no sound volume, - for one that cannot be read.
 How many there were of each number is the last line on standard error.
+  --marks     by the rule with marks: status bit 10 hex, changed since backup, is allowed, and each
+              file has a last field, M where the bit is set or else a hyphen
   -h, --help  this text
 ",
     ) {
         return;
     }
+    let layout = Layout {
+        marks: options.marks,
+    };
     let first = options.first;
     let mut tally = [0usize; 8];
-    if list_arguments(first, end, argument, buffer, text, &mut tally) {
+    if list_arguments(layout, first, end, argument, buffer, text, &mut tally) {
         tell(end - first, &tally);
         return;
     }

@@ -16,6 +16,7 @@ use descriptor::chain::Step;
 use descriptor::kind::kind_of;
 use opening::find;
 use rules::Kind;
+use rules::Layout;
 use rules::NamedAmount;
 use rules::Opened;
 use sector::buffer::lay;
@@ -72,10 +73,10 @@ fn load_at(image: &[u8], k: usize, out: &mut [u8]) -> NamedAmount
     }
 }
 
-pub fn load(image: &[u8], name: &[u8], out: &mut [u8]) -> NamedAmount
-    ensures { λ r. ⌜ Gives (NamedAmountSays (wrongPlace (now (name .entry)))) (loadOf (now (image .entry)) (now (name .entry)) (length (now (out .entry)))) r (now (out .entry)) (now (out .exit)) ⌝ }
+pub fn load(layout: Layout, image: &[u8], name: &[u8], out: &mut [u8]) -> NamedAmount
+    ensures { λ r. ⌜ Gives (NamedAmountSays (wrongPlace (now (name .entry)))) (loadOf layout (now (image .entry)) (now (name .entry)) (length (now (out .entry)))) r (now (out .entry)) (now (out .exit)) ⌝ }
 {
-    let opened = find(image, name);
+    let opened = find(layout, image, name);
     match opened {
         Opened::Refused(number) => NamedAmount::Refused(number),
         Opened::Misnamed(place) => NamedAmount::Misnamed(place),

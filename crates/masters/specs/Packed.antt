@@ -7,6 +7,7 @@ use lib.ListN.{length}
 use Rattle.rules.specs.Bytes.{part, splice}
 use Rattle.rules.specs.Outcome.{answerOf}
 use Rattle.rules.specs.Calls.Pack.{packNumber, afterPack}
+use Rattle.rules.specs.declared.Layout.{Layout}
 use Rattle.rules.specs.declared.Answer.{Answer}
 use Rattle.rules.specs.declared.Answer.the-variants as answer
 use Rattle.input.specs.declared.Received.{Received}
@@ -20,11 +21,11 @@ masterBy count answer.Done = Packed count
 masterBy count (answer.Refused number) = Refused number
 
 -- what is longer than the packed form can be is no volume
-unfoldable pub masterOf : Received → (source packed : List ℕ) → Master
-masterOf (Bytes count) source packed =
-    cond (ltb (length packed) count) (Refused 1) (masterBy count (answerOf (packNumber (part source 0 count) (part packed 0 count))))
-masterOf Failed source packed = Unread
+unfoldable pub masterOf : Layout → Received → (source packed : List ℕ) → Master
+masterOf layout (Bytes count) source packed =
+    cond (ltb (length packed) count) (Refused 1) (masterBy count (answerOf (packNumber layout (part source 0 count) (part packed 0 count))))
+masterOf layout Failed source packed = Unread
 
-unfoldable pub packedOver : Received → (source packed : List ℕ) → List ℕ
-packedOver (Bytes count) source packed = cond (ltb (length packed) count) packed (splice packed 0 (afterPack (part source 0 count) (part packed 0 count)))
-packedOver Failed source packed = packed
+unfoldable pub packedOver : Layout → Received → (source packed : List ℕ) → List ℕ
+packedOver layout (Bytes count) source packed = cond (ltb (length packed) count) packed (splice packed 0 (afterPack layout (part source 0 count) (part packed 0 count)))
+packedOver layout Failed source packed = packed

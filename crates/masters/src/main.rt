@@ -32,6 +32,7 @@ use line::put;
 use line::put_number;
 use packing::pack;
 use rules::Answer;
+use rules::Layout;
 use sector::bytes::part;
 use sector::bytes::same;
 use std::num::wrapping_add_usize;
@@ -61,9 +62,9 @@ enum Middle {
 }
 
 // Packs what was read. What is longer than the packed form can be is no volume.
-fn pack_received(received: Received, source: &[u8], packed: &mut [u8]) -> Master
-    ensures { λ r. ⌜ r ≡ masterOf received (now (source .entry)) (now (packed .entry)) ⌝ }
-    ensures { λ _. ⌜ now (packed .exit) ≡ packedOver received (now (source .entry)) (now (packed .entry)) ⌝ }
+fn pack_received(layout: Layout, received: Received, source: &[u8], packed: &mut [u8]) -> Master
+    ensures { λ r. ⌜ r ≡ masterOf layout received (now (source .entry)) (now (packed .entry)) ⌝ }
+    ensures { λ _. ⌜ now (packed .exit) ≡ packedOver layout received (now (source .entry)) (now (packed .entry)) ⌝ }
 {
     let Received::Bytes(length) = received else {
         return Master::Unread;
@@ -71,7 +72,7 @@ fn pack_received(received: Received, source: &[u8], packed: &mut [u8]) -> Master
     if length > packed.len() {
         return Master::Refused(1);
     }
-    let answer = pack(part(source, 0, length), &mut packed[0..length]);
+    let answer = pack(layout, part(source, 0, length), &mut packed[0..length]);
     match answer {
         Answer::Done => Master::Packed(length),
         Answer::Refused(number) => Master::Refused(number),
@@ -157,6 +158,7 @@ fn put_line(mark: u8, middle: Middle, path: &[u8], buffer: &mut [u8]) -> usize
 
 // Packs the image that an argument names. There are `skipped` options in front of the images, so the sum is an argument's position.
 fn pack_argument(
+    layout: Layout,
     place: usize,
     skipped: usize,
     argument: &mut [u8],
@@ -169,11 +171,12 @@ fn pack_argument(
         return Master::Unread;
     }
     let received = read_file(&mut argument[..length], source);
-    pack_received(received, source, packed)
+    pack_received(layout, received, source, packed)
 }
 
 // Whether the image at a place has this packed form.
 fn has_form(
+    layout: Layout,
     place: usize,
     skipped: usize,
     form: &[u8],
@@ -181,7 +184,7 @@ fn has_form(
     source: &mut [u8],
     other: &mut [u8],
 ) -> bool {
-    let master = pack_argument(place, skipped, argument, source, other);
+    let master = pack_argument(layout, place, skipped, argument, source, other);
     match master {
         Master::Packed(length) => same(form, part(other, 0, length)),
         Master::Refused(_) => false,
@@ -191,6 +194,7 @@ fn has_form(
 
 // The place of the image in the table that has this sum and this packed form, or 0.
 fn entered_with(
+    layout: Layout,
     sum: u64,
     skipped: usize,
     form: &[u8],
@@ -203,7 +207,7 @@ fn entered_with(
 ) -> usize {
     let mut place = first_under(sum, last, earlier, sums);
     while place != 0 {
-        if has_form(place, skipped, form, argument, source, other) {
+        if has_form(layout, place, skipped, form, argument, source, other) {
             return place;
         }
         place = next_under(place, sum, earlier, sums);
@@ -213,6 +217,7 @@ fn entered_with(
 
 // The first place past the table's end, and before this one, whose image has this packed form, or this one.
 fn first_past(
+    layout: Layout,
     own: usize,
     skipped: usize,
     form: &[u8],
@@ -221,7 +226,7 @@ fn first_past(
     other: &mut [u8; PACKED_ROOM],
 ) -> usize {
     for place in PLACES..own {
-        if has_form(place, skipped, form, argument, source, other) {
+        if has_form(layout, place, skipped, form, argument, source, other) {
             return place;
         }
     }
@@ -231,6 +236,7 @@ fn first_past(
 // The place of the first image that has this packed form, which the image at `own` has. One that is the first of its kind is entered
 // into the table, so that under a sum no two are equal.
 fn first_with(
+    layout: Layout,
     own: usize,
     skipped: usize,
     form: &[u8],
@@ -246,6 +252,7 @@ fn first_with(
 {
     let sum = sum_of(form);
     let entered = entered_with(
+        layout,
         sum,
         skipped,
         form,
@@ -260,11 +267,12 @@ fn first_with(
         return entered;
     }
     enter(own, sum, last, earlier, sums);
-    first_past(own, skipped, form, argument, source, other)
+    first_past(layout, own, skipped, form, argument, source, other)
 }
 
 // What stands in the middle of the line of a sound image.
 fn middle_of(
+    layout: Layout,
     own: usize,
     skipped: usize,
     only_sums: bool,
@@ -283,6 +291,7 @@ fn middle_of(
         return Middle::Sum(sum_of(form));
     }
     let first = first_with(
+        layout,
         own,
         skipped,
         form,
@@ -318,6 +327,7 @@ fn write_argument(
 
 // Packs an image, counts it and writes its line.
 fn find_one(
+    layout: Layout,
     own: usize,
     skipped: usize,
     only_sums: bool,
@@ -333,7 +343,7 @@ fn find_one(
     requires { ⌜ Table (now last) own ⌝ }
     ensures { λ _. ⌜ Table (now (last .exit)) (own + 1) ⌝ }
 {
-    let master = pack_argument(own, skipped, argument, source, packed);
+    let master = pack_argument(layout, own, skipped, argument, source, packed);
     let mark = mark_of(master);
     count(tally, mark);
     let position = wrapping_add_usize(skipped, own);
@@ -342,6 +352,7 @@ fn find_one(
     };
     let form = part(packed, 0, length);
     let middle = middle_of(
+        layout,
         own,
         skipped,
         only_sums,
@@ -357,6 +368,7 @@ fn find_one(
 }
 
 fn find_all(
+    layout: Layout,
     images: usize,
     skipped: usize,
     only_sums: bool,
@@ -373,6 +385,7 @@ fn find_all(
 {
     for own in 1..=images {
         if !find_one(
+            layout,
             own,
             skipped,
             only_sums,
@@ -409,13 +422,14 @@ fn run(
     if usage(
         options.help,
         options.unknown || options.verbose,
-        b"usage: masters [--sums] [--] IMAGE...
+        b"usage: masters [--sums] [--marks] [--] IMAGE...
 Finds duplicate disks: for each image a line with its number, the place among the images, from 1, of
 the first one that packs to the same bytes, and the image; - in the place of one that is no sound
 volume, - - for one that cannot be read.
 How many there were of each number is the last line on standard error.
   --sums      in the place's stead the sum of the packed bytes, in 16 hexadecimal digits: images with
               different sums are different disks, and those with equal ones are equal but for chance
+  --marks     by the rule with marks: status bit 10 hex, changed since backup, is allowed
   -h, --help  this text
 ",
     ) {
@@ -425,9 +439,13 @@ How many there were of each number is the last line on standard error.
     if first == 0 {
         return;
     }
+    let layout = Layout {
+        marks: options.marks,
+    };
     let images = end - first;
     let mut tally = [0usize; 8];
     if find_all(
+        layout,
         images,
         first - 1,
         options.sums,

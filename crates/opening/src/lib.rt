@@ -3,6 +3,7 @@ ghost use mathlib.Core.Path.{_≡_};
 ghost use Rattle.rules.specs.Volume.{files};
 ghost use Rattle.rules.specs.Opening.{findIn, openOf};
 use descriptor::name::wrong_place;
+use rules::Layout;
 use rules::Opened;
 use rules::WrongPlace;
 use sector::bytes::part;
@@ -31,10 +32,10 @@ pub fn find_in(image: &[u8], name: &[u8]) -> Opened
 }
 
 // The file of that name in a sound volume, or the number 1 to 6 that is due, or where the name is wrong.
-pub fn find(image: &[u8], name: &[u8]) -> Opened
-    ensures { λ r. ⌜ r ≡ openOf (now (image .entry)) (now (name .entry)) ⌝ }
+pub fn find(layout: Layout, image: &[u8], name: &[u8]) -> Opened
+    ensures { λ r. ⌜ r ≡ openOf layout (now (image .entry)) (now (name .entry)) ⌝ }
 {
-    let number = judge::judge(image);
+    let number = judge::judge(layout, image);
     if number != 0 {
         return Opened::Refused(number);
     }

@@ -1,4 +1,4 @@
-// Overwriting: one data sector of a file, by its offset in the file. The call takes any image and any arguments, answers with its number,
+// Overwriting: one data sector of a file, by its offset in the file; by the rule with marks its descriptor before it. The call takes any image and any arguments, answers with its number,
 // and leaves the image with the writes of the rules' definition laid over it; a refusal has none.
 ghost use Rattle.rules.specs.Name.{wrongPlace};
 ghost use Rattle.rules.specs.Sound.{IsFile};
@@ -6,7 +6,9 @@ ghost use Rattle.rules.specs.Outcome.{NamedSays, Meets};
 ghost use Rattle.rules.specs.Calls.Overwrite.{overwriting, overwriteOf};
 ghost use Rattle.rules.specs.declared.WrongPlace.the-variants.{None};
 use descriptor::chain::place_at;
+use descriptor::header::mark_descriptor;
 use opening::find;
+use rules::Layout;
 use rules::NamedAnswer;
 use rules::Opened;
 use sector::buffer::copy;
@@ -16,9 +18,15 @@ use sector::bytes::sector_of;
 use sector::bytes::word;
 
 // Of the file whose descriptor is in sector k.
-fn overwrite_at(image: &mut [u8], k: usize, offset: usize, bytes: &[u8]) -> NamedAnswer
-    requires { ⌜ IsFile (now image) k ⌝ }
-    ensures { λ r. ⌜ Meets (NamedSays None) (overwriting (now (image .entry)) offset (now (bytes .entry)) k) r (now (image .entry)) (now (image .exit)) ⌝ }
+fn overwrite_at(
+    layout: Layout,
+    image: &mut [u8],
+    k: usize,
+    offset: usize,
+    bytes: &[u8],
+) -> NamedAnswer
+    requires { ⌜ IsFile layout (now image) k ⌝ }
+    ensures { λ r. ⌜ Meets (NamedSays None) (overwriting layout (now (image .entry)) offset (now (bytes .entry)) k) r (now (image .entry)) (now (image .exit)) ⌝ }
 {
     let descriptor = sector_of(image, k);
     let status = byte(descriptor, 12);
@@ -37,18 +45,25 @@ fn overwrite_at(image: &mut [u8], k: usize, offset: usize, bytes: &[u8]) -> Name
     let place = place_at(part(descriptor, 28, 228), offset);
     let at = 256 * place;
     let end = at + 256;
+    mark_descriptor(layout, image, k);
     copy(&mut image[at..end], bytes);
     NamedAnswer::Done
 }
 
-pub fn overwrite(image: &mut [u8], name: &[u8], offset: usize, bytes: &[u8]) -> NamedAnswer
-    ensures { λ r. ⌜ Meets (NamedSays (wrongPlace (now (name .entry)))) (overwriteOf (now (image .entry)) (now (name .entry)) offset (now (bytes .entry))) r (now (image .entry)) (now (image .exit)) ⌝ }
+pub fn overwrite(
+    layout: Layout,
+    image: &mut [u8],
+    name: &[u8],
+    offset: usize,
+    bytes: &[u8],
+) -> NamedAnswer
+    ensures { λ r. ⌜ Meets (NamedSays (wrongPlace (now (name .entry)))) (overwriteOf layout (now (image .entry)) (now (name .entry)) offset (now (bytes .entry))) r (now (image .entry)) (now (image .exit)) ⌝ }
 {
-    let opened = find(image, name);
+    let opened = find(layout, image, name);
     match opened {
         Opened::Refused(number) => NamedAnswer::Refused(number),
         Opened::Misnamed(place) => NamedAnswer::Misnamed(place),
         Opened::Absent => NamedAnswer::Refused(8),
-        Opened::At(_, k) => overwrite_at(image, k, offset, bytes),
+        Opened::At(_, k) => overwrite_at(layout, image, k, offset, bytes),
     }
 }

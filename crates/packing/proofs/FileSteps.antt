@@ -11,6 +11,7 @@ use Rattle.rules.specs.Index.{numbers}
 use Rattle.rules.specs.Volume.{File, files, fileIn, catalogue}
 use Rattle.rules.specs.Sound.{Sound}
 use Rattle.rules.specs.Calls.Pack.{packedDescriptor, packedDescriptors, packedData, dataSectors, packedSectors}
+use Rattle.rules.specs.declared.Layout.{Layout}
 use Rattle.rules.proofs.Bytes.{part-short}
 use Rattle.rules.proofs.Pieces.{Pieces, pieces-first, pieces-next, pieces-last}
 use Rattle.rules.proofs.Pack.{descriptor-length, file-whole}
@@ -28,19 +29,20 @@ pub record Rest (image sector1 : List ℕ) (at : ℕ) : Type 0 where
 
 -- a number was read at byte `at`, and it is of a file
 pub record Read (image sector1 : List ℕ) (at k : ℕ) : Type 0 where
+  pub layout : Layout
   pub ahead : numbers (drop at sector1) ≡ k ∷ numbers (drop (at + 2) sector1)
   pub inside : k < sectorCount image
-  pub descriptor : IsDescriptor (sectorCount image) (sectorOf image k)
+  pub descriptor : IsDescriptor layout (sectorCount image) (sectorOf image k)
   pub rest : Rest image sector1 (at + 2)
 
-pub rest-start : (image sector1 : List ℕ) → Sound image → sector1 ≡ sectorOf image 1 → Rest image sector1 0
+pub rest-start : (layout : Layout) (image sector1 : List ℕ) → Sound layout image → sector1 ≡ sectorOf image 1 → Rest image sector1 0
 unfolding files sectorOf
-rest-start image sector1 is e = record { inside = omega arith; short = rw e (part-short image 256 256); kept = rw e (all-kept image is) }
+rest-start layout image sector1 is e = record { inside = omega arith; short = rw e (part-short image 256 256); kept = rw e (all-kept layout image is) }
 
 pub rest-read : {image sector1 : List ℕ} {at k : ℕ} → Rest image sector1 at → NumbersFrom sector1 at k → (k ≡ 0 → ⊥) → Read image sector1 at k
 rest-read {image} {sector1} {at} {k} rest from some =
     let kept : Kept image (k ∷ numbers (drop (at + 2) sector1)) = rw (from .some some) at (rest .kept) in
-    record { ahead = from .some some; inside = first-kept kept .0; descriptor = first-kept kept .1; rest = record { inside = from .inside some; short = rest .short; kept = rest-kept kept } }
+    record { layout = kept .layout; ahead = from .some some; inside = first-kept kept .0; descriptor = first-kept kept .1; rest = record { inside = from .inside some; short = rest .short; kept = rest-kept kept } }
 
 -- counting: what was counted, with what the files from `at` on are to add, is the whole
 pub record Counted (image sector1 : List ℕ) (at many used : ℕ) : Type 0 where
@@ -49,16 +51,16 @@ pub record Counted (image sector1 : List ℕ) (at many used : ℕ) : Type 0 wher
   pub many-is : many + length (numbers (drop at sector1)) ≡ length (files image)
   pub used-is : used + length (numbers (drop at sector1)) + dataSectors (filesFrom image sector1 at) ≡ packedSectors (catalogue image)
 
-pub counted-start : (image sector1 : List ℕ) → Sound image → sector1 ≡ sectorOf image 1 → Counted image sector1 0 0 2
+pub counted-start : (layout : Layout) (image sector1 : List ℕ) → Sound layout image → sector1 ≡ sectorOf image 1 → Counted image sector1 0 0 2
 unfolding files catalogue packedSectors
-counted-start image sector1 is e =
-    record { rest = rest-start image sector1 is e; few = omega arith; many-is = rw e (omega arith); used-is = rw e (omega (arith, length-map (files image) (fileIn image))) }
+counted-start layout image sector1 is e =
+    record { rest = rest-start layout image sector1 is e; few = omega arith; many-is = rw e (omega arith); used-is = rw e (omega (arith, length-map (files image) (fileIn image))) }
 
 pub counted-step : {image sector1 : List ℕ} {at many used k sectors : ℕ} → Counted image sector1 at many used → Read image sector1 at k → sectors ≡ sectorsOf (sectorOf image k)
     → Counted image sector1 (at + 2) (many + 1) (used + (1 + sectors))
 unfolding dataSectors
 counted-step {image} {sector1} {at} {many} {used} {k} {sectors} counted read is =
-    let here = contents-count image k (read .descriptor) in
+    let here = contents-count (read .layout) image k (read .descriptor) in
     let many-is = rw (read .ahead) at (counted .many-is) in
     let used-is = rw (read .ahead) at (counted .used-is) in
     record { rest = read .rest; few = omega (arith, counted .few); many-is = omega (arith, many-is); used-is = omega (arith, used-is, here, is) }
@@ -78,11 +80,11 @@ pub record Described (image sector1 before after : List ℕ) (at start to : ℕ)
   pub start-is : start + dataSectors (filesFrom image sector1 at) ≡ packedSectors (catalogue image)
   pub pieces : Pieces (packedDescriptors (2 + length (files image)) (catalogue image)) before 512 (packedDescriptors start (filesFrom image sector1 at)) after to
 
-pub described-start : (image sector1 target : List ℕ) (start : ℕ) → Sound image → sector1 ≡ sectorOf image 1 → start ≡ 2 + length (files image) → Described image sector1 target target 0 start 512
+pub described-start : (layout : Layout) (image sector1 target : List ℕ) (start : ℕ) → Sound layout image → sector1 ≡ sectorOf image 1 → start ≡ 2 + length (files image) → Described image sector1 target target 0 start 512
 unfolding files catalogue packedSectors
-described-start image sector1 target start is e f =
+described-start layout image sector1 target start is e f =
     record {
-      rest = rest-start image sector1 is e;
+      rest = rest-start layout image sector1 is e;
       to-is = omega arith;
       start-is = rw e (omega (arith, f, length-map (files image) (fileIn image)));
       pieces = rw (e, f) (pieces-first _ target 512);
@@ -94,15 +96,15 @@ pub described-ahead : {image sector1 before after : List ℕ} {at start to k sec
 unfolding dataSectors
 described-ahead {image} {k = k} described read is =
     let start-is = rw (read .ahead) at (described .start-is) in
-    omega (arith, start-is, is, contents-count image k (read .descriptor))
+    omega (arith, start-is, is, contents-count (read .layout) image k (read .descriptor))
 
 pub described-step : {image sector1 before after later laid : List ℕ} {at start to k sectors : ℕ} → length image ≡ 256 * sectorCount image
     → Described image sector1 before after at start to → Read image sector1 at k → sectors ≡ sectorsOf (sectorOf image k) → laid ≡ packedDescriptor start (fileIn image k)
     → later ≡ splice after to laid → Described image sector1 before later (at + 2) (start + sectors) (to + 256)
 unfolding packedDescriptors
 described-step {image} {sector1} {laid = laid} {at} {start} {to} {k} {sectors} whole described read is laid-is later-is =
-    let count : length (fileIn image k .contents) ≡ sectors = contents-count image k (read .descriptor) ∙ sym is in
-    let long : length laid ≡ 256 = ap length laid-is ∙ descriptor-length start (fileIn image k) (file-whole _ image whole k (read .inside) (read .descriptor)) in
+    let count : length (fileIn image k .contents) ≡ sectors = contents-count (read .layout) image k (read .descriptor) ∙ sym is in
+    let long : length laid ≡ 256 = ap length laid-is ∙ descriptor-length start (fileIn image k) (file-whole _ image whole (read .layout) k (read .inside) (read .descriptor)) in
     record {
       rest = read .rest;
       to-is = omega (arith, described .to-is);
@@ -120,9 +122,9 @@ pub record Joined (image sector1 before after : List ℕ) (from at to : ℕ) : T
   pub rest : Rest image sector1 at
   pub pieces : Pieces (packedData (catalogue image)) before from (packedData (filesFrom image sector1 at)) after to
 
-pub joined-start : (image sector1 target : List ℕ) (from : ℕ) → Sound image → sector1 ≡ sectorOf image 1 → Joined image sector1 target target from 0 from
+pub joined-start : (layout : Layout) (image sector1 target : List ℕ) (from : ℕ) → Sound layout image → sector1 ≡ sectorOf image 1 → Joined image sector1 target target from 0 from
 unfolding files catalogue
-joined-start image sector1 target from is e = record { rest = rest-start image sector1 is e; pieces = rw e (pieces-first _ target from) }
+joined-start layout image sector1 target from is e = record { rest = rest-start layout image sector1 is e; pieces = rw e (pieces-first _ target from) }
 
 module _ {image sector1 : List ℕ} {at k : ℕ} (read : Read image sector1 at k) where
   data-ahead : packedData (filesFrom image sector1 at) ≡ joined (fileIn image k .contents) ++ packedData (filesFrom image sector1 (at + 2))

@@ -18,6 +18,7 @@ use Rattle.rules.specs.Tests.{Test, refuse, firstOf}
 use Rattle.rules.specs.Verdict.{verdict}
 use Rattle.rules.specs.Sound.{Sound}
 use Rattle.rules.specs.Calls.Pack.{labelArea, packed, packedDescriptors, packedData, packedSectors, packTests, packNumber}
+use Rattle.rules.specs.declared.Layout.{Layout}
 use Rattle.rules.proofs.Bytes.{part-length}
 use Rattle.rules.proofs.Splice.{splice-length, splice-whole}
 use Rattle.rules.proofs.Formatted.{laid-next, put-next, map-length}
@@ -36,13 +37,13 @@ system-length image many used label =
     let index = indexOf (run 2 many) in
     length-append (labelArea image) (map ++ index) ∙ omega (arith, length-append map index, label, map-length (sectorCount image) (run 0 used), index-length (run 2 many))
 
-module _ (image : List ℕ) (is : Sound image) {many used : ℕ} (many-is : many ≡ length (files image)) (used-is : used ≡ packedSectors (catalogue image)) where
+module _ (layout : Layout) (image : List ℕ) (is : Sound layout image) {many used : ℕ} (many-is : many ≡ length (files image)) (used-is : used ≡ packedSectors (catalogue image)) where
   unfoldable descriptors : List ℕ
   descriptors = packedDescriptors (2 + many) (catalogue image)
 
   descriptors-all : length descriptors ≡ 256 * many
   unfolding descriptors catalogue
-  descriptors-all = descriptors-length (2 + many) (catalogue image) (catalogue-whole image is) ∙ omega (arith, length-map (files image) (fileIn image), many-is)
+  descriptors-all = descriptors-length (2 + many) (catalogue image) (catalogue-whole layout image is) ∙ omega (arith, length-map (files image) (fileIn image), many-is)
 
   -- the definition, as it is laid
   parts : (rest : List ℕ) → rest ≡ replicate (256 * (sectorCount image - used)) 0xE5
@@ -61,11 +62,11 @@ module _ (image : List ℕ) (is : Sound image) {many used : ℕ} (many-is : many
       let n = sectorCount image in
       let bytes = packedData (catalogue image) in
       let front = system image many used in
-      let inside : used ≤ n = omega (arith, used-inside image is, used-is) in
+      let inside : used ≤ n = omega (arith, used-inside layout image is, used-is) in
       let front-long : length front ≡ 512 = system-length image many used (label-length n image (is .whole) (omega (arith, is .size))) in
       let descriptors-long : length descriptors ≡ 256 * many = descriptors-all in
       let two-long : length (front ++ descriptors) ≡ 512 + 256 * many = length-append front descriptors ∙ omega arith in
-      let three-long : length ((front ++ descriptors) ++ bytes) ≡ 256 * used = length-append (front ++ descriptors) bytes ∙ omega (arith, two-long, data-ends image is, many-is, used-is) in
+      let three-long : length ((front ++ descriptors) ++ bytes) ≡ 256 * used = length-append (front ++ descriptors) bytes ∙ omega (arith, two-long, data-ends layout image is, many-is, used-is) in
       let two : second ≡ splice target 0 (front ++ descriptors) = second-is ∙ rw first-is (laid-next target front descriptors 512 front-long) in
       let three : third ≡ splice target 0 ((front ++ descriptors) ++ bytes) = third-is ∙ rw two (laid-next target (front ++ descriptors) bytes (512 + 256 * many) two-long) in
       let third-long : length third ≡ 256 * n = ap length three ∙ splice-length target 0 ((front ++ descriptors) ++ bytes) ∙ same ∙ is .whole in
@@ -79,18 +80,18 @@ module _ (image : List ℕ) (is : Sound image) {many used : ℕ} (many-is : many
       ∙ parts rest rest-same
 
 -- which test of the call gives which number
-module _ (source target : List ℕ) where
+module _ (layout : Layout) (source target : List ℕ) where
   abbrev fit : List Test
   fit = refuse 15 (not (eqb (length target) (length source))) ∷ []
 
-  pub unsound : (verdict source ≡ 0 → ⊥) → packNumber source target ≡ verdict source
+  pub unsound : (verdict layout source ≡ 0 → ⊥) → packNumber layout source target ≡ verdict layout source
   unfolding packTests
-  unsound some = unsound-first source fit some
+  unsound some = unsound-first layout source fit some
 
-  pub misfit : verdict source ≡ 0 → (length target ≡ length source → ⊥) → packNumber source target ≡ 15
+  pub misfit : verdict layout source ≡ 0 → (length target ≡ length source → ⊥) → packNumber layout source target ≡ 15
   unfolding packTests firstOf
-  misfit e other = sound-first source fit e ∙ rw (ne-eqb (length target) (length source) other)
+  misfit e other = sound-first layout source fit e ∙ rw (ne-eqb (length target) (length source) other)
 
-  pub fits : verdict source ≡ 0 → length target ≡ length source → packNumber source target ≡ 0
+  pub fits : verdict layout source ≡ 0 → length target ≡ length source → packNumber layout source target ≡ 0
   unfolding packTests firstOf
-  fits e same = sound-first source fit e ∙ rw (eq-eqb (length target) (length source) same)
+  fits e same = sound-first layout source fit e ∙ rw (eq-eqb (length target) (length source) same)

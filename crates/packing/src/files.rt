@@ -12,6 +12,7 @@ ghost use Rattle.rules.specs.Calls.Pack.{oneBlock, packedDescriptors, packedDat
 use descriptor::chain::Cursor;
 use descriptor::chain::Step;
 use descriptor::chain::block_bytes;
+use rules::Layout;
 use sector::buffer::lay;
 use sector::bytes::part;
 use sector::bytes::sector_of;
@@ -24,8 +25,8 @@ pub struct Extent {
     pub used: usize,
 }
 
-pub(crate) fn extent_of(source: &[u8]) -> Extent
-    requires { ⌜ Sound (now source) ⌝ }
+pub(crate) fn extent_of(layout: Layout, source: &[u8]) -> Extent
+    requires { ⌜ Sound layout (now source) ⌝ }
     ensures { λ r. ⌜ (r .files ≡ length (files (now (source .entry)))) × (r .used ≡ packedSectors (catalogue (now (source .entry)))) ⌝ }
 {
     let sector1 = sector_of(source, 1);
@@ -57,8 +58,8 @@ fn packed_descriptor(descriptor: &mut [u8], header: &[u8], start: usize, sectors
 }
 
 // The descriptors, from sector 2 on; the data of the first file is to follow the last of them.
-pub(crate) fn lay_descriptors(source: &[u8], target: &mut [u8], many: usize)
-    requires { ⌜ Sound (now source) × (many ≡ length (files (now source))) ⌝ }
+pub(crate) fn lay_descriptors(layout: Layout, source: &[u8], target: &mut [u8], many: usize)
+    requires { ⌜ Sound layout (now source) × (many ≡ length (files (now source))) ⌝ }
     ensures { λ _. ⌜ now (target .exit) ≡ splice (now (target .entry)) 512 (packedDescriptors (2 + many) (catalogue (now (source .entry)))) ⌝ }
 {
     let sector1 = sector_of(source, 1);
@@ -99,8 +100,8 @@ fn lay_sectors(source: &[u8], chain: &[u8], target: &mut [u8], at: usize) -> usi
 }
 
 // The data of all files, behind that many descriptors.
-pub(crate) fn lay_data(source: &[u8], target: &mut [u8], many: usize)
-    requires { ⌜ Sound (now source) × (many ≡ length (files (now source))) ⌝ }
+pub(crate) fn lay_data(layout: Layout, source: &[u8], target: &mut [u8], many: usize)
+    requires { ⌜ Sound layout (now source) × (many ≡ length (files (now source))) ⌝ }
     ensures { λ _. ⌜ now (target .exit) ≡ splice (now (target .entry)) (512 + 256 * many) (packedData (catalogue (now (source .entry)))) ⌝ }
 {
     let sector1 = sector_of(source, 1);

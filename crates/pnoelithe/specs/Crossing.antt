@@ -4,13 +4,18 @@ use mathlib.Core.Bool.{Bool, true, false, cond}
 use mathlib.Core.List.{List}
 use Prim.Native.Nat.{ℕ}
 use lib.Dec.{eqb}
-use Rattle.rules.specs.Bytes.{splice}
+use Rattle.rules.specs.Bytes.{bitOf, splice}
 use Rattle.rules.specs.Sectors.{written}
 use Rattle.rules.specs.Outcome.{Report, Outcome, ifWrong, behind}
+use Rattle.rules.specs.declared.Layout.{Layout}
 use Rattle.rules.specs.declared.WrongPlace.{WrongPlace}
 use Rattle.rules.specs.declared.WrongPlace.the-variants.{At}
 use Rattle.rules.specs.declared.Kind.{Kind}
 use Rattle.rules.specs.declared.Kind.the-variants.{Program, Fixed, Variable}
+
+-- a layout is a sum of bits: 1 for marks; other bits are not looked at
+unfoldable pub layoutOf : ℕ → Layout
+layoutOf bits = record { marks = eqb (bitOf bits 0) 1 }
 
 -- 0 PROGRAM, 1 DIS/FIX, 2 DIS/VAR, 3 INT/FIX, 4 INT/VAR
 unfoldable pub kindNumber : Kind → ℕ

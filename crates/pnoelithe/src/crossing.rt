@@ -1,15 +1,25 @@
-// How answers cross to C, which has no enums and no bools: as numbers, and values behind pointers.
+// How layouts and answers cross to C, which has no enums and no bools: as numbers, and values behind pointers.
 ghost use mathlib.Core.Path.{_≡_};
 ghost use Prim.Native.Nat.{ℕ};
 ghost use Rattle.rules.specs.Outcome.{Report, AnswerSays, AmountSays, NamedSays, NamedAmountSays, RenameSays};
 ghost use Rattle.rules.specs.declared.WrongPlace.{WrongPlace};
-ghost use Rattle.pnoelithe.specs.Crossing.{kindNumber, flag, placeBehind, firstWrong, whichBehind, AmountCrosses};
+ghost use Rattle.pnoelithe.specs.Crossing.{layoutOf, kindNumber, flag, placeBehind, firstWrong, whichBehind, AmountCrosses};
 use rules::Amount;
 use rules::Answer;
 use rules::Kind;
+use rules::Layout;
 use rules::NamedAmount;
 use rules::NamedAnswer;
 use rules::RenameAnswer;
+
+// The layout that its bits say.
+pub(crate) fn layout_of(bits: u32) -> Layout
+    ensures { λ r. ⌜ r ≡ layoutOf bits ⌝ }
+{
+    Layout {
+        marks: bits % 2 == 1,
+    }
+}
 
 // The number that the answer says.
 pub(crate) fn answer_number(answer: Answer) -> u32

@@ -21,12 +21,12 @@ ghost use Rattle.rules.specs.Calls.Listing.{kindLength, listingOf};
 ghost use Rattle.rules.specs.Calls.Create.{createOf};
 ghost use Rattle.rules.specs.Calls.Append.{appendOf};
 ghost use Rattle.rules.specs.Calls.Overwrite.{overwriteOf};
-ghost use Rattle.rules.specs.Calls.Protect.{protectOf, unprotectOf};
+ghost use Rattle.rules.specs.Calls.Protect.{protectOf, unprotectOf, clearOf};
 ghost use Rattle.rules.specs.Calls.Store.{storeOf};
 ghost use Rattle.rules.specs.Calls.Delete.{deleteOf};
 ghost use Rattle.rules.specs.Calls.Rename.{renameOf};
 ghost use Rattle.rules.specs.Calls.Pack.{packNumber, afterPack};
-ghost use Rattle.pnoelithe.specs.Crossing.{kindNumber, flag, placeBehind, firstWrong, whichBehind, Crosses, ReportCrosses, AmountCrosses};
+ghost use Rattle.pnoelithe.specs.Crossing.{layoutOf, kindNumber, flag, placeBehind, firstWrong, whichBehind, Crosses, ReportCrosses, AmountCrosses};
 
 mod crossing;
 
@@ -34,6 +34,7 @@ use crossing::amount_number;
 use crossing::answer_number;
 use crossing::flag_of;
 use crossing::kind_number;
+use crossing::layout_of;
 use crossing::named_amount_number;
 use crossing::named_number;
 use crossing::rename_number;
@@ -44,10 +45,10 @@ use rules::Summary;
 
 // The number 0 to 6 of an image.
 #[no_mangle]
-pub extern "C" fn pno_judge(image: &[u8]) -> u32
-    ensures { λ r. ⌜ r ≡ verdict (now (image .entry)) ⌝ }
+pub extern "C" fn pno_judge(image: &[u8], layout: u32) -> u32
+    ensures { λ r. ⌜ r ≡ verdict (layoutOf layout) (now (image .entry)) ⌝ }
 {
-    judge::judge(image)
+    judge::judge(layout_of(layout), image)
 }
 
 // An empty volume of n sectors.
@@ -76,27 +77,28 @@ pub extern "C" fn pno_format(
 
 // The number of free sectors.
 #[no_mangle]
-pub extern "C" fn pno_free_count(image: &[u8], free: &mut usize) -> u32
-    ensures { λ r. ⌜ AmountCrosses (freeCountOf (now (image .entry))) r (now (free .entry)) (now (free .exit)) ⌝ }
+pub extern "C" fn pno_free_count(image: &[u8], layout: u32, free: &mut usize) -> u32
+    ensures { λ r. ⌜ AmountCrosses (freeCountOf (layoutOf layout) (now (image .entry))) r (now (free .entry)) (now (free .exit)) ⌝ }
 {
-    amount_number(summarizing::free_count(image), free)
+    amount_number(summarizing::free_count(layout_of(layout), image), free)
 }
 
 // Disk name, number of sectors, of files, and of free sectors.
 #[no_mangle]
 pub extern "C" fn pno_summary(
     image: &[u8],
+    layout: u32,
     name: &mut [u8; 10],
     sectors: &mut usize,
     count: &mut usize,
     free: &mut usize,
 ) -> u32
-    ensures name { λ r. ⌜ ReportCrosses (summaryOf (now (image .entry))) r (now (name .entry)) (now (name .exit)) ⌝ }
+    ensures name { λ r. ⌜ ReportCrosses (summaryOf (layoutOf layout) (now (image .entry))) r (now (name .entry)) (now (name .exit)) ⌝ }
     ensures sectors { λ r. ⌜ now (sectors .exit) ≡ behind r (sectorCount (now (image .entry))) (now (sectors .entry)) ⌝ }
     ensures count { λ r. ⌜ now (count .exit) ≡ behind r (length (files (now (image .entry)))) (now (count .entry)) ⌝ }
     ensures free { λ r. ⌜ now (free .exit) ≡ behind r (freeCount (sectorOf (now (image .entry)) 0)) (now (free .entry)) ⌝ }
 {
-    let summary = summarizing::summary(image, name);
+    let summary = summarizing::summary(layout_of(layout), image, name);
     match summary {
         Summary::Refused(number) => number,
         Summary::Given {
@@ -116,6 +118,7 @@ pub extern "C" fn pno_summary(
 #[no_mangle]
 pub extern "C" fn pno_entry(
     image: &[u8],
+    layout: u32,
     place: usize,
     header: &mut [u8],
     kind: &mut usize,
@@ -123,13 +126,13 @@ pub extern "C" fn pno_entry(
     sectors: &mut usize,
     is_protected: &mut usize,
 ) -> u32
-    ensures header { λ r. ⌜ ReportCrosses (entryOf (now (image .entry)) place (length (now (header .entry)))) r (now (header .entry)) (now (header .exit)) ⌝ }
+    ensures header { λ r. ⌜ ReportCrosses (entryOf (layoutOf layout) (now (image .entry)) place (length (now (header .entry)))) r (now (header .entry)) (now (header .exit)) ⌝ }
     ensures kind { λ r. ⌜ now (kind .exit) ≡ behind r (kindNumber (fileKind (sectorOf (now (image .entry)) (fileAt (now (image .entry)) place)))) (now (kind .entry)) ⌝ }
     ensures size { λ r. ⌜ now (size .exit) ≡ behind r (kindLength (fileKind (sectorOf (now (image .entry)) (fileAt (now (image .entry)) place)))) (now (size .entry)) ⌝ }
     ensures sectors { λ r. ⌜ now (sectors .exit) ≡ behind r (sectorsOf (sectorOf (now (image .entry)) (fileAt (now (image .entry)) place))) (now (sectors .entry)) ⌝ }
     ensures protection { λ r. ⌜ now («is_protected» .exit) ≡ behind r (flag (isProtected (statusOf (sectorOf (now (image .entry)) (fileAt (now (image .entry)) place))))) (now («is_protected» .entry)) ⌝ }
 {
-    let entry = cataloguing::entry(image, place, header);
+    let entry = cataloguing::entry(layout_of(layout), image, place, header);
     let answer = entry.answer;
     let row = entry.row;
     match answer {
@@ -149,141 +152,204 @@ pub extern "C" fn pno_entry(
 #[no_mangle]
 pub extern "C" fn pno_read(
     image: &[u8],
+    layout: u32,
     name: &[u8],
     offset: usize,
     out: &mut [u8],
     wrong: &mut usize,
 ) -> u32
-    ensures bytes { λ r. ⌜ ReportCrosses (readOf (now (image .entry)) (now (name .entry)) offset (length (now (out .entry)))) r (now (out .entry)) (now (out .exit)) ⌝ }
+    ensures bytes { λ r. ⌜ ReportCrosses (readOf (layoutOf layout) (now (image .entry)) (now (name .entry)) offset (length (now (out .entry)))) r (now (out .entry)) (now (out .exit)) ⌝ }
     ensures wrong { λ r. ⌜ now (wrong .exit) ≡ placeBehind r (wrongPlace (now (name .entry))) (now (wrong .entry)) ⌝ }
 {
-    named_number(reading::read(image, name, offset, out), wrong)
+    named_number(
+        reading::read(layout_of(layout), image, name, offset, out),
+        wrong,
+    )
 }
 
 // A program's bytes and their number.
 #[no_mangle]
 pub extern "C" fn pno_load(
     image: &[u8],
+    layout: u32,
     name: &[u8],
     out: &mut [u8],
     size: &mut usize,
     wrong: &mut usize,
 ) -> u32
-    ensures bytes { λ r. ⌜ ReportCrosses (loadOf (now (image .entry)) (now (name .entry)) (length (now (out .entry)))) r (now (out .entry)) (now (out .exit)) ⌝ }
-    ensures size { λ r. ⌜ AmountCrosses (loadOf (now (image .entry)) (now (name .entry)) (length (now (out .entry)))) r (now (size .entry)) (now (size .exit)) ⌝ }
+    ensures bytes { λ r. ⌜ ReportCrosses (loadOf (layoutOf layout) (now (image .entry)) (now (name .entry)) (length (now (out .entry)))) r (now (out .entry)) (now (out .exit)) ⌝ }
+    ensures size { λ r. ⌜ AmountCrosses (loadOf (layoutOf layout) (now (image .entry)) (now (name .entry)) (length (now (out .entry)))) r (now (size .entry)) (now (size .exit)) ⌝ }
     ensures wrong { λ r. ⌜ now (wrong .exit) ≡ placeBehind r (wrongPlace (now (name .entry))) (now (wrong .entry)) ⌝ }
 {
-    named_amount_number(loading::load(image, name, out), size, wrong)
+    named_amount_number(
+        loading::load(layout_of(layout), image, name, out),
+        size,
+        wrong,
+    )
 }
 
 // The catalogue program's text and its length.
 #[no_mangle]
-pub extern "C" fn pno_listing(image: &[u8], out: &mut [u8], size: &mut usize) -> u32
-    ensures bytes { λ r. ⌜ ReportCrosses (listingOf (now (image .entry)) (length (now (out .entry)))) r (now (out .entry)) (now (out .exit)) ⌝ }
-    ensures size { λ r. ⌜ AmountCrosses (listingOf (now (image .entry)) (length (now (out .entry)))) r (now (size .entry)) (now (size .exit)) ⌝ }
+pub extern "C" fn pno_listing(image: &[u8], layout: u32, out: &mut [u8], size: &mut usize) -> u32
+    ensures bytes { λ r. ⌜ ReportCrosses (listingOf (layoutOf layout) (now (image .entry)) (length (now (out .entry)))) r (now (out .entry)) (now (out .exit)) ⌝ }
+    ensures size { λ r. ⌜ AmountCrosses (listingOf (layoutOf layout) (now (image .entry)) (length (now (out .entry)))) r (now (size .entry)) (now (size .exit)) ⌝ }
 {
-    amount_number(listing::listing(image, out), size)
+    amount_number(listing::listing(layout_of(layout), image, out), size)
 }
 
 // A file without sectors.
 #[no_mangle]
 pub extern "C" fn pno_create(
     image: &mut [u8],
+    layout: u32,
     name: &[u8],
     status: u8,
     record_length: u8,
     records_per_sector: u8,
     wrong: &mut usize,
 ) -> u32
-    ensures image { λ r. ⌜ Crosses (createOf (now (image .entry)) (now (name .entry)) status «record_length» «records_per_sector») r (now (image .entry)) (now (image .exit)) ⌝ }
+    ensures image { λ r. ⌜ Crosses (createOf (layoutOf layout) (now (image .entry)) (now (name .entry)) status «record_length» «records_per_sector») r (now (image .entry)) (now (image .exit)) ⌝ }
     ensures wrong { λ r. ⌜ now (wrong .exit) ≡ placeBehind r (wrongPlace (now (name .entry))) (now (wrong .entry)) ⌝ }
 {
     named_number(
-        creating::create(image, name, status, record_length, records_per_sector),
+        creating::create(
+            layout_of(layout),
+            image,
+            name,
+            status,
+            record_length,
+            records_per_sector,
+        ),
         wrong,
     )
 }
 
 // One sector more of a file.
 #[no_mangle]
-pub extern "C" fn pno_append(image: &mut [u8], name: &[u8], bytes: &[u8], wrong: &mut usize) -> u32
-    ensures image { λ r. ⌜ Crosses (appendOf (now (image .entry)) (now (name .entry)) (now (bytes .entry))) r (now (image .entry)) (now (image .exit)) ⌝ }
+pub extern "C" fn pno_append(
+    image: &mut [u8],
+    layout: u32,
+    name: &[u8],
+    bytes: &[u8],
+    wrong: &mut usize,
+) -> u32
+    ensures image { λ r. ⌜ Crosses (appendOf (layoutOf layout) (now (image .entry)) (now (name .entry)) (now (bytes .entry))) r (now (image .entry)) (now (image .exit)) ⌝ }
     ensures wrong { λ r. ⌜ now (wrong .exit) ≡ placeBehind r (wrongPlace (now (name .entry))) (now (wrong .entry)) ⌝ }
 {
-    named_number(appending::append(image, name, bytes), wrong)
+    named_number(
+        appending::append(layout_of(layout), image, name, bytes),
+        wrong,
+    )
 }
 
 // Another 256 bytes in a sector of a file.
 #[no_mangle]
 pub extern "C" fn pno_overwrite(
     image: &mut [u8],
+    layout: u32,
     name: &[u8],
     offset: usize,
     bytes: &[u8],
     wrong: &mut usize,
 ) -> u32
-    ensures image { λ r. ⌜ Crosses (overwriteOf (now (image .entry)) (now (name .entry)) offset (now (bytes .entry))) r (now (image .entry)) (now (image .exit)) ⌝ }
+    ensures image { λ r. ⌜ Crosses (overwriteOf (layoutOf layout) (now (image .entry)) (now (name .entry)) offset (now (bytes .entry))) r (now (image .entry)) (now (image .exit)) ⌝ }
     ensures wrong { λ r. ⌜ now (wrong .exit) ≡ placeBehind r (wrongPlace (now (name .entry))) (now (wrong .entry)) ⌝ }
 {
-    named_number(overwriting::overwrite(image, name, offset, bytes), wrong)
+    named_number(
+        overwriting::overwrite(layout_of(layout), image, name, offset, bytes),
+        wrong,
+    )
 }
 
 // The protection of a file.
 #[no_mangle]
-pub extern "C" fn pno_protect(image: &mut [u8], name: &[u8], wrong: &mut usize) -> u32
-    ensures image { λ r. ⌜ Crosses (protectOf (now (image .entry)) (now (name .entry))) r (now (image .entry)) (now (image .exit)) ⌝ }
+pub extern "C" fn pno_protect(image: &mut [u8], layout: u32, name: &[u8], wrong: &mut usize) -> u32
+    ensures image { λ r. ⌜ Crosses (protectOf (layoutOf layout) (now (image .entry)) (now (name .entry))) r (now (image .entry)) (now (image .exit)) ⌝ }
     ensures wrong { λ r. ⌜ now (wrong .exit) ≡ placeBehind r (wrongPlace (now (name .entry))) (now (wrong .entry)) ⌝ }
 {
-    named_number(protecting::protect(image, name), wrong)
+    named_number(protecting::protect(layout_of(layout), image, name), wrong)
 }
 
 // And its end.
 #[no_mangle]
-pub extern "C" fn pno_unprotect(image: &mut [u8], name: &[u8], wrong: &mut usize) -> u32
-    ensures image { λ r. ⌜ Crosses (unprotectOf (now (image .entry)) (now (name .entry))) r (now (image .entry)) (now (image .exit)) ⌝ }
+pub extern "C" fn pno_unprotect(
+    image: &mut [u8],
+    layout: u32,
+    name: &[u8],
+    wrong: &mut usize,
+) -> u32
+    ensures image { λ r. ⌜ Crosses (unprotectOf (layoutOf layout) (now (image .entry)) (now (name .entry))) r (now (image .entry)) (now (image .exit)) ⌝ }
     ensures wrong { λ r. ⌜ now (wrong .exit) ≡ placeBehind r (wrongPlace (now (name .entry))) (now (wrong .entry)) ⌝ }
 {
-    named_number(protecting::unprotect(image, name), wrong)
+    named_number(protecting::unprotect(layout_of(layout), image, name), wrong)
+}
+
+// The backup mark of a file, cleared.
+#[no_mangle]
+pub extern "C" fn pno_clear_mark(
+    image: &mut [u8],
+    layout: u32,
+    name: &[u8],
+    wrong: &mut usize,
+) -> u32
+    ensures image { λ r. ⌜ Crosses (clearOf (layoutOf layout) (now (image .entry)) (now (name .entry))) r (now (image .entry)) (now (image .exit)) ⌝ }
+    ensures wrong { λ r. ⌜ now (wrong .exit) ≡ placeBehind r (wrongPlace (now (name .entry))) (now (wrong .entry)) ⌝ }
+{
+    named_number(
+        protecting::clear_mark(layout_of(layout), image, name),
+        wrong,
+    )
 }
 
 // A program, of these bytes.
 #[no_mangle]
-pub extern "C" fn pno_store(image: &mut [u8], name: &[u8], bytes: &[u8], wrong: &mut usize) -> u32
-    ensures image { λ r. ⌜ Crosses (storeOf (now (image .entry)) (now (name .entry)) (now (bytes .entry))) r (now (image .entry)) (now (image .exit)) ⌝ }
+pub extern "C" fn pno_store(
+    image: &mut [u8],
+    layout: u32,
+    name: &[u8],
+    bytes: &[u8],
+    wrong: &mut usize,
+) -> u32
+    ensures image { λ r. ⌜ Crosses (storeOf (layoutOf layout) (now (image .entry)) (now (name .entry)) (now (bytes .entry))) r (now (image .entry)) (now (image .exit)) ⌝ }
     ensures wrong { λ r. ⌜ now (wrong .exit) ≡ placeBehind r (wrongPlace (now (name .entry))) (now (wrong .entry)) ⌝ }
 {
-    named_number(storing::store(image, name, bytes), wrong)
+    named_number(storing::store(layout_of(layout), image, name, bytes), wrong)
 }
 
 // A file less.
 #[no_mangle]
-pub extern "C" fn pno_delete(image: &mut [u8], name: &[u8], wrong: &mut usize) -> u32
-    ensures image { λ r. ⌜ Crosses (deleteOf (now (image .entry)) (now (name .entry))) r (now (image .entry)) (now (image .exit)) ⌝ }
+pub extern "C" fn pno_delete(image: &mut [u8], layout: u32, name: &[u8], wrong: &mut usize) -> u32
+    ensures image { λ r. ⌜ Crosses (deleteOf (layoutOf layout) (now (image .entry)) (now (name .entry))) r (now (image .entry)) (now (image .exit)) ⌝ }
     ensures wrong { λ r. ⌜ now (wrong .exit) ≡ placeBehind r (wrongPlace (now (name .entry))) (now (wrong .entry)) ⌝ }
 {
-    named_number(deleting::delete(image, name), wrong)
+    named_number(deleting::delete(layout_of(layout), image, name), wrong)
 }
 
 // A file under another name.
 #[no_mangle]
 pub extern "C" fn pno_rename(
     image: &mut [u8],
+    layout: u32,
     old: &[u8],
     new: &[u8],
     which: &mut usize,
     wrong: &mut usize,
 ) -> u32
-    ensures image { λ r. ⌜ Crosses (renameOf (now (image .entry)) (now (old .entry)) (now (new .entry))) r (now (image .entry)) (now (image .exit)) ⌝ }
+    ensures image { λ r. ⌜ Crosses (renameOf (layoutOf layout) (now (image .entry)) (now (old .entry)) (now (new .entry))) r (now (image .entry)) (now (image .exit)) ⌝ }
     ensures which { λ r. ⌜ now (which .exit) ≡ whichBehind r (wrongPlace (now (old .entry))) (now (which .entry)) ⌝ }
     ensures wrong { λ r. ⌜ now (wrong .exit) ≡ placeBehind r (firstWrong (wrongPlace (now (old .entry))) (wrongPlace (now (new .entry)))) (now (wrong .entry)) ⌝ }
 {
-    rename_number(renaming::rename(image, old, new), which, wrong)
+    rename_number(
+        renaming::rename(layout_of(layout), image, old, new),
+        which,
+        wrong,
+    )
 }
 
 // The packed form of the source, in the target.
 #[no_mangle]
-pub extern "C" fn pno_pack(source: &[u8], target: &mut [u8]) -> u32
-    ensures { λ r. ⌜ (r ≡ packNumber (now (source .entry)) (now (target .entry))) × (now (target .exit) ≡ afterPack (now (source .entry)) (now (target .entry))) ⌝ }
+pub extern "C" fn pno_pack(source: &[u8], layout: u32, target: &mut [u8]) -> u32
+    ensures { λ r. ⌜ (r ≡ packNumber (layoutOf layout) (now (source .entry)) (now (target .entry))) × (now (target .exit) ≡ afterPack (layoutOf layout) (now (source .entry)) (now (target .entry))) ⌝ }
 {
-    answer_number(packing::pack(source, target))
+    answer_number(packing::pack(layout_of(layout), source, target))
 }

@@ -1,20 +1,21 @@
-// Protecting and unprotecting: the 08 bit of a file's status, set where it stands, in byte 12 of the descriptor. Each call takes any image and
+// Protecting and unprotecting, and clearing a mark: the 08 bit and the 10 bit of a file's status, set where it stands, in byte 12 of the descriptor. Each call takes any image and
 // any arguments, answers with its number, and leaves the image with the writes of the rules' definition laid over it; a refusal has none.
 ghost use Prim.Native.Nat.{_<_};
 ghost use Rattle.rules.specs.Name.{wrongPlace};
 ghost use Rattle.rules.specs.Outcome.{NamedSays, Meets};
-ghost use Rattle.rules.specs.Calls.Protect.{setBitOf, protectOf, unprotectOf};
+ghost use Rattle.rules.specs.Calls.Protect.{setBitOf, protectOf, unprotectOf, clearOf};
 use map::bits::with_bit;
 use opening::find;
+use rules::Layout;
 use rules::NamedAnswer;
 use rules::Opened;
 
 // Bit j of the status made `bit`.
-fn set_bit(image: &mut [u8], name: &[u8], j: usize, bit: u8) -> NamedAnswer
+fn set_bit(layout: Layout, image: &mut [u8], name: &[u8], j: usize, bit: u8) -> NamedAnswer
     requires { ⌜ (j < 8) × (bit < 2) ⌝ }
-    ensures { λ r. ⌜ Meets (NamedSays (wrongPlace (now (name .entry)))) (setBitOf j bit (now (image .entry)) (now (name .entry))) r (now (image .entry)) (now (image .exit)) ⌝ }
+    ensures { λ r. ⌜ Meets (NamedSays (wrongPlace (now (name .entry)))) (setBitOf layout j bit (now (image .entry)) (now (name .entry))) r (now (image .entry)) (now (image .exit)) ⌝ }
 {
-    let opened = find(image, name);
+    let opened = find(layout, image, name);
     match opened {
         Opened::Refused(number) => NamedAnswer::Refused(number),
         Opened::Misnamed(place) => NamedAnswer::Misnamed(place),
@@ -27,14 +28,22 @@ fn set_bit(image: &mut [u8], name: &[u8], j: usize, bit: u8) -> NamedAnswer
     }
 }
 
-pub fn protect(image: &mut [u8], name: &[u8]) -> NamedAnswer
-    ensures { λ r. ⌜ Meets (NamedSays (wrongPlace (now (name .entry)))) (protectOf (now (image .entry)) (now (name .entry))) r (now (image .entry)) (now (image .exit)) ⌝ }
+pub fn protect(layout: Layout, image: &mut [u8], name: &[u8]) -> NamedAnswer
+    ensures { λ r. ⌜ Meets (NamedSays (wrongPlace (now (name .entry)))) (protectOf layout (now (image .entry)) (now (name .entry))) r (now (image .entry)) (now (image .exit)) ⌝ }
 {
-    set_bit(image, name, 3, 1)
+    set_bit(layout, image, name, 3, 1)
 }
 
-pub fn unprotect(image: &mut [u8], name: &[u8]) -> NamedAnswer
-    ensures { λ r. ⌜ Meets (NamedSays (wrongPlace (now (name .entry)))) (unprotectOf (now (image .entry)) (now (name .entry))) r (now (image .entry)) (now (image .exit)) ⌝ }
+pub fn unprotect(layout: Layout, image: &mut [u8], name: &[u8]) -> NamedAnswer
+    ensures { λ r. ⌜ Meets (NamedSays (wrongPlace (now (name .entry)))) (unprotectOf layout (now (image .entry)) (now (name .entry))) r (now (image .entry)) (now (image .exit)) ⌝ }
 {
-    set_bit(image, name, 3, 0)
+    set_bit(layout, image, name, 3, 0)
+}
+
+// By the rule with marks, whichever the layout has.
+pub fn clear_mark(layout: Layout, image: &mut [u8], name: &[u8]) -> NamedAnswer
+    ensures { λ r. ⌜ Meets (NamedSays (wrongPlace (now (name .entry)))) (clearOf layout (now (image .entry)) (now (name .entry))) r (now (image .entry)) (now (image .exit)) ⌝ }
+{
+    let with_marks = Layout { marks: true };
+    set_bit(with_marks, image, name, 4, 0)
 }

@@ -6,6 +6,7 @@ ghost use Rattle.rules.specs.Outcome.{Gives, ReadSays};
 ghost use Rattle.rules.specs.Calls.Read.{readOf};
 use descriptor::chain::place_at;
 use opening::find;
+use rules::Layout;
 use rules::NamedAnswer;
 use rules::Opened;
 use sector::buffer::lay;
@@ -13,10 +14,10 @@ use sector::bytes::part;
 use sector::bytes::sector_of;
 use sector::bytes::word;
 
-pub fn read(image: &[u8], name: &[u8], offset: usize, out: &mut [u8]) -> NamedAnswer
-    ensures { λ r. ⌜ Gives (ReadSays (wrongPlace (now (name .entry)))) (readOf (now (image .entry)) (now (name .entry)) offset (length (now (out .entry)))) r (now (out .entry)) (now (out .exit)) ⌝ }
+pub fn read(layout: Layout, image: &[u8], name: &[u8], offset: usize, out: &mut [u8]) -> NamedAnswer
+    ensures { λ r. ⌜ Gives (ReadSays (wrongPlace (now (name .entry)))) (readOf layout (now (image .entry)) (now (name .entry)) offset (length (now (out .entry)))) r (now (out .entry)) (now (out .exit)) ⌝ }
 {
-    let opened = find(image, name);
+    let opened = find(layout, image, name);
     match opened {
         Opened::Refused(number) => NamedAnswer::Refused(number),
         Opened::Misnamed(place) => NamedAnswer::Misnamed(place),

@@ -10,10 +10,12 @@ ghost use Rattle.rules.specs.Sound.{IsFile};
 ghost use Rattle.rules.specs.Outcome.{RenameSays, Meets};
 ghost use Rattle.rules.specs.Calls.Rename.{renaming, renameOf};
 ghost use Rattle.rules.specs.declared.WrongPlace.the-variants.{None};
+use descriptor::header::mark_descriptor;
 use descriptor::name::wrong_place;
 use index::index_with;
 use index::index_without;
 use opening::find_in;
+use rules::Layout;
 use rules::Opened;
 use rules::RenameAnswer;
 use rules::WrongPlace;
@@ -23,8 +25,8 @@ use sector::bytes::byte;
 use sector::bytes::sector_of;
 
 // Sector 1 with the number k where the new name belongs, laid into 256 zeros.
-fn moved(index: &mut [u8; 256], image: &[u8], k: usize, new: &[u8])
-    requires { ⌜ (now index ≡ replicate 256 0) × IsFile (now image) k ⌝ }
+fn moved(layout: Layout, index: &mut [u8; 256], image: &[u8], k: usize, new: &[u8])
+    requires { ⌜ (now index ≡ replicate 256 0) × IsFile layout (now image) k ⌝ }
     ensures { λ _. ⌜ now (index .exit) ≡ indexOf (placed (now (image .entry)) (now (new .entry)) k (without k (files (now (image .entry))))) ⌝ }
 {
     let mut others = [0u8; 256];
@@ -33,9 +35,9 @@ fn moved(index: &mut [u8; 256], image: &[u8], k: usize, new: &[u8])
 }
 
 // Of the file whose descriptor is in sector k.
-fn rename_at(image: &mut [u8], k: usize, new: &[u8]) -> RenameAnswer
-    requires { ⌜ IsFile (now image) k × (nameRule (now new) ≡ true) ⌝ }
-    ensures { λ r. ⌜ Meets (RenameSays None None) (renaming (now (image .entry)) (now (new .entry)) k) r (now (image .entry)) (now (image .exit)) ⌝ }
+fn rename_at(layout: Layout, image: &mut [u8], k: usize, new: &[u8]) -> RenameAnswer
+    requires { ⌜ IsFile layout (now image) k × (nameRule (now new) ≡ true) ⌝ }
+    ensures { λ r. ⌜ Meets (RenameSays None None) (renaming layout (now (image .entry)) (now (new .entry)) k) r (now (image .entry)) (now (image .exit)) ⌝ }
 {
     if let Opened::At(_, _) = find_in(image, new) {
         return RenameAnswer::Refused(9);
@@ -44,17 +46,18 @@ fn rename_at(image: &mut [u8], k: usize, new: &[u8]) -> RenameAnswer
         return RenameAnswer::Refused(10);
     }
     let mut index = [0u8; 256];
-    moved(&mut index, image, k, new);
-    // The name is the front of the descriptor; the rest of that sector stays.
+    moved(layout, &mut index, image, k, new);
+    // The name is the front of the descriptor; but for the mark the rest of that sector stays.
+    mark_descriptor(layout, image, k);
     lay(image, 256 * k, new);
     write_sector(image, 1, &index);
     RenameAnswer::Done
 }
 
-pub fn rename(image: &mut [u8], old: &[u8], new: &[u8]) -> RenameAnswer
-    ensures { λ r. ⌜ Meets (RenameSays (wrongPlace (now (old .entry))) (wrongPlace (now (new .entry)))) (renameOf (now (image .entry)) (now (old .entry)) (now (new .entry))) r (now (image .entry)) (now (image .exit)) ⌝ }
+pub fn rename(layout: Layout, image: &mut [u8], old: &[u8], new: &[u8]) -> RenameAnswer
+    ensures { λ r. ⌜ Meets (RenameSays (wrongPlace (now (old .entry))) (wrongPlace (now (new .entry)))) (renameOf layout (now (image .entry)) (now (old .entry)) (now (new .entry))) r (now (image .entry)) (now (image .exit)) ⌝ }
 {
-    let number = judge::judge(image);
+    let number = judge::judge(layout, image);
     if number != 0 {
         return RenameAnswer::Refused(number);
     }
@@ -67,5 +70,5 @@ pub fn rename(image: &mut [u8], old: &[u8], new: &[u8]) -> RenameAnswer
     let Opened::At(_, k) = find_in(image, old) else {
         return RenameAnswer::Refused(8);
     };
-    rename_at(image, k, new)
+    rename_at(layout, image, k, new)
 }

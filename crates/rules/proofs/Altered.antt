@@ -12,6 +12,7 @@ use Rattle.rules.specs.Descriptor.{nameOf, chainOf, IsDescriptor}
 use Rattle.rules.specs.Index.{numbers}
 use Rattle.rules.specs.Volume.{files, nameIn, placesIn, fileHolders, headerIn, contentsIn, fileIn}
 use Rattle.rules.specs.Sound.{Sound}
+use Rattle.rules.specs.declared.Layout.{Layout}
 use Rattle.rules.proofs.Splice.{splice-length}
 use Rattle.rules.proofs.Map.{count-none, count-here, count-append}
 use Rattle.rules.proofs.Choice.{Chosen}
@@ -21,25 +22,25 @@ use Rattle.rules.proofs.Listed.{sector-inside, held-inside, file-once, 
 use Rattle.rules.proofs.Written.{sector-same, sector-other}
 use Rattle.rules.proofs.Replaced.{at, stayed, Replaced, taken-mapped}
 
-pub record Altered (image after : List ℕ) (k : ℕ) (fresh : List ℕ) : Type 0 where
-  pub sound : Sound image
+pub record Altered (layout : Layout) (image after : List ℕ) (k : ℕ) (fresh : List ℕ) : Type 0 where
+  pub sound : Sound layout image
   pub listed : 1 ≤ count k (files image)
   pub size : length after ≡ length image
   pub once : (j : ℕ) → count j fresh ≤ 1
   pub free : (j : ℕ) → 1 ≤ count j fresh → Chosen (sectorCount image) (sectorOf image 0) j
   pub sector0 : sectorOf after 0 ≡ markedAll 1 (sectorOf image 0) fresh
   pub sector1 : sectorOf after 1 ≡ sectorOf image 1
-  pub rules : IsDescriptor (sectorCount image) (sectorOf after k)
+  pub rules : IsDescriptor layout (sectorCount image) (sectorOf after k)
   pub named : nameIn after k ≡ nameIn image k
   pub places : placesIn after k ≡ placesIn image k ++ fresh
   pub stands : (j : ℕ) → 1 ≤ count j (fileHolders image (files image)) → count j (k ∷ placesIn image k) ≡ 0 → sectorOf after j ≡ sectorOf image j
 
-module _ {image after : List ℕ} {k : ℕ} {fresh : List ℕ} (a : Altered image after k fresh) where
+module _ (layout : Layout) {image after : List ℕ} {k : ℕ} {fresh : List ℕ} (a : Altered layout image after k fresh) where
   pub files-same : files after ≡ files image
   unfolding files
   files-same = ap numbers (a .sector1)
 
-  pub altered : Replaced image after (nameIn image k) (at k) (at k)
+  pub altered : Replaced layout image after (nameIn image k) (at k) (at k)
   altered =
       let is = a .sound in
       let there = a .listed in
@@ -48,24 +49,24 @@ module _ {image after : List ℕ} {k : ℕ} {fresh : List ℕ} (a : Altered imag
         listed = there;
         size = a .size;
         mapped =
-            taken-mapped image after (at k) (at k) fresh is there (a .once) (a .free) (a .sector0)
+            taken-mapped layout image after (at k) (at k) fresh is there (a .once) (a .free) (a .sector0)
             (λ j. omega (arith, ap (λ (l : List ℕ). count j (k ∷ l)) (a .places), count-append j (k ∷ placesIn image k) fresh));
         numbered = record { index = rw (a .sector1) (is .index); files-are = files-same ∙ sym (placed-back image k (files image) (is .ascending) there) };
-        stands = λ j rest. a .stands j (omega (arith, rest, holders-split image is k there j)) (rest-apart image is k there j rest .1);
+        stands = λ j rest. a .stands j (omega (arith, rest, holders-split layout image is k there j)) (rest-apart layout image is k there j rest .1);
         new = record {
           rules = a .rules;
           named = a .named;
-          alone = λ j left same. not-listed image is k there j left (listed-name image is j k (stayed image (at k) there j left) there same);
+          alone = λ j left same. not-listed layout image is k there j left (listed-name layout image is j k (stayed image (at k) there j left) there same);
         };
       }
 
 -- One of the file's own sectors written: its descriptor's or one of its places.
-module _ (image : List ℕ) (k : ℕ) (is : Sound image) (listed : 1 ≤ count k (files image)) where
+module _ (layout : Layout) (image : List ℕ) (k : ℕ) (is : Sound layout image) (listed : 1 ≤ count k (files image)) where
   pub own-once : (j : ℕ) → count j (k ∷ placesIn image k) ≤ 1
-  own-once j = omega (arith, holders-without image k j (files image) listed, file-once image is j)
+  own-once j = omega (arith, holders-without image k j (files image) listed, file-once layout image is j)
 
   pub own-inside : (j : ℕ) → 1 ≤ count j (k ∷ placesIn image k) → (2 ≤ j) × (j < sectorCount image)
-  own-inside j own = held-inside image is j (omega (arith, own, holders-without image k j (files image) listed))
+  own-inside j own = held-inside layout image is j (omega (arith, own, holders-without image k j (files image) listed))
 
   -- its descriptor is none of its places
   pub place-other : (j : ℕ) → 1 ≤ count j (placesIn image k) → j ≡ k → ⊥
@@ -76,9 +77,9 @@ module _ (image : List ℕ) (k : ℕ) (is : Sound image) (listed : 1 ≤ count k
     after = splice image (256 * w) bytes
 
     pub own-here : sectorOf after w ≡ bytes
-    own-here = sector-same image w bytes long (sector-inside image is w (own-inside w own .1))
+    own-here = sector-same image w bytes long (sector-inside layout image is w (own-inside w own .1))
 
-    pub own-altered : IsDescriptor (sectorCount image) (sectorOf after k) → nameIn after k ≡ nameIn image k → placesIn after k ≡ placesIn image k → Altered image after k []
+    pub own-altered : IsDescriptor layout (sectorCount image) (sectorOf after k) → nameIn after k ≡ nameIn image k → placesIn after k ≡ placesIn image k → Altered layout image after k []
     unfolding markedAll
     own-altered rules named places =
         let high = own-inside w own .0 in
@@ -97,7 +98,7 @@ module _ (image : List ℕ) (k : ℕ) (is : Sound image) (listed : 1 ≤ count k
         }
 
   -- Its descriptor written anew, with the same name and chain: the header is the new one, and the contents stay.
-  module _ (d : List ℕ) (long : length d ≡ 256) (rules : IsDescriptor (sectorCount image) d) (named : nameOf d ≡ nameIn image k) (chain : chainOf d ≡ chainOf (sectorOf image k)) where
+  module _ (d : List ℕ) (long : length d ≡ 256) (rules : IsDescriptor layout (sectorCount image) d) (named : nameOf d ≡ nameIn image k) (chain : chainOf d ≡ chainOf (sectorOf image k)) where
     abbrev own-descriptor : 1 ≤ count k (k ∷ placesIn image k)
     own-descriptor = omega (arith, count-here k (placesIn image k))
 
@@ -108,7 +109,7 @@ module _ (image : List ℕ) (k : ℕ) (is : Sound image) (listed : 1 ≤ count k
     unfolding placesIn
     places-now = ap (λ (s : List ℕ). places (chainOf s)) descriptor-now ∙ ap places chain
 
-    pub redescribed : Altered image (splice image (256 * k) d) k []
+    pub redescribed : Altered layout image (splice image (256 * k) d) k []
     unfolding nameIn
     redescribed = own-altered k d long own-descriptor (rw descriptor-now rules) (ap nameOf descriptor-now ∙ named) places-now
 

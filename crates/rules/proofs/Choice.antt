@@ -12,6 +12,7 @@ use Rattle.rules.specs.Map.{mapBit, count, zeroBits, freeCount, marked, 
 use Rattle.rules.specs.Volume.{files, fileHolders, holders}
 use Rattle.rules.specs.Sound.{Sound}
 use Rattle.rules.specs.Choice.{lowestFree, descriptorChoice, dataChoice, dataChoices}
+use Rattle.rules.specs.declared.Layout.{Layout}
 use Rattle.rules.proofs.Map.{count-none, count-here, count-other, count-more}
 use Rattle.rules.proofs.Free.{zeros-past, zeros-split}
 use Rattle.rules.proofs.Marking.{marked-length, marked-here, marked-other, marked-free, all-free}
@@ -151,9 +152,9 @@ pub record Fenced (n : ℕ) (sector0 : List ℕ) : Type 0 where
   pub index : mapBit sector0 1 ≡ 1
   pub filled : (k : ℕ) → n ≤ k → k < 1600 → mapBit sector0 k ≡ 1
 
-pub sound-fenced : (image : List ℕ) → Sound image → Fenced (sectorCount image) (sectorOf image 0)
+pub sound-fenced : (layout : Layout) (image : List ℕ) → Sound layout image → Fenced (sectorCount image) (sectorOf image 0)
 unfolding holders
-sound-fenced image is =
+sound-fenced layout image is =
     let hs = fileHolders image (files image) in
     record {
       label = omega (arith, is .size, is .marked 0 (omega (arith, is .size)), is .single 0, count-here 0 (1 ∷ hs));

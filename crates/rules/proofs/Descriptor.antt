@@ -10,8 +10,9 @@ use lib.Seq.{getD-set-other, drop-append-add}
 use Rattle.rules.specs.Bytes.{byteAt, bitOf, wordBytes, part, splice}
 use Rattle.rules.specs.Name.{nameRule, IsName}
 use Rattle.rules.specs.Chain.{chainRule}
-use Rattle.rules.specs.Kind.{statusRule, kindOf, kindRule, IsStatus}
+use Rattle.rules.specs.Kind.{allowedBits, statusRule, kindOf, kindRule, IsStatus}
 use Rattle.rules.specs.Descriptor.{nameOf, statusOf, sectorsOf, recordCountOf, chainOf, fileKind, descriptorRule, newDescriptor, IsDescriptor}
+use Rattle.rules.specs.declared.Layout.{Layout}
 use Rattle.rules.proofs.Tests.{both}
 use Rattle.rules.proofs.Bytes.{part-same}
 use Rattle.rules.proofs.Splice.{splice-length, splice-inside, splice-above}
@@ -19,25 +20,25 @@ use Rattle.rules.proofs.Name.{name-is, is-name}
 use Rattle.rules.proofs.Chain.{chain-is, is-chain}
 use Rattle.rules.proofs.Status.{status-is, is-status, kind-is, is-kind}
 
-pub descriptor-is : (n : ℕ) (d : List ℕ) → descriptorRule n d ≡ true → IsDescriptor n d
+pub descriptor-is : (layout : Layout) (n : ℕ) (d : List ℕ) → descriptorRule layout n d ≡ true → IsDescriptor layout n d
 unfolding descriptorRule
-descriptor-is n d e =
+descriptor-is layout n d e =
     let kind = kindRule (fileKind d) (sectorsOf d) (byteAt d 16) in
     let chain = chainRule n (sectorsOf d) (chainOf d) in
-    let named = both (nameRule (nameOf d)) (statusRule (statusOf d) && (kind && chain)) e in
-    let marked = both (statusRule (statusOf d)) (kind && chain) (named .1) in
+    let named = both (nameRule (nameOf d)) (statusRule (allowedBits layout) (statusOf d) && (kind && chain)) e in
+    let marked = both (statusRule (allowedBits layout) (statusOf d)) (kind && chain) (named .1) in
     let last = both kind chain (marked .1) in
     record {
       name = name-is (nameOf d) (named .0);
-      status = status-is (statusOf d) (marked .0);
+      status = status-is (allowedBits layout) (statusOf d) (marked .0);
       kind = kind-is (fileKind d) (sectorsOf d) (byteAt d 16) (last .0);
       chain = chain-is n (sectorsOf d) (chainOf d) (last .1);
     }
 
-pub is-descriptor : (n : ℕ) (d : List ℕ) → IsDescriptor n d → descriptorRule n d ≡ true
+pub is-descriptor : (layout : Layout) (n : ℕ) (d : List ℕ) → IsDescriptor layout n d → descriptorRule layout n d ≡ true
 unfolding descriptorRule
-is-descriptor n d is =
-    rw (is-name (nameOf d) (is .name), is-status (statusOf d) (is .status), is-kind (fileKind d) (sectorsOf d) (byteAt d 16) (is .kind), is-chain n (sectorsOf d) (chainOf d) (is .chain))
+is-descriptor layout n d is =
+    rw (is-name (nameOf d) (is .name), is-status (allowedBits layout) (statusOf d) (is .status), is-kind (fileKind d) (sectorsOf d) (byteAt d 16) (is .kind), is-chain n (sectorsOf d) (chainOf d) (is .chain))
 
 -- the record count: a number whose low byte is byte 18 and whose high byte is byte 19; so one that is laid there low byte first is read back
 pub record-count-back : (d : List ℕ) (number : ℕ) → byteAt d 18 ≡ number % 256 → byteAt d 19 ≡ number / 256 → recordCountOf d ≡ number
@@ -63,13 +64,13 @@ module _ (d d′ : List ℕ) (long : length d′ ≡ length d) where
   unfolding chainOf
   chain-same same = part-same d′ d 28 228 long (λ i low high. same i low)
 
-  -- where nothing was changed from c on, and of the status the protection alone, the rules are kept
-  pub front-changed : (n : ℕ) → ((i : ℕ) → 14 ≤ i → byteAt d′ i ≡ byteAt d i) → ((j : ℕ) → (j ≡ 3 → ⊥) → bitOf (statusOf d′) j ≡ bitOf (statusOf d) j)
-      → IsName (nameOf d′) → IsStatus (statusOf d′) → IsDescriptor n d → IsDescriptor n d′
+  -- where nothing was changed from c on, and of the status protection and mark alone, the rules are kept
+  pub front-changed : (layout : Layout) (n : ℕ) → ((i : ℕ) → 14 ≤ i → byteAt d′ i ≡ byteAt d i) → ((j : ℕ) → (j ≡ 3 → ⊥) → (j ≡ 4 → ⊥) → bitOf (statusOf d′) j ≡ bitOf (statusOf d) j)
+      → IsName (nameOf d′) → IsStatus (allowedBits layout) (statusOf d′) → IsDescriptor layout n d → IsDescriptor layout n d′
   unfolding fileKind kindOf
-  front-changed n same bits name status is =
+  front-changed layout n same bits name status is =
       let c : sectorsOf d′ ≡ sectorsOf d = rw (same 14 (omega arith), same 15 (omega arith)) in
-      let kind : fileKind d′ ≡ fileKind d = rw (bits 0 (λ e. omega arith), bits 1 (λ e. omega arith), bits 7 (λ e. omega arith), same 14 (omega arith), same 15 (omega arith), same 16 (omega arith), same 17 (omega arith)) in
+      let kind : fileKind d′ ≡ fileKind d = rw (bits 0 (λ e. omega arith) (λ e. omega arith), bits 1 (λ e. omega arith) (λ e. omega arith), bits 7 (λ e. omega arith) (λ e. omega arith), same 14 (omega arith), same 15 (omega arith), same 16 (omega arith), same 17 (omega arith)) in
       record {
         name = name;
         status = status;
@@ -78,12 +79,12 @@ module _ (d d′ : List ℕ) (long : length d′ ≡ length d) where
       }
 
 -- one byte set between the name and c
-pub set-rules : (d : List ℕ) (i value : ℕ) → 10 ≤ i → i < 14 → ((j : ℕ) → (j ≡ 3 → ⊥) → bitOf (statusOf (set d i value)) j ≡ bitOf (statusOf d) j) → IsStatus (statusOf (set d i value))
-    → (n : ℕ) → IsDescriptor n d → IsDescriptor n (set d i value)
-set-rules d i value low high bits status n is =
+pub set-rules : (layout : Layout) (d : List ℕ) (i value : ℕ) → 10 ≤ i → i < 14 → ((j : ℕ) → (j ≡ 3 → ⊥) → (j ≡ 4 → ⊥) → bitOf (statusOf (set d i value)) j ≡ bitOf (statusOf d) j) → IsStatus (allowedBits layout) (statusOf (set d i value))
+    → (n : ℕ) → IsDescriptor layout n d → IsDescriptor layout n (set d i value)
+set-rules layout d i value low high bits status n is =
     let same = length-set d i value in
     let name = name-same d (set d i value) same (λ j h. getD-set-other d i j value 0 (λ e. omega arith)) in
-    front-changed d (set d i value) same n (λ j h. getD-set-other d i j value 0 (λ e. omega arith)) bits (rw name (is .name)) status is
+    front-changed d (set d i value) same layout n (λ j h. getD-set-other d i j value 0 (λ e. omega arith)) bits (rw name (is .name)) status is
 
 -- the number of sectors does not touch the chain
 pub numbered-chain : (d : List ℕ) (c : ℕ) → chainOf (splice d 14 (wordBytes c)) ≡ chainOf d

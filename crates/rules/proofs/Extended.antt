@@ -11,6 +11,7 @@ use lib.Seq.{getD-drop, ext-getD}
 use borrow.Author.Tests.{eq-eqb, ne-eqb, eqb-true}
 use Rattle.rules.specs.Bytes.{byteAt, wordBytes, part, over, splice}
 use Rattle.rules.specs.Sectors.{sectorOf, sectorCount}
+use Rattle.rules.specs.declared.Layout.{Layout}
 use Rattle.rules.specs.declared.Block.{Block}
 use Rattle.rules.specs.Chain.{blockBytes, endsChain, blocks, run, placesFrom, extended, extendedAll, blocksBytes, chainWith, Linked, IsChain}
 use Rattle.rules.specs.Map.{count}
@@ -354,7 +355,7 @@ places-among image (k ∷ ks) zero h = omega (arith, length-append (placesIn ima
 places-among image (k ∷ ks) (suc p) h =
     omega (arith, places-among image ks p (omega arith), length-append (placesIn image k) (fileHolders image ks))
 
-pub sectors-few : (image : List ℕ) (p : ℕ) → Sound image → p < length (files image) → sectorsOf (sectorOf image (fileAt image p)) ≤ 1600
+pub sectors-few : (layout : Layout) (image : List ℕ) (p : ℕ) → Sound layout image → p < length (files image) → sectorsOf (sectorOf image (fileAt image p)) ≤ 1600
 unfolding holders
-sectors-few image p is h =
-    omega (arith, free-holders image is, is .size, places-among image (files image) p h, places-count (sectorCount image) image (fileAt image p) (is .descriptors p h))
+sectors-few layout image p is h =
+    omega (arith, free-holders layout image is, is .size, places-among image (files image) p h, places-count layout (sectorCount image) image (fileAt image p) (is .descriptors p h))

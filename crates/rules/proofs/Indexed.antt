@@ -16,6 +16,7 @@ use Rattle.rules.specs.Map.{count}
 use Rattle.rules.specs.Index.{numbers, numbersBytes, indexOf, without, IsIndex}
 use Rattle.rules.specs.Volume.{files, nameIn, placed}
 use Rattle.rules.specs.Sound.{Sound}
+use Rattle.rules.specs.declared.Layout.{Layout}
 use Rattle.rules.proofs.Tests.{absurd-test}
 use Rattle.rules.proofs.Splice.{splice-length, splice-none, splice-above, splice-append}
 use Rattle.rules.proofs.Name.{precedes-is, is-precedes, not-precedes, before-trans, before-total}
@@ -276,9 +277,9 @@ without-short k ks =
       | no there ↦ rw (without-absent k ks (omega arith)) (omega arith)
     ]
 
-pub left-numbers : (image : List ℕ) (k : ℕ) → Sound image → numbers (indexOf (without k (files image))) ≡ without k (files image)
+pub left-numbers : (layout : Layout) (image : List ℕ) (k : ℕ) → Sound layout image → numbers (indexOf (without k (files image))) ≡ without k (files image)
 unfolding files
-left-numbers image k whole =
+left-numbers layout image k whole =
     numbers-index (without k (files image))
     (without-all (λ (j : ℕ). 1 ≤ j) k (files image) (λ p h. omega (arith, whole .index .range p h .0)))
     (omega (arith, without-short k (files image), whole .index .few))

@@ -25,6 +25,7 @@ pub mod Free
 pub mod Extended
 pub mod Longer
 pub mod Marking
+pub mod Marks
 pub mod Choice
 pub mod Replaced
 pub mod Altered

@@ -13,6 +13,7 @@ use Rattle.rules.specs.Descriptor.{IsDescriptor}
 use Rattle.rules.specs.Index.{without}
 use Rattle.rules.specs.Volume.{files, nameIn, placesIn, fileHolders, holders}
 use Rattle.rules.specs.Sound.{Sound}
+use Rattle.rules.specs.declared.Layout.{Layout}
 use Rattle.rules.proofs.Sectors.{sector-length}
 use Rattle.rules.proofs.Name.{before-trans, before-irrefl}
 use Rattle.rules.proofs.Map.{bits-taken, counted-all, count-none, count-here, count-other, count-at, count-append}
@@ -64,7 +65,7 @@ one-order image (k ∷ ks) (j ∷ js) up up′ same =
 pub system-and : (j : ℕ) (hs : List ℕ) → count j (0 ∷ (1 ∷ hs)) ≡ count j (0 ∷ (1 ∷ [])) + count j hs
 system-and j hs = count-append j (0 ∷ (1 ∷ [])) hs
 
-module _ (image : List ℕ) (is : Sound image) where
+module _ (layout : Layout) (image : List ℕ) (is : Sound layout image) where
   pub label-long : length (sectorOf image 0) ≡ 256
   label-long = sector-length image 0 (omega (arith, is .whole, is .size))
 
@@ -87,8 +88,8 @@ module _ (image : List ℕ) (is : Sound image) where
   unfolding files
   listed-range = counted-all (λ (k : ℕ). (2 ≤ k) × (k < sectorCount image)) (files image) (is .index .range)
 
-  pub listed-descriptor : (k : ℕ) → 1 ≤ count k (files image) → IsDescriptor (sectorCount image) (sectorOf image k)
-  listed-descriptor = counted-all (λ (k : ℕ). IsDescriptor (sectorCount image) (sectorOf image k)) (files image) (is .descriptors)
+  pub listed-descriptor : (k : ℕ) → 1 ≤ count k (files image) → IsDescriptor layout (sectorCount image) (sectorOf image k)
+  listed-descriptor = counted-all (λ (k : ℕ). IsDescriptor layout (sectorCount image) (sectorOf image k)) (files image) (is .descriptors)
 
   pub listed-name : (j k : ℕ) → 1 ≤ count j (files image) → 1 ≤ count k (files image) → nameIn image j ≡ nameIn image k → j ≡ k
   listed-name = one-of-name image (files image) (is .ascending)
@@ -96,7 +97,7 @@ module _ (image : List ℕ) (is : Sound image) where
   -- a sector that a file holds is none of the two system sectors
   pub held-inside : (j : ℕ) → 1 ≤ count j (fileHolders image (files image)) → (2 ≤ j) × (j < sectorCount image)
   unfolding files
-  held-inside j h = file-holders-inside (sectorCount image) image (files image) j (is .index .range) (is .descriptors) h
+  held-inside j h = file-holders-inside layout (sectorCount image) image (files image) j (is .index .range) (is .descriptors) h
 
   -- one file taken out
   module _ (k : ℕ) (there : 1 ≤ count k (files image)) where
@@ -114,5 +115,5 @@ module _ (image : List ℕ) (is : Sound image) where
         omega (arith, twice, holders-split k, holders-single k, count-here k (placesIn image k))
 
 -- a file that was found is listed
-pub opened-listed : (image name : List ℕ) (p k : ℕ) → IsOpened image name p k → 1 ≤ count k (files image)
-opened-listed image name p k o = rw (o .is) at (count-at (files image) p (o .inside))
+pub opened-listed : (layout : Layout) (image name : List ℕ) (p k : ℕ) → IsOpened layout image name p k → 1 ≤ count k (files image)
+opened-listed layout image name p k o = rw (o .is) at (count-at (files image) p (o .inside))

@@ -17,9 +17,11 @@ use Rattle.rules.specs.Volume.{files}
 use Rattle.rules.specs.Verdict.{verdict}
 use Rattle.rules.specs.Tests.{Test, refuse, firstOf}
 use Rattle.rules.specs.Outcome.{gives, refuses}
-use Rattle.rules.specs.Calls.Listing.{digits, decimal, unpadded, kindWord, kindLength, diskLine, fileLine, fileLines, listingText, listingTests, listingOf}
+use Rattle.rules.specs.Calls.Listing.{digits, decimal, unpadded, kindWord, kindLength, diskLine, markField, fileLine, fileLines, listingText, listingTests, listingOf}
+use Rattle.rules.specs.declared.Layout.{Layout}
 use Rattle.rules.specs.declared.Kind.{Kind}
 use Rattle.rules.specs.declared.Kind.the-variants.{Program, Fixed, Variable}
+use Rattle.rules.proofs.Tests.{by-rule}
 use Rattle.rules.proofs.Bytes.{part-short}
 use Rattle.rules.proofs.Sectors.{sector-below}
 use Rattle.rules.proofs.Length.{length-most}
@@ -117,24 +119,42 @@ kind-length-below status c endOffset recordLength hc he hr = test (isProgram sta
     test false true = omega arith
     test false false = omega arith
 
--- a file's line: 10 + 1 + 7 + 1 + 6 + 1 + 4 + 1 + 1 + 1
-file-line-short : (d : List ℕ) → ((i : ℕ) → byteAt d i < 256) → sectorsOf d ≤ 1600 → length (fileLine d) ≤ 33
+-- by the rule with marks a last field of two bytes
+mark-field-long : (layout : Layout) (status : ℕ) → length (markField layout status) ≡ cond (layout .marks) 2 0
+unfolding markField
+mark-field-long layout status = by-rule (λ layout. length (markField layout status) ≡ cond (layout .marks) 2 0) refl refl layout
+
+-- a file's line: 10 + 1 + 7 + 1 + 6 + 1 + 4 + 1 + 1 + 1, and that field
+file-line-short : (layout : Layout) (d : List ℕ) → ((i : ℕ) → byteAt d i < 256) → sectorsOf d ≤ 1600 → length (fileLine layout d) ≤ cond (layout .marks) 35 33
 unfolding fileLine nameOf fileKind
-file-line-short d small few =
+file-line-short layout d small few =
     let name = unpadded-short (part d 0 10) in
     let ten = part-short d 0 10 in
     let word = kind-word-long (fileKind d) in
     let long = decimal-short 5 (kindLength (fileKind d)) (kind-length-below (statusOf d) (sectorsOf d) (byteAt d 16) (byteAt d 17) few (small 16) (small 17)) in
     let many = decimal-short 3 (sectorsOf d) (omega arith) in
-    simp length-append (omega arith)
+    let without : length (fileLine layout d) ≤ 33 + length (markField layout (statusOf d)) = simp length-append (omega arith) in
+    go (layout .marks) (omega (arith, without, mark-field-long layout (statusOf d)))
+  where
+    go : (t : Bool) → length (fileLine layout d) ≤ 33 + cond t 2 0 → length (fileLine layout d) ≤ cond t 35 33
+    go true h = h
+    go false h = h
 
-file-lines-short : (image ks : List ℕ) → ((i : ℕ) → byteAt image i < 256) → ((p : ℕ) → p < length ks → sectorsOf (sectorOf image (getD ks p 0)) ≤ 1600)
-    → length (fileLines image ks) ≤ 33 * length ks
+file-lines-short : (layout : Layout) (image ks : List ℕ) → ((i : ℕ) → byteAt image i < 256) → ((p : ℕ) → p < length ks → sectorsOf (sectorOf image (getD ks p 0)) ≤ 1600)
+    → length (fileLines layout image ks) ≤ cond (layout .marks) (35 * length ks) (33 * length ks)
 unfolding fileLines
-file-lines-short image [] small few = omega arith
-file-lines-short image (k ∷ ks) small few =
-    let line = file-line-short (sectorOf image k) (sector-below image k 256 (omega arith) small) (few 0 (omega arith)) in
-    rw length-append (omega (arith, line, file-lines-short image ks small (λ p h. few (suc p) (omega arith))))
+file-lines-short layout image [] small few = none (layout .marks)
+  where
+    none : (t : Bool) → 0 ≤ cond t 0 0
+    none true = omega arith
+    none false = omega arith
+file-lines-short layout image (k ∷ ks) small few =
+    let line = file-line-short layout (sectorOf image k) (sector-below image k 256 (omega arith) small) (few 0 (omega arith)) in
+    rw length-append (go (layout .marks) line (file-lines-short layout image ks small (λ p h. few (suc p) (omega arith))))
+  where
+    go : (t : Bool) {a b : ℕ} → a ≤ cond t 35 33 → b ≤ cond t (35 * length ks) (33 * length ks) → a + b ≤ cond t (35 * length (k ∷ ks)) (33 * length (k ∷ ks))
+    go true h h′ = omega arith
+    go false h h′ = omega arith
 
 -- the disk's line: 10 + 1 + 4 + 1 + 4 + 1
 disk-line-short : (image : List ℕ) → sectorCount image ≤ 1600 → length (diskLine image) ≤ 21
@@ -147,26 +167,37 @@ disk-line-short image size =
     simp length-append (omega arith)
 
 -- and a volume has at most 127 files, each of at most 1,600 sectors
-pub listing-short : (image : List ℕ) → ((i : ℕ) → byteAt image i < 256) → verdict image ≡ 0 → length (listingText image) ≤ 4212
+pub listing-short : (layout : Layout) (image : List ℕ) → ((i : ℕ) → byteAt image i < 256) → verdict layout image ≡ 0 → length (listingText layout image) ≤ cond (layout .marks) 4466 4212
 unfolding listingText files
-listing-short image small e =
-    let is = sound image e in
-    let lines = file-lines-short image (files image) small (λ p h. sectors-few image p is h) in
-    rw length-append (omega (arith, disk-line-short image (is .size .1), lines, is .index .few))
+listing-short layout image small e =
+    let is = sound layout image e in
+    let lines = file-lines-short layout image (files image) small (λ p h. sectors-few layout image p is h) in
+    rw length-append (go (layout .marks) (disk-line-short image (is .size .1)) lines (is .index .few))
+  where
+    go : (t : Bool) {a b many : ℕ} → a ≤ 21 → b ≤ cond t (35 * many) (33 * many) → many ≤ 127 → a + b ≤ cond t 4466 4212
+    go true h h′ few = omega arith
+    go false h h′ few = omega arith
+
+pub listing-room : (layout : Layout) (image : List ℕ) → ((i : ℕ) → byteAt image i < 256) → verdict layout image ≡ 0 → length (listingText layout image) ≤ 4466
+listing-room layout image small e = go (layout .marks) (listing-short layout image small e)
+  where
+    go : (t : Bool) {a : ℕ} → a ≤ cond t 4466 4212 → a ≤ 4466
+    go true h = h
+    go false h = omega arith
 
 -- the listing, for a buffer of `room` bytes: of an unsound image, where the text is too long, and where it fits
-module _ (image : List ℕ) (room : ℕ) where
+module _ (layout : Layout) (image : List ℕ) (room : ℕ) where
   abbrev narrow : List Test
-  narrow = refuse 15 (ltb room (length (listingText image))) ∷ []
+  narrow = refuse 15 (ltb room (length (listingText layout image))) ∷ []
 
-  pub listing-unsound : (verdict image ≡ 0 → ⊥) → listingOf image room ≡ refuses (verdict image)
+  pub listing-unsound : (verdict layout image ≡ 0 → ⊥) → listingOf layout image room ≡ refuses (verdict layout image)
   unfolding listingOf listingTests
-  listing-unsound some = reported-refused (listingTests image room) _ _ (verdict image) some (unsound-first image narrow some)
+  listing-unsound some = reported-refused (listingTests layout image room) _ _ (verdict layout image) some (unsound-first layout image narrow some)
 
-  pub listing-narrow : verdict image ≡ 0 → room < length (listingText image) → listingOf image room ≡ refuses 15
+  pub listing-narrow : verdict layout image ≡ 0 → room < length (listingText layout image) → listingOf layout image room ≡ refuses 15
   unfolding listingOf listingTests firstOf
-  listing-narrow e h = reported-refused (listingTests image room) _ _ 15 (λ z. omega arith) (sound-first image narrow e ∙ rw (lt-ltb room (length (listingText image)) h))
+  listing-narrow e h = reported-refused (listingTests layout image room) _ _ 15 (λ z. omega arith) (sound-first layout image narrow e ∙ rw (lt-ltb room (length (listingText layout image)) h))
 
-  pub listing-fits : verdict image ≡ 0 → length (listingText image) ≤ room → listingOf image room ≡ gives (length (listingText image)) (listingText image)
+  pub listing-fits : verdict layout image ≡ 0 → length (listingText layout image) ≤ room → listingOf layout image room ≡ gives (length (listingText layout image)) (listingText layout image)
   unfolding listingOf listingTests firstOf
-  listing-fits e h = reported-given (listingTests image room) _ _ (sound-first image narrow e ∙ rw (le-ltb room (length (listingText image)) h))
+  listing-fits e h = reported-given (listingTests layout image room) _ _ (sound-first layout image narrow e ∙ rw (le-ltb room (length (listingText layout image)) h))

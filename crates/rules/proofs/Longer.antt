@@ -10,6 +10,7 @@ use Rattle.rules.specs.Bytes.{byteAt, wordBytes, splice}
 use Rattle.rules.specs.Chain.{blocks, placesFrom, places, extended, blocksBytes, chainWith, Linked}
 use Rattle.rules.specs.Kind.{isProgram}
 use Rattle.rules.specs.Descriptor.{nameOf, statusOf, sectorsOf, chainOf, fileKind, withChain, IsDescriptor}
+use Rattle.rules.specs.declared.Layout.{Layout}
 use Rattle.rules.specs.declared.Block.{Block}
 use Rattle.rules.proofs.Bytes.{part-at, part-short}
 use Rattle.rules.proofs.Splice.{splice-past, splice-take}
@@ -41,7 +42,7 @@ module _ (d : List ℕ) (new : ℕ) where
   longer-status = with-chain-before d (sectorsOf d + 1) (longer-blocks d new) 12 (omega arith)
 
 -- the rules and the places
-module _ (n : ℕ) (d : List ℕ) (new : ℕ) (size : length d ≡ 256) (is : IsDescriptor n d) (small : n ≤ 1600) (short : sectorsOf d ≤ 1600) (from : 2 ≤ new) (inside : new < n)
+module _ (layout : Layout) (n : ℕ) (d : List ℕ) (new : ℕ) (size : length d ≡ 256) (is : IsDescriptor layout n d) (small : n ≤ 1600) (short : sectorsOf d ≤ 1600) (from : 2 ≤ new) (inside : new < n)
     (records : isProgram (statusOf d) ≡ false) (few : length (longer-blocks d new) ≤ 76) where
   linked : Linked n (sectorsOf d + 1) 0 (longer-blocks d new)
   linked = extended-linked n new from inside (sectorsOf d) 0 (blocks (chainOf d)) (is .chain .linked)
@@ -69,7 +70,7 @@ module _ (n : ℕ) (d : List ℕ) (new : ℕ) (size : length d ≡ 256) (is : Is
   pub longer-chain : chainOf (longer-descriptor d new) ≡ chainWith (longer-blocks d new)
   longer-chain = with-chain-with d (sectorsOf d + 1) (longer-blocks d new) size writable few zero-behind
 
-  pub longer-rules : IsDescriptor n (longer-descriptor d new)
+  pub longer-rules : IsDescriptor layout n (longer-descriptor d new)
   unfolding fileKind
   longer-rules =
       let c = with-chain-sectors d (sectorsOf d + 1) (longer-blocks d new) (omega arith) in

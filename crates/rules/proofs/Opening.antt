@@ -17,6 +17,7 @@ use Rattle.rules.specs.Verdict.{volumeTests, verdict}
 use Rattle.rules.specs.Sound.{Sound, fileAt, IsFile}
 use Rattle.rules.specs.Outcome.{Report, refuses, Outcome, refusal, Bare, NamedSays, NamedAmountSays, ReadSays, Meets, Gives}
 use Rattle.rules.specs.Opening.{findIn, onSound, underName, openOf, onFile, changing, adding}
+use Rattle.rules.specs.declared.Layout.{Layout}
 use Rattle.rules.specs.declared.WrongPlace.{WrongPlace}
 use Rattle.rules.specs.declared.WrongPlace.the-variants as wrong
 use Rattle.rules.specs.declared.NamedAnswer.{NamedAnswer}
@@ -69,19 +70,19 @@ found image name p (j ∷ ks) q k e = go (same name (nameIn image j)) refl e (fo
         record { after = omega (arith, f .after); inside = rw z (omega (arith, f .inside)); is = rw z (f .is); named = f .named }
 
 -- what a call on a named file knows of it
-pub record IsOpened (image name : List ℕ) (p k : ℕ) : Type 0 where
-  pub whole : Sound image
+pub record IsOpened (layout : Layout) (image name : List ℕ) (p k : ℕ) : Type 0 where
+  pub whole : Sound layout image
   pub rule : nameRule name ≡ true
   pub inside : p < length (files image)
   pub is : fileAt image p ≡ k
   pub named : name ≡ nameIn image k
   pub low : k < sectorCount image
   pub long : length (sectorOf image k) ≡ 256
-  pub descriptor : IsDescriptor (sectorCount image) (sectorOf image k)
+  pub descriptor : IsDescriptor layout (sectorCount image) (sectorOf image k)
 
-opened-facts : (image name : List ℕ) (p k : ℕ) → Sound image → nameRule name ≡ true → Found image name (files image) 0 p k → IsOpened image name p k
+opened-facts : (layout : Layout) (image name : List ℕ) (p k : ℕ) → Sound layout image → nameRule name ≡ true → Found image name (files image) 0 p k → IsOpened layout image name p k
 unfolding files
-opened-facts image name p k s r f =
+opened-facts layout image name p k s r f =
     let z : p - 0 ≡ p = omega arith in
     let inside : p < length (files image) = rw z at (f .inside) in
     let is : fileAt image p ≡ k = rw z at (f .is) in
@@ -98,14 +99,14 @@ opened-facts image name p k s r f =
     }
 
 -- looked for on a sound volume
-module _ (image : List ℕ) (looked : Opened) where
-  pub on-unsound : (verdict image ≡ 0 → ⊥) → onSound image looked ≡ Refused (verdict image)
+module _ (layout : Layout) (image : List ℕ) (looked : Opened) where
+  pub on-unsound : (verdict layout image ≡ 0 → ⊥) → onSound layout image looked ≡ Refused (verdict layout image)
   unfolding onSound verdict
-  on-unsound some = unless-met (volumeTests image) looked _ some
+  on-unsound some = unless-met (volumeTests layout image) looked _ some
 
-  pub on-sound : verdict image ≡ 0 → onSound image looked ≡ looked
+  pub on-sound : verdict layout image ≡ 0 → onSound layout image looked ≡ looked
   unfolding onSound verdict
-  on-sound e = unless-passed (volumeTests image) looked _ e
+  on-sound e = unless-passed (volumeTests layout image) looked _ e
 
 -- and under a name that keeps the rule
 module _ (name : List ℕ) (looked : Opened) where
@@ -134,15 +135,15 @@ find-looks image name p (k ∷ ks) = go (same name (nameIn image k)) (find-looks
     go false more = more
 
 -- by what was opened: what was looked for, or the number of an unsound volume
-pub data OnSound (image : List ℕ) (looked opened : Opened) : Type 0 where
-  whole : Sound image → looked ≡ opened → OnSound image looked opened
-  broken : (verdict image ≡ 0 → ⊥) → opened ≡ Refused (verdict image) → OnSound image looked opened
+pub data OnSound (layout : Layout) (image : List ℕ) (looked opened : Opened) : Type 0 where
+  whole : Sound layout image → looked ≡ opened → OnSound layout image looked opened
+  broken : (verdict layout image ≡ 0 → ⊥) → opened ≡ Refused (verdict layout image) → OnSound layout image looked opened
 
-pub sound-looked : (image : List ℕ) (looked opened : Opened) → onSound image looked ≡ opened → OnSound image looked opened
-sound-looked image looked opened e =
-    elim (ℕ-discrete (verdict image) 0) [
-      | yes none ↦ whole (sound image none) (sym (on-sound image looked none) ∙ e)
-      | no some ↦ broken some (sym e ∙ on-unsound image looked some)
+pub sound-looked : (layout : Layout) (image : List ℕ) (looked opened : Opened) → onSound layout image looked ≡ opened → OnSound layout image looked opened
+sound-looked layout image looked opened e =
+    elim (ℕ-discrete (verdict layout image) 0) [
+      | yes none ↦ whole (sound layout image none) (sym (on-sound layout image looked none) ∙ e)
+      | no some ↦ broken some (sym e ∙ on-unsound layout image looked some)
     ]
 
 -- what was looked for, or the place where the name is wrong
@@ -158,11 +159,11 @@ name-looked name looked opened e = go (wrongPlace name) refl
     go (wrong.At place) there = unruled place there (sym e ∙ under-wrong name looked place there)
 
 -- so a file that is there and a name that is not say that nothing was refused
-pub sound-passed : (image : List ℕ) (looked opened : Opened) → wasLooked opened ≡ true → onSound image looked ≡ opened → Sound image × (looked ≡ opened)
+pub sound-passed : (layout : Layout) (image : List ℕ) (looked opened : Opened) → wasLooked opened ≡ true → onSound layout image looked ≡ opened → Sound layout image × (looked ≡ opened)
 unfolding wasLooked
-sound-passed image looked opened was e = go (sound-looked image looked opened e)
+sound-passed layout image looked opened was e = go (sound-looked layout image looked opened e)
   where
-    go : OnSound image looked opened → Sound image × (looked ≡ opened)
+    go : OnSound layout image looked opened → Sound layout image × (looked ≡ opened)
     go (whole is same) = (is, same)
     go (broken some is) = absurd-test (sym was ∙ ap wasLooked is)
 
@@ -186,71 +187,71 @@ under-refused name looked number none e = go (name-looked name looked (Refused n
     go (ruled kept is) = none is
     go (unruled place there is) = let z : _≡_ {A = ℕ} 0 1 = cc in omega arith
 
-pub refused-bare : (image : List ℕ) (looked : Opened) → ((number : ℕ) → looked ≡ Refused number → ⊥) → (number : ℕ) → onSound image looked ≡ Refused number → Bare number number
-refused-bare image looked none number e = go (sound-looked image looked (Refused number) e)
+pub refused-bare : (layout : Layout) (image : List ℕ) (looked : Opened) → ((number : ℕ) → looked ≡ Refused number → ⊥) → (number : ℕ) → onSound layout image looked ≡ Refused number → Bare number number
+refused-bare layout image looked none number e = go (sound-looked layout image looked (Refused number) e)
   where
-    go : OnSound image looked (Refused number) → Bare number number
+    go : OnSound layout image looked (Refused number) → Bare number number
     go (whole is same) = absurd (none number same)
     go (broken some is) =
-        let same : number ≡ verdict image = cc in
-        (refl, λ z. some (sym same ∙ z), λ z. omega (arith, same, z, verdict-small image))
+        let same : number ≡ verdict layout image = cc in
+        (refl, λ z. some (sym same ∙ z), λ z. omega (arith, same, z, verdict-small layout image))
 
 -- what was found is a file of that name
-pub found-is : (image name : List ℕ) (p k : ℕ) → Sound image → wrongPlace name ≡ wrong.None → findIn image name 0 (files image) ≡ At p k → IsOpened image name p k
-found-is image name p k is none e = opened-facts image name p k is (none-rule name none) (found image name 0 (files image) p k e)
+pub found-is : (layout : Layout) (image name : List ℕ) (p k : ℕ) → Sound layout image → wrongPlace name ≡ wrong.None → findIn image name 0 (files image) ≡ At p k → IsOpened layout image name p k
+found-is layout image name p k is none e = opened-facts layout image name p k is (none-rule name none) (found image name 0 (files image) p k e)
 
 -- a name that keeps the rule and is no file's, on a sound volume
-pub record IsAbsent (image name : List ℕ) : Type 0 where
-  pub whole : Sound image
+pub record IsAbsent (layout : Layout) (image name : List ℕ) : Type 0 where
+  pub whole : Sound layout image
   pub rule : nameRule name ≡ true
   pub absent : findIn image name 0 (files image) ≡ Absent
 
 -- of a call that takes one name
-module _ (image name : List ℕ) where
+module _ (layout : Layout) (image name : List ℕ) where
   abbrev found-there : Opened
   found-there = findIn image name 0 (files image)
 
-  pub open-unsound : (verdict image ≡ 0 → ⊥) → openOf image name ≡ Refused (verdict image)
+  pub open-unsound : (verdict layout image ≡ 0 → ⊥) → openOf layout image name ≡ Refused (verdict layout image)
   unfolding openOf
-  open-unsound some = on-unsound image _ some
+  open-unsound some = on-unsound layout image _ some
 
-  pub open-wrong : (place : ℕ) → verdict image ≡ 0 → wrongPlace name ≡ wrong.At place → openOf image name ≡ Misnamed place
+  pub open-wrong : (place : ℕ) → verdict layout image ≡ 0 → wrongPlace name ≡ wrong.At place → openOf layout image name ≡ Misnamed place
   unfolding openOf
-  open-wrong place e there = on-sound image _ e ∙ under-wrong name _ place there
+  open-wrong place e there = on-sound layout image _ e ∙ under-wrong name _ place there
 
-  pub open-looked : verdict image ≡ 0 → wrongPlace name ≡ wrong.None → openOf image name ≡ findIn image name 0 (files image)
+  pub open-looked : verdict layout image ≡ 0 → wrongPlace name ≡ wrong.None → openOf layout image name ≡ findIn image name 0 (files image)
   unfolding openOf
-  open-looked e none = on-sound image _ e ∙ under-kept name _ none
+  open-looked e none = on-sound layout image _ e ∙ under-kept name _ none
 
-  open-passed : (opened : Opened) → wasLooked opened ≡ true → openOf image name ≡ opened → Sound image × (wrongPlace name ≡ wrong.None) × (found-there ≡ opened)
+  open-passed : (opened : Opened) → wasLooked opened ≡ true → openOf layout image name ≡ opened → Sound layout image × (wrongPlace name ≡ wrong.None) × (found-there ≡ opened)
   unfolding openOf
   open-passed opened was e =
-      let s = sound-passed image _ opened was e in
+      let s = sound-passed layout image _ opened was e in
       let n = name-passed name _ opened was (s .1) in
       (s .0, n .0, n .1)
 
-  pub opened-is : (p k : ℕ) → openOf image name ≡ At p k → IsOpened image name p k
+  pub opened-is : (p k : ℕ) → openOf layout image name ≡ At p k → IsOpened layout image name p k
   unfolding wasLooked
-  opened-is p k e = let o = open-passed (At p k) refl e in found-is image name p k (o .0) (o .1) (o .2)
+  opened-is p k e = let o = open-passed (At p k) refl e in found-is layout image name p k (o .0) (o .1) (o .2)
 
-  pub absent-is : openOf image name ≡ Absent → IsAbsent image name
+  pub absent-is : openOf layout image name ≡ Absent → IsAbsent layout image name
   unfolding wasLooked
   absent-is e = let o = open-passed Absent refl e in record { whole = o .0; rule = none-rule name (o .1); absent = o .2 }
 
   -- a refusal carries the volume's number, or the place where the name is wrong
-  pub open-refused : (number : ℕ) → openOf image name ≡ Refused number → Bare number number
+  pub open-refused : (number : ℕ) → openOf layout image name ≡ Refused number → Bare number number
   unfolding openOf
-  open-refused = refused-bare image (underName name found-there) (λ number e. under-refused name found-there number (find-refused image name number) e)
+  open-refused = refused-bare layout image (underName name found-there) (λ number e. under-refused name found-there number (find-refused image name number) e)
 
-  pub open-misnamed : (place : ℕ) → openOf image name ≡ Misnamed place → wrongPlace name ≡ wrong.At place
+  pub open-misnamed : (place : ℕ) → openOf layout image name ≡ Misnamed place → wrongPlace name ≡ wrong.At place
   unfolding openOf wasLooked
-  open-misnamed place e = go (sound-looked image _ (Misnamed place) e)
+  open-misnamed place e = go (sound-looked layout image _ (Misnamed place) e)
     where
       looks : UnderName name found-there (Misnamed place) → wrongPlace name ≡ wrong.At place
       looks (ruled none is) = absurd-test (sym (find-looks image name 0 (files image)) ∙ ap wasLooked is)
       looks (unruled found there is) = let same : found ≡ place = cc in there ∙ ap wrong.At same
 
-      go : OnSound image (underName name found-there) (Misnamed place) → wrongPlace name ≡ wrong.At place
+      go : OnSound layout image (underName name found-there) (Misnamed place) → wrongPlace name ≡ wrong.At place
       go (whole is same) = looks (name-looked name _ (Misnamed place) same)
       go (broken some is) = absurd (let z : _≡_ {A = ℕ} 0 1 = cc in omega arith)
 
@@ -316,131 +317,131 @@ module _ (opened : Opened) where
   adding-absent addition e = rw e
 
 -- what it promises: a reading call on the file of that name
-module _ (image name before : List ℕ) (reading : ℕ → Report) where
+module _ (layout : Layout) (image name before : List ℕ) (reading : ℕ → Report) where
   abbrev report : Report
-  report = onFile (openOf image name) reading
+  report = onFile (openOf layout image name) reading
 
-  pub load-refused : (number : ℕ) → openOf image name ≡ Refused number → Gives (NamedAmountSays (wrongPlace name)) report (loaded.Refused number) before before
+  pub load-refused : (number : ℕ) → openOf layout image name ≡ Refused number → Gives (NamedAmountSays (wrongPlace name)) report (loaded.Refused number) before before
   unfolding NamedAmountSays
-  load-refused number e = gives-refusal (NamedAmountSays (wrongPlace name)) (loaded.Refused number) before report number (open-refused image name number e) (on-refused _ reading number e)
+  load-refused number e = gives-refusal (NamedAmountSays (wrongPlace name)) (loaded.Refused number) before report number (open-refused layout image name number e) (on-refused _ reading number e)
 
-  pub load-misnamed : (place : ℕ) → openOf image name ≡ Misnamed place → Gives (NamedAmountSays (wrongPlace name)) report (loaded.Misnamed place) before before
+  pub load-misnamed : (place : ℕ) → openOf layout image name ≡ Misnamed place → Gives (NamedAmountSays (wrongPlace name)) report (loaded.Misnamed place) before before
   unfolding NamedAmountSays
-  load-misnamed place e = gives-refusal (NamedAmountSays (wrongPlace name)) (loaded.Misnamed place) before report 7 (refl, open-misnamed image name place e) (on-misnamed _ reading place e)
+  load-misnamed place e = gives-refusal (NamedAmountSays (wrongPlace name)) (loaded.Misnamed place) before report 7 (refl, open-misnamed layout image name place e) (on-misnamed _ reading place e)
 
-  pub load-absent : openOf image name ≡ Absent → Gives (NamedAmountSays (wrongPlace name)) report (loaded.Refused 8) before before
+  pub load-absent : openOf layout image name ≡ Absent → Gives (NamedAmountSays (wrongPlace name)) report (loaded.Refused 8) before before
   unfolding NamedAmountSays
   load-absent e = gives-refusal (NamedAmountSays (wrongPlace name)) (loaded.Refused 8) before report 8 (bare 8 refl) (on-absent _ reading e)
 
-  pub file-refused : (number : ℕ) → openOf image name ≡ Refused number → Gives (ReadSays (wrongPlace name)) report (named.Refused number) before before
+  pub file-refused : (number : ℕ) → openOf layout image name ≡ Refused number → Gives (ReadSays (wrongPlace name)) report (named.Refused number) before before
   unfolding NamedSays
-  file-refused number e = gives-refusal (ReadSays (wrongPlace name)) (named.Refused number) before report number (open-refused image name number e) (on-refused _ reading number e)
+  file-refused number e = gives-refusal (ReadSays (wrongPlace name)) (named.Refused number) before report number (open-refused layout image name number e) (on-refused _ reading number e)
 
-  pub file-misnamed : (place : ℕ) → openOf image name ≡ Misnamed place → Gives (ReadSays (wrongPlace name)) report (named.Misnamed place) before before
+  pub file-misnamed : (place : ℕ) → openOf layout image name ≡ Misnamed place → Gives (ReadSays (wrongPlace name)) report (named.Misnamed place) before before
   unfolding NamedSays
-  file-misnamed place e = gives-refusal (ReadSays (wrongPlace name)) (named.Misnamed place) before report 7 (refl, open-misnamed image name place e) (on-misnamed _ reading place e)
+  file-misnamed place e = gives-refusal (ReadSays (wrongPlace name)) (named.Misnamed place) before report 7 (refl, open-misnamed layout image name place e) (on-misnamed _ reading place e)
 
-  pub file-absent : openOf image name ≡ Absent → Gives (ReadSays (wrongPlace name)) report (named.Refused 8) before before
+  pub file-absent : openOf layout image name ≡ Absent → Gives (ReadSays (wrongPlace name)) report (named.Refused 8) before before
   unfolding NamedSays
   file-absent e = gives-refusal (ReadSays (wrongPlace name)) (named.Refused 8) before report 8 (bare 8 refl) (on-absent _ reading e)
 
-  pub on-found : {Given : Type 0} (Says : WrongPlace → Given → Report → Type 0) (p k : ℕ) → openOf image name ≡ At p k → (given : Given) (after : List ℕ)
+  pub on-found : {Given : Type 0} (Says : WrongPlace → Given → Report → Type 0) (p k : ℕ) → openOf layout image name ≡ At p k → (given : Given) (after : List ℕ)
       → Gives (Says wrong.None) (reading k) given before after → Gives (Says (wrongPlace name)) report given before after
   unfolding onFile
-  on-found Says p k e given after gives = rw (rule-none name (opened-is image name p k e .rule), e) gives
+  on-found Says p k e given after gives = rw (rule-none name (opened-is layout image name p k e .rule), e) gives
 
 -- a change of it
-module _ (image name : List ℕ) (change : ℕ → Outcome) where
+module _ (layout : Layout) (image name : List ℕ) (change : ℕ → Outcome) where
   abbrev outcome : Outcome
-  outcome = changing (openOf image name) change
+  outcome = changing (openOf layout image name) change
 
-  pub change-refused : (number : ℕ) → openOf image name ≡ Refused number → Meets (NamedSays (wrongPlace name)) outcome (named.Refused number) image image
+  pub change-refused : (number : ℕ) → openOf layout image name ≡ Refused number → Meets (NamedSays (wrongPlace name)) outcome (named.Refused number) image image
   unfolding NamedSays
-  change-refused number e = meets-refusal (NamedSays (wrongPlace name)) (named.Refused number) image outcome number (open-refused image name number e) (changing-refused _ change number e)
+  change-refused number e = meets-refusal (NamedSays (wrongPlace name)) (named.Refused number) image outcome number (open-refused layout image name number e) (changing-refused _ change number e)
 
-  pub change-misnamed : (place : ℕ) → openOf image name ≡ Misnamed place → Meets (NamedSays (wrongPlace name)) outcome (named.Misnamed place) image image
+  pub change-misnamed : (place : ℕ) → openOf layout image name ≡ Misnamed place → Meets (NamedSays (wrongPlace name)) outcome (named.Misnamed place) image image
   unfolding NamedSays
-  change-misnamed place e = meets-refusal (NamedSays (wrongPlace name)) (named.Misnamed place) image outcome 7 (refl, open-misnamed image name place e) (changing-misnamed _ change place e)
+  change-misnamed place e = meets-refusal (NamedSays (wrongPlace name)) (named.Misnamed place) image outcome 7 (refl, open-misnamed layout image name place e) (changing-misnamed _ change place e)
 
-  pub change-absent : openOf image name ≡ Absent → Meets (NamedSays (wrongPlace name)) outcome (named.Refused 8) image image
+  pub change-absent : openOf layout image name ≡ Absent → Meets (NamedSays (wrongPlace name)) outcome (named.Refused 8) image image
   unfolding NamedSays
   change-absent e = meets-refusal (NamedSays (wrongPlace name)) (named.Refused 8) image outcome 8 (bare 8 refl) (changing-absent _ change e)
 
-  pub change-found : (p k : ℕ) → openOf image name ≡ At p k → (given : NamedAnswer) (after : List ℕ) → Meets (NamedSays wrong.None) (change k) given image after
+  pub change-found : (p k : ℕ) → openOf layout image name ≡ At p k → (given : NamedAnswer) (after : List ℕ) → Meets (NamedSays wrong.None) (change k) given image after
       → Meets (NamedSays (wrongPlace name)) outcome given image after
   unfolding changing
-  change-found p k e given after meets = rw (rule-none name (opened-is image name p k e .rule), e) meets
+  change-found p k e given after meets = rw (rule-none name (opened-is layout image name p k e .rule), e) meets
 
 -- an addition under its name
-module _ (image name : List ℕ) (addition : Outcome) where
+module _ (layout : Layout) (image name : List ℕ) (addition : Outcome) where
   abbrev added : Outcome
-  added = adding (openOf image name) addition
+  added = adding (openOf layout image name) addition
 
-  pub add-refused : (number : ℕ) → openOf image name ≡ Refused number → Meets (NamedSays (wrongPlace name)) added (named.Refused number) image image
+  pub add-refused : (number : ℕ) → openOf layout image name ≡ Refused number → Meets (NamedSays (wrongPlace name)) added (named.Refused number) image image
   unfolding NamedSays
-  add-refused number e = meets-refusal (NamedSays (wrongPlace name)) (named.Refused number) image added number (open-refused image name number e) (adding-refused _ addition number e)
+  add-refused number e = meets-refusal (NamedSays (wrongPlace name)) (named.Refused number) image added number (open-refused layout image name number e) (adding-refused _ addition number e)
 
-  pub add-misnamed : (place : ℕ) → openOf image name ≡ Misnamed place → Meets (NamedSays (wrongPlace name)) added (named.Misnamed place) image image
+  pub add-misnamed : (place : ℕ) → openOf layout image name ≡ Misnamed place → Meets (NamedSays (wrongPlace name)) added (named.Misnamed place) image image
   unfolding NamedSays
-  add-misnamed place e = meets-refusal (NamedSays (wrongPlace name)) (named.Misnamed place) image added 7 (refl, open-misnamed image name place e) (adding-misnamed _ addition place e)
+  add-misnamed place e = meets-refusal (NamedSays (wrongPlace name)) (named.Misnamed place) image added 7 (refl, open-misnamed layout image name place e) (adding-misnamed _ addition place e)
 
-  pub add-present : (p k : ℕ) → openOf image name ≡ At p k → Meets (NamedSays (wrongPlace name)) added (named.Refused 9) image image
+  pub add-present : (p k : ℕ) → openOf layout image name ≡ At p k → Meets (NamedSays (wrongPlace name)) added (named.Refused 9) image image
   unfolding NamedSays
   add-present p k e = meets-refusal (NamedSays (wrongPlace name)) (named.Refused 9) image added 9 (bare 9 refl) (adding-present _ addition p k e)
 
-  pub add-absent : openOf image name ≡ Absent → (given : NamedAnswer) (after : List ℕ) → Meets (NamedSays wrong.None) addition given image after
+  pub add-absent : openOf layout image name ≡ Absent → (given : NamedAnswer) (after : List ℕ) → Meets (NamedSays wrong.None) addition given image after
       → Meets (NamedSays (wrongPlace name)) added given image after
   unfolding adding
-  add-absent e given after meets = rw (rule-none name (absent-is image name e .rule), e) meets
+  add-absent e given after meets = rw (rule-none name (absent-is layout image name e .rule), e) meets
 
 -- the file at a place of the catalogue, by the two bytes of sector 1 there
-pub place-none : (image : List ℕ) (p : ℕ) → Sound image → wordAt (sectorOf image 1) (2 * p) ≡ 0 → length (files image) ≤ p
+pub place-none : (layout : Layout) (image : List ℕ) (p : ℕ) → Sound layout image → wordAt (sectorOf image 1) (2 * p) ≡ 0 → length (files image) ≤ p
 unfolding files
-place-none image p is z =
+place-none layout image p is z =
     elim (decLt p (length (numbers (sectorOf image 1)))) [
       | yes h ↦ absurd (number-at (sectorOf image 1) p h .1 z)
       | no h ↦ omega arith
     ]
 
-pub place-some : (image : List ℕ) (p : ℕ) → Sound image → (wordAt (sectorOf image 1) (2 * p) ≡ 0 → ⊥) → (p < length (files image)) × (fileAt image p ≡ wordAt (sectorOf image 1) (2 * p))
+pub place-some : (layout : Layout) (image : List ℕ) (p : ℕ) → Sound layout image → (wordAt (sectorOf image 1) (2 * p) ≡ 0 → ⊥) → (p < length (files image)) × (fileAt image p ≡ wordAt (sectorOf image 1) (2 * p))
 unfolding files
-place-some image p is some =
+place-some layout image p is some =
     elim (decLt p (length (numbers (sectorOf image 1)))) [
       | yes h ↦ (h, number-at (sectorOf image 1) p h .0)
       | no h ↦ absurd (some (number-past (sectorCount image) (sectorOf image 1) (is .index) p (omega arith)))
     ]
 
-pub place-many : (image : List ℕ) → Sound image → length (files image) ≤ 127
+pub place-many : (layout : Layout) (image : List ℕ) → Sound layout image → length (files image) ≤ 127
 unfolding files
-place-many image is = is .index .few
+place-many layout image is = is .index .few
 
 -- a file's descriptor is a sector of the volume
-pub file-low : (image : List ℕ) (p : ℕ) → Sound image → p < length (files image) → fileAt image p < sectorCount image
+pub file-low : (layout : Layout) (image : List ℕ) (p : ℕ) → Sound layout image → p < length (files image) → fileAt image p < sectorCount image
 unfolding files
-file-low image p is h = is .index .range p h .1
+file-low layout image p is h = is .index .range p h .1
 
-pub file-long : (image : List ℕ) (k : ℕ) → Sound image → k < sectorCount image → length (sectorOf image k) ≡ 256
-file-long image k is h = sector-length image k (omega (arith, is .whole))
+pub file-long : (layout : Layout) (image : List ℕ) (k : ℕ) → Sound layout image → k < sectorCount image → length (sectorOf image k) ≡ 256
+file-long layout image k is h = sector-length image k (omega (arith, is .whole))
 
 -- a file that a call names
-pub is-file : (image name : List ℕ) (p k : ℕ) → openOf image name ≡ At p k → IsFile image k
-is-file image name p k e =
-    let o = opened-is image name p k e in
+pub is-file : (layout : Layout) (image name : List ℕ) (p k : ℕ) → openOf layout image name ≡ At p k → IsFile layout image k
+is-file layout image name p k e =
+    let o = opened-is layout image name p k e in
     record { sound = o .whole; place = p; inside = o .inside; is = o .is }
 
 -- what is known of a file
-module _ (image : List ℕ) (k : ℕ) (file : IsFile image k) where
+module _ (layout : Layout) (image : List ℕ) (k : ℕ) (file : IsFile layout image k) where
   pub in-volume : k < sectorCount image
-  in-volume = rw (← file .is) (file-low image (file .place) (file .sound) (file .inside))
+  in-volume = rw (← file .is) (file-low layout image (file .place) (file .sound) (file .inside))
 
-  pub has-rules : IsDescriptor (sectorCount image) (sectorOf image k)
+  pub has-rules : IsDescriptor layout (sectorCount image) (sectorOf image k)
   has-rules = rw (← file .is) (file .sound .descriptors (file .place) (file .inside))
 
   pub is-sector : length (sectorOf image k) ≡ 256
-  is-sector = file-long image k (file .sound) in-volume
+  is-sector = file-long layout image k (file .sound) in-volume
 
   pub place-in-image : (offset : ℕ) → offset < sectorsOf (sectorOf image k) → 256 * getD (placesIn image k) offset 0 + 256 ≤ length image
-  place-in-image offset h = omega (arith, place-inside (sectorCount image) image k offset has-rules h .1, file .sound .whole)
+  place-in-image offset h = omega (arith, place-inside layout (sectorCount image) image k offset has-rules h .1, file .sound .whole)
 
 -- a change that was done: the file was found, and the change of it was done
 pub record Changed (opened : Opened) (change : ℕ → Outcome) : Type 0 where

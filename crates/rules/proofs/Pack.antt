@@ -11,6 +11,7 @@ use Rattle.rules.specs.Descriptor.{IsDescriptor}
 use Rattle.rules.specs.Volume.{File, files, placesIn, fileHolders, holders, headerIn, contentsIn, fileIn, catalogue}
 use Rattle.rules.specs.Sound.{Sound}
 use Rattle.rules.specs.Calls.Pack.{labelArea, oneBlock, packedDescriptor, packedDescriptors, packedData, dataSectors, packedSectors}
+use Rattle.rules.specs.declared.Layout.{Layout}
 use Rattle.rules.proofs.Bytes.{part-length}
 use Rattle.rules.proofs.Sectors.{sector-length}
 use Rattle.rules.proofs.Map.{count-here, count-more}
@@ -73,21 +74,21 @@ module _ (n : ℕ) (image : List ℕ) (whole : length image ≡ 256 * n) where
   unfolding headerIn
   header-length k inside = part-length (sectorOf image k) 0 28 (omega (arith, sector-length image k (omega arith)))
 
-  pub file-whole : (k : ℕ) → k < n → IsDescriptor n (sectorOf image k) → Whole (fileIn image k)
+  pub file-whole : (layout : Layout) (k : ℕ) → k < n → IsDescriptor layout n (sectorOf image k) → Whole (fileIn image k)
   unfolding fileIn contentsIn
-  file-whole k inside is =
-      record { long = header-length k inside; full = full-sectors image (placesIn image k) (λ p h. omega (arith, whole, places-inside n image k p is h)) }
+  file-whole layout k inside is =
+      record { long = header-length k inside; full = full-sectors image (placesIn image k) (λ p h. omega (arith, whole, places-inside layout n image k p is h)) }
 
-  files-whole : (ks : List ℕ) → ((p : ℕ) → p < length ks → getD ks p 0 < n) → ((p : ℕ) → p < length ks → IsDescriptor n (sectorOf image (getD ks p 0)))
+  files-whole : (layout : Layout) (ks : List ℕ) → ((p : ℕ) → p < length ks → getD ks p 0 < n) → ((p : ℕ) → p < length ks → IsDescriptor layout n (sectorOf image (getD ks p 0)))
       → AllWhole (map (fileIn image) ks)
   unfolding AllWhole
-  files-whole [] inside is = tt
-  files-whole (k ∷ ks) inside is =
-      (file-whole k (inside 0 (omega arith)) (is 0 (omega arith)), files-whole ks (λ p h. inside (suc p) (omega arith)) (λ p h. is (suc p) (omega arith)))
+  files-whole layout [] inside is = tt
+  files-whole layout (k ∷ ks) inside is =
+      (file-whole layout k (inside 0 (omega arith)) (is 0 (omega arith)), files-whole layout ks (λ p h. inside (suc p) (omega arith)) (λ p h. is (suc p) (omega arith)))
 
-pub catalogue-whole : (image : List ℕ) → Sound image → AllWhole (catalogue image)
+pub catalogue-whole : (layout : Layout) (image : List ℕ) → Sound layout image → AllWhole (catalogue image)
 unfolding catalogue files
-catalogue-whole image is = files-whole (sectorCount image) image (is .whole) (files image) (λ p h. is .index .range p h .1) (is .descriptors)
+catalogue-whole layout image is = files-whole (sectorCount image) image (is .whole) layout (files image) (λ p h. is .index .range p h .1) (is .descriptors)
 
 -- the files hold their descriptors and their contents, and there is room for them
 pub held-sectors : (image ks : List ℕ) → length (fileHolders image ks) ≡ length ks + dataSectors (map (fileIn image) ks)
@@ -96,7 +97,7 @@ held-sectors image [] = refl
 held-sectors image (k ∷ ks) =
     omega (arith, length-append (placesIn image k) (fileHolders image ks), length-map (placesIn image k) (sectorOf image), held-sectors image ks)
 
-pub used-inside : (image : List ℕ) → Sound image → packedSectors (catalogue image) ≤ sectorCount image
+pub used-inside : (layout : Layout) (image : List ℕ) → Sound layout image → packedSectors (catalogue image) ≤ sectorCount image
 unfolding packedSectors catalogue holders
-used-inside image is =
-    omega (arith, free-holders image is, held-sectors image (files image), length-map (files image) (fileIn image))
+used-inside layout image is =
+    omega (arith, free-holders layout image is, held-sectors image (files image), length-map (files image) (fileIn image))

@@ -14,6 +14,7 @@ use Rattle.rules.specs.Descriptor.{nameOf, IsDescriptor}
 use Rattle.rules.specs.Index.{indexOf, without, IsIndex}
 use Rattle.rules.specs.Volume.{files, nameIn, placesIn, fileHolders, holders, fileIn, placed}
 use Rattle.rules.specs.Sound.{Sound}
+use Rattle.rules.specs.declared.Layout.{Layout}
 use Rattle.rules.proofs.Map.{taken-same, count-none, count-here, count-more, count-at, count-append}
 use Rattle.rules.proofs.Volume.{holders-inside}
 use Rattle.rules.proofs.Free.{free-holders}
@@ -49,14 +50,14 @@ IsListed image none = Unit {0}
 IsListed image (at k) = 1 ≤ count k (files image)
 
 -- the one that comes keeps its rules, and no other has its name
-pub record New (image after name others : List ℕ) (k : ℕ) : Type 0 where
-  pub rules : IsDescriptor (sectorCount image) (sectorOf after k)
+pub record New (layout : Layout) (image after name others : List ℕ) (k : ℕ) : Type 0 where
+  pub rules : IsDescriptor layout (sectorCount image) (sectorOf after k)
   pub named : nameIn after k ≡ name
   pub alone : (j : ℕ) → 1 ≤ count j others → nameIn image j ≡ name → ⊥
 
-abbrev pub IsNew : (image after name others : List ℕ) → Slot → Type 0
-IsNew image after name others none = Unit {0}
-IsNew image after name others (at k) = New image after name others k
+abbrev pub IsNew : (layout : Layout) (image after name others : List ℕ) → Slot → Type 0
+IsNew layout image after name others none = Unit {0}
+IsNew layout image after name others (at k) = New layout image after name others k
 
 -- sectors 0 and 1 and what the files that stay hold
 abbrev pub remaining : List ℕ → Slot → List ℕ
@@ -74,14 +75,14 @@ pub record Numbered (image after ks : List ℕ) : Type 0 where
   pub files-are : files after ≡ ks
 
 -- what is to be seen of the image afterwards: all else is told by the image before
-pub record Replaced (image after name : List ℕ) (goes comes : Slot) : Type 0 where
-  pub sound : Sound image
+pub record Replaced (layout : Layout) (image after name : List ℕ) (goes comes : Slot) : Type 0 where
+  pub sound : Sound layout image
   pub listed : IsListed image goes
   pub size : length after ≡ length image
   pub mapped : Mapped image after goes comes
   pub numbered : Numbered image after (coming image name comes (staying goes (files image)))
   pub stands : (j : ℕ) → 1 ≤ count j (fileHolders image (staying goes (files image))) → sectorOf after j ≡ sectorOf image j
-  pub new : IsNew image after name (staying goes (files image)) comes
+  pub new : IsNew layout image after name (staying goes (files image)) comes
 
 -- the files that stay, and what the one that goes held
 module _ (image : List ℕ) where
@@ -112,15 +113,15 @@ coming-parts : (after image name : List ℕ) (comes : Slot) (j : ℕ) (ks : List
 coming-parts after image name none j ks = omega (arith, count-none j)
 coming-parts after image name (at k) j ks = holders-placed after image name k j ks
 
-coming-ascending : (image after name : List ℕ) (comes : Slot) (ks : List ℕ) → IsNew image after name ks comes → Ascending image ks
+coming-ascending : (layout : Layout) (image after name : List ℕ) (comes : Slot) (ks : List ℕ) → IsNew layout image after name ks comes → Ascending image ks
     → ((p : ℕ) → p < length ks → length (nameIn image (getD ks p 0)) ≡ 10) → ((j : ℕ) → 1 ≤ count j ks → nameIn after j ≡ nameIn image j)
     → Ascending after (coming image name comes ks)
 unfolding nameIn
-coming-ascending image after name none ks new up long kept = λ p q h l. rw (kept (getD ks p 0) (count-at ks p (omega arith)), kept (getD ks q 0) (count-at ks q l)) (up p q h l)
-coming-ascending image after name (at k) ks new up long kept =
+coming-ascending layout image after name none ks new up long kept = λ p q h l. rw (kept (getD ks p 0) (count-at ks p (omega arith)), kept (getD ks q 0) (count-at ks q l)) (up p q h l)
+coming-ascending layout image after name (at k) ks new up long kept =
     placed-ascending image after name k (new .named) ks up (λ p h. long p h ∙ sym (rw (new .named) at (new .rules .name .ten))) (λ p h. new .alone (getD ks p 0) (count-at ks p h)) kept
 
-module _ {image after name : List ℕ} {goes comes : Slot} (r : Replaced image after name goes comes) where
+module _ (layout : Layout) {image after name : List ℕ} {goes comes : Slot} (r : Replaced layout image after name goes comes) where
   abbrev others : List ℕ
   others = staying goes (files image)
 
@@ -150,29 +151,29 @@ module _ {image after name : List ℕ} {goes comes : Slot} (r : Replaced image a
         count-append j (held after comes) (remaining image goes),
       )
 
-  rebuilt : Rebuilt image after (coming image name comes others)
+  rebuilt : Rebuilt layout image after (coming image name comes others)
   unfolding nameIn
   rebuilt =
-      let rules = listed-descriptor image (r .sound) in
+      let rules = listed-descriptor layout image (r .sound) in
       record {
         size = r .size;
         label = r .mapped .label;
         index = r .numbered .index;
         files-are = r .numbered .files-are;
         descriptors =
-            coming-all (λ (j : ℕ). IsDescriptor (sectorCount image) (sectorOf after j)) image name comes others (λ k e. (rw e at (r .new)) .rules)
+            coming-all (λ (j : ℕ). IsDescriptor layout (sectorCount image) (sectorOf after j)) image name comes others (λ k e. (rw e at (r .new)) .rules)
             (λ p h.
             let left = count-at others p h in
             rw (descriptor-stands (getD others p 0) left) (rules (getD others p 0) (stayed image goes (r .listed) (getD others p 0) left)));
         ascending =
-            coming-ascending image after name comes others (r .new) (staying-ascending image goes (r .sound .ascending))
+            coming-ascending layout image after name comes others (r .new) (staying-ascending image goes (r .sound .ascending))
             (λ p h. rules (getD others p 0) (stayed image goes (r .listed) (getD others p 0) (count-at others p h)) .name .ten) name-stands;
         single = λ j. rw (holders-after j) (r .mapped .once j);
         map = λ j low. r .mapped .map j low ∙ sym (taken-same (sectorCount image) (held after comes ++ remaining image goes) _ holders-after j);
       }
 
-  pub sound-after : Sound after
-  sound-after = sound-again image after (coming image name comes others) (r .sound) rebuilt
+  pub sound-after : Sound layout after
+  sound-after = sound-again layout image after (coming image name comes others) (r .sound) rebuilt
 
   pub free-after : freeCount (sectorOf after 0) + length (held after comes) ≡ freeCount (sectorOf image 0) + length (held image goes)
   unfolding holders
@@ -180,15 +181,15 @@ module _ {image after name : List ℕ} {goes comes : Slot} (r : Replaced image a
       let n : sectorCount after ≡ sectorCount image = ap (λ (m : ℕ). m / 256) (r .size) in
       let now = counts-length (0 ∷ (1 ∷ fileHolders after (coming image name comes others))) (held after comes ++ remaining image goes) holders-after in
       let was = counts-length (holders image) (held image goes ++ remaining image goes) (λ j. all-parted image goes (r .listed) j ∙ sym (count-append j (held image goes) (remaining image goes))) in
-      let free = rw (r .numbered .files-are, n) at (free-holders after sound-after) in
-      omega (arith, free, free-holders image (r .sound), now, was, length-append (held after comes) (remaining image goes), length-append (held image goes) (remaining image goes))
+      let free = rw (r .numbered .files-are, n) at (free-holders layout after sound-after) in
+      omega (arith, free, free-holders layout image (r .sound), now, was, length-append (held after comes) (remaining image goes), length-append (held image goes) (remaining image goes))
 
 -- sector 1 with the numbers that it is to have
-pub index-anew : (image after name : List ℕ) (goes comes : Slot) → Sound image → ((k : ℕ) → comes ≡ at k → (2 ≤ k) × (k < sectorCount image)) → length (coming image name comes (staying goes (files image))) ≤ 127
+pub index-anew : (layout : Layout) (image after name : List ℕ) (goes comes : Slot) → Sound layout image → ((k : ℕ) → comes ≡ at k → (2 ≤ k) × (k < sectorCount image)) → length (coming image name comes (staying goes (files image))) ≤ 127
     → sectorOf after 1 ≡ indexOf (coming image name comes (staying goes (files image)))
     → Numbered image after (coming image name comes (staying goes (files image)))
 unfolding files
-index-anew image after name goes comes is inside few sector1 =
+index-anew layout image after name goes comes is inside few sector1 =
     let ks = coming image name comes (staying goes (files image)) in
     let range = coming-all (λ (j : ℕ). (2 ≤ j) × (j < sectorCount image)) image name comes (staying goes (files image)) inside (stay goes) in
     record {
@@ -201,46 +202,46 @@ index-anew image after name goes comes is inside few sector1 =
     stay (at k) = without-all (λ (j : ℕ). (2 ≤ j) × (j < sectorCount image)) k (files image) (is .index .range)
 
 -- sectors that were free are nobody's
-pub taken-once : (image fresh : List ℕ) → Sound image → ((j : ℕ) → count j fresh ≤ 1) → ((j : ℕ) → 1 ≤ count j fresh → Chosen (sectorCount image) (sectorOf image 0) j)
+pub taken-once : (layout : Layout) (image fresh : List ℕ) → Sound layout image → ((j : ℕ) → count j fresh ≤ 1) → ((j : ℕ) → 1 ≤ count j fresh → Chosen (sectorCount image) (sectorOf image 0) j)
     → (j : ℕ) → count j fresh + count j (holders image) ≤ 1
-taken-once image fresh is once free j =
+taken-once layout image fresh is once free j =
     elim (decLt 0 (count j fresh)) [
-      | yes some ↦ let chosen = free j some in omega (arith, once j, free-unheld image j is (chosen .inside) (chosen .free))
+      | yes some ↦ let chosen = free j some in omega (arith, once j, free-unheld layout image j is (chosen .inside) (chosen .free))
       | no other ↦ omega (arith, other, is .single j)
     ]
 
 -- the map where sectors are taken: they were free, and the file that comes holds them and what the one that goes held
-pub taken-mapped : (image after : List ℕ) (goes comes : Slot) (fresh : List ℕ) → Sound image → IsListed image goes → ((j : ℕ) → count j fresh ≤ 1)
+pub taken-mapped : (layout : Layout) (image after : List ℕ) (goes comes : Slot) (fresh : List ℕ) → Sound layout image → IsListed image goes → ((j : ℕ) → count j fresh ≤ 1)
     → ((j : ℕ) → 1 ≤ count j fresh → Chosen (sectorCount image) (sectorOf image 0) j) → sectorOf after 0 ≡ markedAll 1 (sectorOf image 0) fresh
     → ((j : ℕ) → count j (held after comes) ≡ count j fresh + count j (held image goes)) → Mapped image after goes comes
-taken-mapped image after goes comes fresh is listed once free sector0 holds =
+taken-mapped layout image after goes comes fresh is listed once free sector0 holds =
     let now = held after comes ++ remaining image goes in
     let counts : (j : ℕ) → count j now ≡ count j fresh + count j (holders image) =
     λ j. omega (arith, holds j, all-parted image goes listed j, count-append j (held after comes) (remaining image goes))
     in
-    let unheld = taken-once image fresh is once free in
+    let unheld = taken-once layout image fresh is once free in
     record {
       label = λ i h. rw sector0 (all-label 1 (sectorOf image 0) fresh i h);
       once = λ j. omega (arith, counts j, unheld j);
-      map = rw sector0 (marked-holders (sectorCount image) (sectorOf image 0) (holders image) fresh now (label-long image is) (map-is image is) unheld counts);
+      map = rw sector0 (marked-holders (sectorCount image) (sectorOf image 0) (holders image) fresh now (label-long layout image is) (map-is layout image is) unheld counts);
     }
 
 -- where nothing is taken and nothing given back
-pub same-mapped : (image after : List ℕ) (goes comes : Slot) → Sound image → IsListed image goes → sectorOf after 0 ≡ sectorOf image 0
+pub same-mapped : (layout : Layout) (image after : List ℕ) (goes comes : Slot) → Sound layout image → IsListed image goes → sectorOf after 0 ≡ sectorOf image 0
     → ((j : ℕ) → count j (held after comes) ≡ count j (held image goes)) → Mapped image after goes comes
 unfolding markedAll
-same-mapped image after goes comes is listed sector0 holds =
-    taken-mapped image after goes comes [] is listed (λ j. omega (arith, count-none j)) (λ j some. absurd (omega (arith, some, count-none j))) sector0 (λ j. omega (arith, holds j, count-none j))
+same-mapped layout image after goes comes is listed sector0 holds =
+    taken-mapped layout image after goes comes [] is listed (λ j. omega (arith, count-none j)) (λ j some. absurd (omega (arith, some, count-none j))) sector0 (λ j. omega (arith, holds j, count-none j))
 
 -- and where what the file that goes held is given back, and none comes
-pub given-mapped : (image after : List ℕ) (goes : Slot) → Sound image → IsListed image goes → sectorOf after 0 ≡ markedAll 0 (sectorOf image 0) (held image goes) → Mapped image after goes none
-given-mapped image after goes is listed sector0 =
+pub given-mapped : (layout : Layout) (image after : List ℕ) (goes : Slot) → Sound layout image → IsListed image goes → sectorOf after 0 ≡ markedAll 0 (sectorOf image 0) (held image goes) → Mapped image after goes none
+given-mapped layout image after goes is listed sector0 =
     let parts = all-parted image goes listed in
     record {
       label = λ i h. rw sector0 (all-label 0 (sectorOf image 0) (held image goes) i h);
       once = λ j. omega (arith, parts j, is .single j);
       map =
           rw sector0
-          (cleared-holders (sectorCount image) (sectorOf image 0) (holders image) (held image goes) (remaining image goes) (label-long image is) (map-is image is) (is .single)
-          (λ i some. holders-inside (sectorCount image) image i (omega (arith, is .size)) (is .index) (is .descriptors) (omega (arith, some, parts i))) parts);
+          (cleared-holders (sectorCount image) (sectorOf image 0) (holders image) (held image goes) (remaining image goes) (label-long layout image is) (map-is layout image is) (is .single)
+          (λ i some. holders-inside layout (sectorCount image) image i (omega (arith, is .size)) (is .index) (is .descriptors) (omega (arith, some, parts i))) parts);
     }

@@ -36,12 +36,6 @@ module _ (image : List ℕ) (k : ℕ) where
       ∙ splice-part image (256 * k) 256 i (value ∷ []) (omega arith)
       ∙ sym (set-splice image (256 * k + i) value)
 
-  pub sector-laid : (bytes : List ℕ) → length bytes ≤ 256 → splice image (256 * k) (splice (sectorOf image k) 0 bytes) ≡ splice image (256 * k) bytes
-  unfolding sectorOf
-  sector-laid bytes h =
-      let z : 256 * k + 0 ≡ 256 * k = omega arith in
-      splice-part image (256 * k) 256 0 bytes (omega arith) ∙ ap (λ (at : ℕ). splice image at bytes) z
-
 -- two images of one length, a whole number of sectors, whose sectors are equal
 pub image-same : (a b : List ℕ) → length a ≡ length b → length a ≡ 256 * sectorCount a → ((j : ℕ) → j < sectorCount a → sectorOf a j ≡ sectorOf b j) → a ≡ b
 image-same a b long whole same =

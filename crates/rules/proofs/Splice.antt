@@ -89,6 +89,21 @@ splice-append buffer zero first second = rw (zero-add (length first)) (over-appe
 splice-append [] (suc at) first second = rw (suc-add at (length first))
 splice-append (b ∷ buffer) (suc at) first second = rw (suc-add at (length first)) (ap (λ (l : List ℕ). b ∷ l) (splice-append buffer at first second))
 
+-- bytes laid over no fewer that were laid there before: laid over those first
+over-over : (buffer first second : List ℕ) → length second ≤ length first → over (over buffer first) second ≡ over buffer (over first second)
+unfolding over
+over-over [] first second h = refl
+over-over (b ∷ buffer) [] [] h = refl
+over-over (b ∷ buffer) [] (d ∷ second) h = absurd (omega arith)
+over-over (b ∷ buffer) (c ∷ first) [] h = refl
+over-over (b ∷ buffer) (c ∷ first) (d ∷ second) h = ap (λ (l : List ℕ). d ∷ l) (over-over buffer first second (omega arith))
+
+pub splice-over : (buffer : List ℕ) (at : ℕ) (first second : List ℕ) → length second ≤ length first → splice (splice buffer at first) at second ≡ splice buffer at (splice first 0 second)
+unfolding splice
+splice-over buffer zero first second h = over-over buffer first second h
+splice-over [] (suc at) first second h = refl
+splice-over (b ∷ buffer) (suc at) first second h = ap (λ (l : List ℕ). b ∷ l) (splice-over buffer at first second h)
+
 -- bytes of the buffer's own length, and what is read of the front
 pub splice-whole : (buffer bytes : List ℕ) → length bytes ≡ length buffer → splice buffer 0 bytes ≡ bytes
 unfolding splice over

@@ -17,6 +17,7 @@ use Rattle.rules.specs.Descriptor.{nameOf, chainOf}
 use Rattle.rules.specs.Index.{without}
 use Rattle.rules.specs.Volume.{files, nameIn, placesIn, fileHolders, holders, headerIn, contentsIn, fileIn, catalogue, placed}
 use Rattle.rules.specs.Sound.{Sound}
+use Rattle.rules.specs.declared.Layout.{Layout}
 use Rattle.rules.proofs.Map.{count-none, count-here, count-other, count-more, count-at, count-append}
 
 -- the places of a descriptor that stands as it stood
@@ -135,5 +136,5 @@ catalogue-kept image after kept =
     (λ p placed. kept p (omega (arith, placed, file-held image k p there, count-more p k (placesIn image k))))))
 
 -- a sector that the map has free is nobody's
-pub free-unheld : (image : List ℕ) (k : ℕ) → Sound image → k < sectorCount image → mapBit (sectorOf image 0) k ≡ 0 → count k (holders image) ≡ 0
-free-unheld image k is inside free = sym (is .marked k inside) ∙ free
+pub free-unheld : (layout : Layout) (image : List ℕ) (k : ℕ) → Sound layout image → k < sectorCount image → mapBit (sectorOf image 0) k ≡ 0 → count k (holders image) ≡ 0
+free-unheld layout image k is inside free = sym (is .marked k inside) ∙ free

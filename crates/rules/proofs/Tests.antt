@@ -1,4 +1,4 @@
--- What a test that comes out true says, and that true is not false; and what holds of every call's list of tests: with number 0 none is met, and a refusal gives nothing.
+-- What a test that comes out true says, and that true is not false; what holds of every call's list of tests: with number 0 none is met, and a refusal gives nothing; and what holds by either rule.
 use mathlib.Core.Path.{_≡_, refl, sym, _∙_}
 use mathlib.Core.Bool.{Bool, true, false, cond, _&&_, _||_}
 use mathlib.Core.List.{List, [], _∷_, _++_}
@@ -7,6 +7,7 @@ use native.Mathlib.Omega.{arith}
 use lib.Dec.{eqb}
 use borrow.Author.Tests.{eq-eqb, ne-eqb}
 use Rattle.rules.specs.Tests.{Test, firstOf, unlessMet, Passed}
+use Rattle.rules.specs.declared.Layout.{Layout}
 
 pub absurd-test : {A : Type 0} → _≡_ {A = Bool} true false → A
 absurd-test e = absurd (let z : _≡_ {A = ℕ} 0 1 = cc in omega arith)
@@ -95,3 +96,11 @@ unless-passed tests there otherwise e = rw (eq-eqb (firstOf tests) 0 e)
 pub unless-met : {A : Type 0} (tests : List Test) (there otherwise : A) → (firstOf tests ≡ 0 → ⊥) → unlessMet tests there otherwise ≡ otherwise
 unfolding unlessMet
 unless-met tests there otherwise some = rw (ne-eqb (firstOf tests) 0 some)
+
+-- what holds of either rule holds of a layout
+pub by-rule : (P : Layout → Type 0) → P (record { marks = true }) → P (record { marks = false }) → (layout : Layout) → P layout
+by-rule P with without layout = go (layout .marks)
+  where
+    go : (marks : Bool) → P (record { marks = marks })
+    go true = with
+    go false = without

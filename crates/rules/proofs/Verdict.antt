@@ -19,6 +19,7 @@ use Rattle.rules.specs.Volume.{files, nameIn, holders}
 use Rattle.rules.specs.Tests.{Test, firstOf, Passed}
 use Rattle.rules.specs.Verdict.{sizeRule, descriptorsRule, heldTwice, volumeTests, verdict}
 use Rattle.rules.specs.Sound.{Sound, fileAt}
+use Rattle.rules.specs.declared.Layout.{Layout}
 use Rattle.rules.proofs.Tests.{both, neither, all-passed, first-passed, first-met, AtMost, first-most}
 use Rattle.rules.proofs.Name.{precedes-is, is-precedes, before-trans}
 use Rattle.rules.proofs.Label.{label-is, is-label}
@@ -40,30 +41,30 @@ is-size image whole large small =
     rw (eq-eqb (length image % 256) 0 (omega arith), le-leb 3 (sectorCount image) large, le-leb (sectorCount image) 1600 small)
 
 -- 4: the descriptors, and the order of their names
-module _ (n : ℕ) (image : List ℕ) where
-  unfolded : (previous : List ℕ) (k : ℕ) (ks : List ℕ) → descriptorsRule n image previous (k ∷ ks) ≡ true
-      → (descriptorRule n (sectorOf image k) ≡ true) × (precedes previous (nameIn image k) ≡ true) × (descriptorsRule n image (nameIn image k) ks ≡ true)
+module _ (layout : Layout) (n : ℕ) (image : List ℕ) where
+  unfolded : (previous : List ℕ) (k : ℕ) (ks : List ℕ) → descriptorsRule layout n image previous (k ∷ ks) ≡ true
+      → (descriptorRule layout n (sectorOf image k) ≡ true) × (precedes previous (nameIn image k) ≡ true) × (descriptorsRule layout n image (nameIn image k) ks ≡ true)
   unfolding descriptorsRule
   unfolded previous k ks e =
-      let here = both (descriptorRule n (sectorOf image k)) (precedes previous (nameIn image k) && descriptorsRule n image (nameIn image k) ks) e in
-      let later = both (precedes previous (nameIn image k)) (descriptorsRule n image (nameIn image k) ks) (here .1) in
+      let here = both (descriptorRule layout n (sectorOf image k)) (precedes previous (nameIn image k) && descriptorsRule layout n image (nameIn image k) ks) e in
+      let later = both (precedes previous (nameIn image k)) (descriptorsRule layout n image (nameIn image k) ks) (here .1) in
       (here .0, later .0, later .1)
 
-  pub descriptors-are : (previous ks : List ℕ) → descriptorsRule n image previous ks ≡ true → (p : ℕ) → p < length ks → IsDescriptor n (sectorOf image (getD ks p 0))
+  pub descriptors-are : (previous ks : List ℕ) → descriptorsRule layout n image previous ks ≡ true → (p : ℕ) → p < length ks → IsDescriptor layout n (sectorOf image (getD ks p 0))
   descriptors-are previous [] e p h = absurd (omega arith)
-  descriptors-are previous (k ∷ ks) e zero h = descriptor-is n (sectorOf image k) (unfolded previous k ks e .0)
+  descriptors-are previous (k ∷ ks) e zero h = descriptor-is layout n (sectorOf image k) (unfolded previous k ks e .0)
   descriptors-are previous (k ∷ ks) e (suc p) h = descriptors-are (nameIn image k) ks (unfolded previous k ks e .2) p (omega arith)
 
-  pub name-long : (k : ℕ) → IsDescriptor n (sectorOf image k) → length (nameIn image k) ≡ 10
+  pub name-long : (k : ℕ) → IsDescriptor layout n (sectorOf image k) → length (nameIn image k) ≡ 10
   unfolding nameIn
   name-long k is = is .name .ten
 
   -- each name is after the one before the list, where that is a name
-  after : (previous ks : List ℕ) → length previous ≡ 10 → descriptorsRule n image previous ks ≡ true → (p : ℕ) → p < length ks → Before previous (nameIn image (getD ks p 0))
+  after : (previous ks : List ℕ) → length previous ≡ 10 → descriptorsRule layout n image previous ks ≡ true → (p : ℕ) → p < length ks → Before previous (nameIn image (getD ks p 0))
   after previous [] long e p h = absurd (omega arith)
   after previous (k ∷ ks) long e p h =
       let parts = unfolded previous k ks e in
-      let here = name-long k (descriptor-is n (sectorOf image k) (parts .0)) in
+      let here = name-long k (descriptor-is layout n (sectorOf image k) (parts .0)) in
       let first = precedes-is previous (nameIn image k) (long ∙ sym here) (parts .1) in
       go p h first (after (nameIn image k) ks here (parts .2))
     where
@@ -72,23 +73,23 @@ module _ (n : ℕ) (image : List ℕ) where
       go zero h first more = first
       go (suc p) h first more = before-trans previous (nameIn image k) (nameIn image (getD ks p 0)) first (more p (omega arith))
 
-  pub ascend : (previous ks : List ℕ) → descriptorsRule n image previous ks ≡ true → (p q : ℕ) → p < q → q < length ks → Before (nameIn image (getD ks p 0)) (nameIn image (getD ks q 0))
+  pub ascend : (previous ks : List ℕ) → descriptorsRule layout n image previous ks ≡ true → (p q : ℕ) → p < q → q < length ks → Before (nameIn image (getD ks p 0)) (nameIn image (getD ks q 0))
   ascend previous [] e p q h k = absurd (omega arith)
   ascend previous (k ∷ ks) e zero zero h l = absurd (omega arith)
   ascend previous (k ∷ ks) e zero (suc q) h l =
       let parts = unfolded previous k ks e in
-      after (nameIn image k) ks (name-long k (descriptor-is n (sectorOf image k) (parts .0))) (parts .2) q (omega arith)
+      after (nameIn image k) ks (name-long k (descriptor-is layout n (sectorOf image k) (parts .0))) (parts .2) q (omega arith)
   ascend previous (k ∷ ks) e (suc p) zero h l = absurd (omega arith)
   ascend previous (k ∷ ks) e (suc p) (suc q) h l = ascend (nameIn image k) ks (unfolded previous k ks e .2) p q (omega arith) (omega arith)
 
-  pub are-descriptors : (previous ks : List ℕ) → ((p : ℕ) → p < length ks → IsDescriptor n (sectorOf image (getD ks p 0)))
+  pub are-descriptors : (previous ks : List ℕ) → ((p : ℕ) → p < length ks → IsDescriptor layout n (sectorOf image (getD ks p 0)))
       → ((p : ℕ) → p < length ks → precedes previous (nameIn image (getD ks p 0)) ≡ true)
       → ((p q : ℕ) → p < q → q < length ks → Before (nameIn image (getD ks p 0)) (nameIn image (getD ks q 0)))
-      → descriptorsRule n image previous ks ≡ true
+      → descriptorsRule layout n image previous ks ≡ true
   unfolding descriptorsRule
   are-descriptors previous [] is first order = refl
   are-descriptors previous (k ∷ ks) is first order =
-      rw (is-descriptor n (sectorOf image k) (is 0 (omega arith)), first 0 (omega arith))
+      rw (is-descriptor layout n (sectorOf image k) (is 0 (omega arith)), first 0 (omega arith))
       (are-descriptors (nameIn image k) ks (λ p h. is (suc p) (omega arith)) (λ p h. is-precedes (nameIn image k) (nameIn image (getD ks p 0)) (order 0 (suc p) (omega arith) (omega arith)))
       (λ p q h l. order (suc p) (suc q) (omega arith) (omega arith)))
 
@@ -119,18 +120,18 @@ once-held (h ∷ hs) f =
     rw (le-ltb 0 (count h hs) (omega (arith, f h, count-here h hs))) (once-held hs (λ k. omega (arith, f k, count-more k h hs)))
 
 -- the six tests
-pub record Keeps (image : List ℕ) : Type 0 where
+pub record Keeps (layout : Layout) (image : List ℕ) : Type 0 where
   pub size : sizeRule image ≡ true
   pub label : labelRule (sectorCount image) (sectorOf image 0) ≡ true
   pub index : indexRule (sectorCount image) (sectorOf image 1) ≡ true
-  pub descriptors : descriptorsRule (sectorCount image) image [] (files image) ≡ true
+  pub descriptors : descriptorsRule layout (sectorCount image) image [] (files image) ≡ true
   pub single : heldTwice (holders image) ≡ false
   pub map : mapRule (sectorCount image) (holders image) (sectorOf image 0) ≡ true
 
-pub rules-kept : (image : List ℕ) → verdict image ≡ 0 → Keeps image
+pub rules-kept : (layout : Layout) (image : List ℕ) → verdict layout image ≡ 0 → Keeps layout image
 unfolding verdict volumeTests Passed
-rules-kept image e =
-    let passed = all-passed (volumeTests image) e in
+rules-kept layout image e =
+    let passed = all-passed (volumeTests layout image) e in
     record {
       size = not-false (sizeRule image) (passed .0);
       label = not-false _ (passed .1 .0);
@@ -140,10 +141,10 @@ rules-kept image e =
       map = not-false _ (passed .1 .1 .1 .1 .1 .0);
     }
 
-pub sound : (image : List ℕ) → verdict image ≡ 0 → Sound image
-sound image e =
+pub sound : (layout : Layout) (image : List ℕ) → verdict layout image ≡ 0 → Sound layout image
+sound layout image e =
     let n = sectorCount image in
-    let kept = rules-kept image e in
+    let kept = rules-kept layout image e in
     let size = size-is image (kept .size) in
     let bits = map-at n (holders image) (sectorOf image 0) (kept .map) in
     record {
@@ -151,41 +152,41 @@ sound image e =
       size = (size .1, size .2);
       label = label-is n (sectorOf image 0) (kept .label);
       index = index-is n (sectorOf image 1) (kept .index);
-      descriptors = descriptors-are n image [] (files image) (kept .descriptors);
-      ascending = ascend n image [] (files image) (kept .descriptors);
+      descriptors = descriptors-are layout n image [] (files image) (kept .descriptors);
+      ascending = ascend layout n image [] (files image) (kept .descriptors);
       single = held-once (holders image) (kept .single);
       marked = λ k h. bits k (omega (arith, size .2)) ∙ taken-below n (holders image) k h;
       filled = λ k h l. bits k l ∙ taken-past n (holders image) k h;
     }
 
-pub passes : (image : List ℕ) → Sound image → verdict image ≡ 0
+pub passes : (layout : Layout) (image : List ℕ) → Sound layout image → verdict layout image ≡ 0
 unfolding verdict volumeTests firstOf
-passes image is =
+passes layout image is =
     let n = sectorCount image in
     rw (
       is-size image (is .whole) (is .size .0) (is .size .1),
       is-label n (sectorOf image 0) (is .label),
       is-index n (sectorOf image 1) (is .index),
-      are-descriptors n image [] (files image) (is .descriptors)
-          (λ p h. precedes-none (nameIn image (fileAt image p)) (name-long n image (fileAt image p) (is .descriptors p h))) (is .ascending),
+      are-descriptors layout n image [] (files image) (is .descriptors)
+          (λ p h. precedes-none (nameIn image (fileAt image p)) (name-long layout n image (fileAt image p) (is .descriptors p h))) (is .ascending),
       once-held (holders image) (is .single),
       at-map n (holders image) (sectorOf image 0) (bits-taken n (holders image) (sectorOf image 0) (is .marked) (is .filled)),
     )
 
-pub verdict-sound : (image : List ℕ) → (verdict image ≡ 0) ↔ Sound image
-verdict-sound image = (sound image, passes image)
+pub verdict-sound : (layout : Layout) (image : List ℕ) → (verdict layout image ≡ 0) ↔ Sound layout image
+verdict-sound layout image = (sound layout image, passes layout image)
 
 -- the numbers are 0 to 6
-pub verdict-small : (image : List ℕ) → verdict image ≤ 6
+pub verdict-small : (layout : Layout) (image : List ℕ) → verdict layout image ≤ 6
 unfolding verdict volumeTests AtMost
-verdict-small image = first-most 6 (volumeTests image) (omega arith, (omega arith, (omega arith, (omega arith, (omega arith, (omega arith, tt))))))
+verdict-small layout image = first-most 6 (volumeTests layout image) (omega arith, (omega arith, (omega arith, (omega arith, (omega arith, (omega arith, tt))))))
 
 -- a call whose tests begin with those of the volume
-module _ (image : List ℕ) (tests : List Test) where
-  pub unsound-first : (verdict image ≡ 0 → ⊥) → firstOf (volumeTests image ++ tests) ≡ verdict image
+module _ (layout : Layout) (image : List ℕ) (tests : List Test) where
+  pub unsound-first : (verdict layout image ≡ 0 → ⊥) → firstOf (volumeTests layout image ++ tests) ≡ verdict layout image
   unfolding verdict
-  unsound-first some = first-met (volumeTests image) tests some
+  unsound-first some = first-met (volumeTests layout image) tests some
 
-  pub sound-first : verdict image ≡ 0 → firstOf (volumeTests image ++ tests) ≡ firstOf tests
+  pub sound-first : verdict layout image ≡ 0 → firstOf (volumeTests layout image ++ tests) ≡ firstOf tests
   unfolding verdict
-  sound-first e = first-passed (volumeTests image) tests e
+  sound-first e = first-passed (volumeTests layout image) tests e

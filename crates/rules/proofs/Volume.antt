@@ -13,23 +13,24 @@ use Rattle.rules.specs.Map.{count}
 use Rattle.rules.specs.Descriptor.{nameOf, sectorsOf, chainOf, IsDescriptor}
 use Rattle.rules.specs.Index.{IsIndex}
 use Rattle.rules.specs.Volume.{files, nameIn, placesIn, fileHolders, holders, headerIn, contentsIn}
+use Rattle.rules.specs.declared.Layout.{Layout}
 use Rattle.rules.proofs.Bytes.{part-at}
 use Rattle.rules.proofs.Map.{count-none, count-here, count-other, count-more, count-at, counted-all, count-append}
 use Rattle.rules.proofs.Chain.{places-length, places-hold}
 
 -- the places of a file whose descriptor keeps its rules are from 2 to n - 1
-pub places-inside : (n : ℕ) (image : List ℕ) (k p : ℕ) → IsDescriptor n (sectorOf image k) → 1 ≤ count p (placesIn image k) → (2 ≤ p) × (p < n)
+pub places-inside : (layout : Layout) (n : ℕ) (image : List ℕ) (k p : ℕ) → IsDescriptor layout n (sectorOf image k) → 1 ≤ count p (placesIn image k) → (2 ≤ p) × (p < n)
 unfolding placesIn places
-places-inside n image k p is h = places-hold n (sectorsOf (sectorOf image k)) 0 (blocks (chainOf (sectorOf image k))) p (is .chain .linked) h
+places-inside layout n image k p is h = places-hold n (sectorsOf (sectorOf image k)) 0 (blocks (chainOf (sectorOf image k))) p (is .chain .linked) h
 
 -- there are c of them, and so of the contents
-pub places-count : (n : ℕ) (image : List ℕ) (k : ℕ) → IsDescriptor n (sectorOf image k) → length (placesIn image k) ≡ sectorsOf (sectorOf image k)
+pub places-count : (layout : Layout) (n : ℕ) (image : List ℕ) (k : ℕ) → IsDescriptor layout n (sectorOf image k) → length (placesIn image k) ≡ sectorsOf (sectorOf image k)
 unfolding placesIn places
-places-count n image k is = omega (arith, places-length n (sectorsOf (sectorOf image k)) 0 (blocks (chainOf (sectorOf image k))) (is .chain .linked))
+places-count layout n image k is = omega (arith, places-length n (sectorsOf (sectorOf image k)) 0 (blocks (chainOf (sectorOf image k))) (is .chain .linked))
 
-pub contents-count : (n : ℕ) (image : List ℕ) (k : ℕ) → IsDescriptor n (sectorOf image k) → length (contentsIn image k) ≡ sectorsOf (sectorOf image k)
+pub contents-count : (layout : Layout) (n : ℕ) (image : List ℕ) (k : ℕ) → IsDescriptor layout n (sectorOf image k) → length (contentsIn image k) ≡ sectorsOf (sectorOf image k)
 unfolding contentsIn
-contents-count n image k is = length-map (placesIn image k) (sectorOf image) ∙ places-count n image k is
+contents-count layout n image k is = length-map (placesIn image k) (sectorOf image) ∙ places-count layout n image k is
 
 -- a content by its offset, and a byte and the name of the header, are those of the sectors
 pub get-mapped : {A B : Type 0} (f : A → B) (l : List A) (p : ℕ) (d : A) (e : B) → p < length l → getD (map f l) p e ≡ f (getD l p d)
@@ -37,10 +38,10 @@ get-mapped f [] p d e h = absurd (omega arith)
 get-mapped f (x ∷ l) zero d e h = refl
 get-mapped f (x ∷ l) (suc p) d e h = get-mapped f l p d e (omega arith)
 
-pub content-at : (n : ℕ) (image : List ℕ) (k : ℕ) → IsDescriptor n (sectorOf image k) → (offset : ℕ) → offset < sectorsOf (sectorOf image k)
+pub content-at : (layout : Layout) (n : ℕ) (image : List ℕ) (k : ℕ) → IsDescriptor layout n (sectorOf image k) → (offset : ℕ) → offset < sectorsOf (sectorOf image k)
     → getD (contentsIn image k) offset [] ≡ sectorOf image (getD (placesIn image k) offset 0)
 unfolding contentsIn
-content-at n image k is offset low = get-mapped (sectorOf image) (placesIn image k) offset 0 [] (rw (places-count n image k is) low)
+content-at layout n image k is offset low = get-mapped (sectorOf image) (placesIn image k) offset 0 [] (rw (places-count layout n image k is) low)
 
 pub header-at : (image : List ℕ) (k i : ℕ) → i < 28 → byteAt (headerIn image k) i ≡ byteAt (sectorOf image k) i
 unfolding headerIn
@@ -50,9 +51,9 @@ pub header-name : (image : List ℕ) (k : ℕ) → nameOf (headerIn image k) ≡
 unfolding headerIn nameIn nameOf
 header-name image k = take-take 10 28 (sectorOf image k) (omega arith)
 
-pub place-inside : (n : ℕ) (image : List ℕ) (k offset : ℕ) → IsDescriptor n (sectorOf image k) → offset < sectorsOf (sectorOf image k)
+pub place-inside : (layout : Layout) (n : ℕ) (image : List ℕ) (k offset : ℕ) → IsDescriptor layout n (sectorOf image k) → offset < sectorsOf (sectorOf image k)
     → (2 ≤ getD (placesIn image k) offset 0) × (getD (placesIn image k) offset 0 < n)
-place-inside n image k offset is h = places-inside n image k (getD (placesIn image k) offset 0) is (count-at (placesIn image k) offset (omega (arith, places-count n image k is)))
+place-inside layout n image k offset is h = places-inside layout n image k (getD (placesIn image k) offset 0) is (count-at (placesIn image k) offset (omega (arith, places-count layout n image k is)))
 
 -- what holds of the descriptors' sectors and of the places of files holds of all that they hold
 pub file-holders-all : (P : ℕ → Type 0) (image ks : List ℕ) → ((k : ℕ) → 1 ≤ count k ks → P k) → ((k p : ℕ) → 1 ≤ count k ks → 1 ≤ count p (placesIn image k) → P p)
@@ -89,15 +90,15 @@ holders-all P image zeroth first described placed p some =
     ]
 
 -- they are sectors of the volume, and all but those two are from 2 up
-pub file-holders-inside : (n : ℕ) (image ks : List ℕ) (p : ℕ) → ((q : ℕ) → q < length ks → (2 ≤ getD ks q 0) × (getD ks q 0 < n))
-    → ((q : ℕ) → q < length ks → IsDescriptor n (sectorOf image (getD ks q 0))) → 1 ≤ count p (fileHolders image ks) → (2 ≤ p) × (p < n)
-file-holders-inside n image ks p range is h =
+pub file-holders-inside : (layout : Layout) (n : ℕ) (image ks : List ℕ) (p : ℕ) → ((q : ℕ) → q < length ks → (2 ≤ getD ks q 0) × (getD ks q 0 < n))
+    → ((q : ℕ) → q < length ks → IsDescriptor layout n (sectorOf image (getD ks q 0))) → 1 ≤ count p (fileHolders image ks) → (2 ≤ p) × (p < n)
+file-holders-inside layout n image ks p range is h =
     file-holders-all (λ (j : ℕ). (2 ≤ j) × (j < n)) image ks (counted-all (λ (k : ℕ). (2 ≤ k) × (k < n)) ks range)
-    (λ k j there placed. places-inside n image k j (counted-all (λ (i : ℕ). IsDescriptor n (sectorOf image i)) ks is k there) placed) p h
+    (λ k j there placed. places-inside layout n image k j (counted-all (λ (i : ℕ). IsDescriptor layout n (sectorOf image i)) ks is k there) placed) p h
 
-pub holders-inside : (n : ℕ) (image : List ℕ) (p : ℕ) → 2 ≤ n → IsIndex n (sectorOf image 1)
-    → ((q : ℕ) → q < length (files image) → IsDescriptor n (sectorOf image (getD (files image) q 0))) → 1 ≤ count p (holders image) → p < n
+pub holders-inside : (layout : Layout) (n : ℕ) (image : List ℕ) (p : ℕ) → 2 ≤ n → IsIndex n (sectorOf image 1)
+    → ((q : ℕ) → q < length (files image) → IsDescriptor layout n (sectorOf image (getD (files image) q 0))) → 1 ≤ count p (holders image) → p < n
 unfolding files
-holders-inside n image p large index is h =
+holders-inside layout n image p large index is h =
     holders-all (λ (j : ℕ). j < n) image (omega arith) (omega arith) (counted-all (λ (k : ℕ). k < n) (files image) (λ q l. index .range q l .1))
-    (λ k j there placed. places-inside n image k j (counted-all (λ (i : ℕ). IsDescriptor n (sectorOf image i)) (files image) is k there) placed .1) p h
+    (λ k j there placed. places-inside layout n image k j (counted-all (λ (i : ℕ). IsDescriptor layout n (sectorOf image i)) (files image) is k there) placed .1) p h

@@ -15,8 +15,9 @@ use Rattle.rules.specs.Index.{IsIndex}
 use Rattle.rules.specs.Volume.{files, fileHolders, holders}
 use Rattle.rules.specs.Sound.{Sound}
 use Rattle.rules.specs.Calls.Store.{dataWrites}
+use Rattle.rules.specs.declared.Layout.{Layout}
 use Rattle.rules.proofs.Bytes.{part-length, part-at, part-same}
-use Rattle.rules.proofs.Splice.{splice-length, splice-inside, splice-below, splice-above}
+use Rattle.rules.proofs.Splice.{splice-length, splice-none, splice-inside, splice-below, splice-above, splice-part}
 use Rattle.rules.proofs.Sectors.{sector-length}
 use Rattle.rules.proofs.Map.{count-here, count-more, count-apart, taken-below, taken-past}
 use Rattle.rules.proofs.Indexed.{Ascending}
@@ -39,6 +40,11 @@ module _ (image : List ℕ) (k : ℕ) (sector : List ℕ) (long : length sector 
         | yes before ↦ splice-below image (256 * k) sector i (omega arith)
         | no behind ↦ splice-above image (256 * k) sector i (omega (arith, other))
       ])
+
+-- a sector laid where it lies
+pub sector-back : (image : List ℕ) (k : ℕ) → splice image (256 * k) (sectorOf image k) ≡ image
+unfolding sectorOf
+sector-back image k = ap (splice image (256 * k)) (sym (splice-none (sectorOf image k) 0)) ∙ splice-part image (256 * k) 256 0 [] (omega arith) ∙ splice-none image (256 * k + 0)
 
 -- several, one after the other: all whole sectors of the image
 unfoldable pub Whole : ℕ → List Write → Type 0
@@ -96,12 +102,12 @@ data-apart bytes [] j other = tt
 data-apart bytes (k ∷ ks) j other = let apart = count-apart j k ks other in (apart .0, data-apart (drop 256 bytes) ks j (apart .1))
 
 -- a volume of the same size and label whose files are ks
-pub record Rebuilt (image after ks : List ℕ) : Type 0 where
+pub record Rebuilt (layout : Layout) (image after ks : List ℕ) : Type 0 where
   pub size : length after ≡ length image
   pub label : (i : ℕ) → i < 56 → byteAt (sectorOf after 0) i ≡ byteAt (sectorOf image 0) i
   pub index : IsIndex (sectorCount image) (sectorOf after 1)
   pub files-are : files after ≡ ks
-  pub descriptors : (p : ℕ) → p < length ks → IsDescriptor (sectorCount image) (sectorOf after (getD ks p 0))
+  pub descriptors : (p : ℕ) → p < length ks → IsDescriptor layout (sectorCount image) (sectorOf after (getD ks p 0))
   pub ascending : Ascending after ks
   pub single : (k : ℕ) → count k (0 ∷ (1 ∷ fileHolders after ks)) ≤ 1
   pub map : (k : ℕ) → k < 1600 → mapBit (sectorOf after 0) k ≡ taken (sectorCount image) (0 ∷ (1 ∷ fileHolders after ks)) k
@@ -115,9 +121,9 @@ label-kept n before after long long′ same is =
       dsk = rw (same 13 (omega arith), same 14 (omega arith), same 15 (omega arith)) (is .dsk);
     }
 
-pub sound-again : (image after ks : List ℕ) → Sound image → Rebuilt image after ks → Sound after
+pub sound-again : (layout : Layout) (image after ks : List ℕ) → Sound layout image → Rebuilt layout image after ks → Sound layout after
 unfolding holders
-sound-again image after ks is re =
+sound-again layout image after ks is re =
     let n : sectorCount after ≡ sectorCount image = ap (λ (m : ℕ). m / 256) (re .size) in
     let long : length (sectorOf image 0) ≡ 256 = sector-length image 0 (omega (arith, is .whole, is .size)) in
     let long′ : length (sectorOf after 0) ≡ 256 = sector-length after 0 (omega (arith, re .size, is .whole, is .size)) in

@@ -2,11 +2,12 @@
 use mathlib.Core.Bool.{Bool, _&&_}
 use mathlib.Core.List.{List, _∷_, _++_}
 use Prim.Native.Nat.{ℕ, _+_, _*_}
-use lib.ListN.{replicate}
+use lib.ListN.{replicate, set}
 use Rattle.rules.specs.Bytes.{byteAt, wordAt, wordBytes, part, splice}
 use Rattle.rules.specs.Name.{nameRule, IsName}
 use Rattle.rules.specs.Chain.{chainRule, blocksBytes, IsChain}
-use Rattle.rules.specs.Kind.{statusRule, kindOf, kindRule, IsStatus, IsKind}
+use Rattle.rules.specs.Kind.{allowedBits, statusRule, marking, kindOf, kindRule, IsStatus, IsKind}
+use Rattle.rules.specs.declared.Layout.{Layout}
 use Rattle.rules.specs.declared.Block.{Block}
 use Rattle.rules.specs.declared.Kind.{Kind}
 
@@ -30,10 +31,10 @@ chainOf descriptor = part descriptor 28 228
 unfoldable pub fileKind : List ℕ → Kind
 fileKind descriptor = kindOf (statusOf descriptor) (sectorsOf descriptor) (byteAt descriptor 16) (byteAt descriptor 17)
 
-unfoldable pub descriptorRule : ℕ → List ℕ → Bool
-descriptorRule n descriptor =
+unfoldable pub descriptorRule : Layout → ℕ → List ℕ → Bool
+descriptorRule layout n descriptor =
     nameRule (nameOf descriptor)
-    && (statusRule (statusOf descriptor)
+    && (statusRule (allowedBits layout) (statusOf descriptor)
     && (kindRule (fileKind descriptor) (sectorsOf descriptor) (byteAt descriptor 16) && chainRule n (sectorsOf descriptor) (chainOf descriptor)))
 
 -- a new descriptor, of a file without sectors: these fields are given, all other bytes are zero
@@ -45,9 +46,13 @@ newDescriptor name status recordsPerSector endOffset recordLength =
 unfoldable pub withChain : List ℕ → ℕ → List Block → List ℕ
 withChain descriptor c bs = splice (splice descriptor 14 (wordBytes c)) 28 (blocksBytes bs)
 
+-- a descriptor of a file that a call changes, with its status marked by the rule
+unfoldable pub markedBy : Layout → List ℕ → List ℕ
+markedBy layout descriptor = set descriptor 12 (marking layout (statusOf descriptor))
+
 -- The same as facts.
-pub record IsDescriptor (n : ℕ) (descriptor : List ℕ) : Type 0 where
+pub record IsDescriptor (layout : Layout) (n : ℕ) (descriptor : List ℕ) : Type 0 where
   pub name : IsName (nameOf descriptor)
-  pub status : IsStatus (statusOf descriptor)
+  pub status : IsStatus (allowedBits layout) (statusOf descriptor)
   pub kind : IsKind (fileKind descriptor) (sectorsOf descriptor) (byteAt descriptor 16)
   pub chain : IsChain n (sectorsOf descriptor) (chainOf descriptor)

@@ -8,6 +8,7 @@ use Rattle.rules.specs.Volume.{files, nameIn}
 use Rattle.rules.specs.Tests.{unlessMet}
 use Rattle.rules.specs.Verdict.{volumeTests, verdict}
 use Rattle.rules.specs.Outcome.{Report, refuses, Outcome, refusal, ifWrong}
+use Rattle.rules.specs.declared.Layout.{Layout}
 use Rattle.rules.specs.declared.Opened.{Opened}
 use Rattle.rules.specs.declared.Opened.the-variants.{At, Absent, Refused, Misnamed}
 
@@ -17,15 +18,15 @@ findIn image name p [] = Absent
 findIn image name p (k ∷ ks) = cond (same name (nameIn image k)) (At p k) (findIn image name (p + 1) ks)
 
 -- it is looked for on a sound volume
-unfoldable pub onSound : List ℕ → Opened → Opened
-onSound image looked = unlessMet (volumeTests image) looked (Refused (verdict image))
+unfoldable pub onSound : Layout → List ℕ → Opened → Opened
+onSound layout image looked = unlessMet (volumeTests layout image) looked (Refused (verdict layout image))
 
 -- and under a name that keeps the rule
 unfoldable pub underName : List ℕ → Opened → Opened
 underName name looked = ifWrong (wrongPlace name) Misnamed looked
 
-unfoldable pub openOf : List ℕ → List ℕ → Opened
-openOf image name = onSound image (underName name (findIn image name 0 (files image)))
+unfoldable pub openOf : Layout → List ℕ → List ℕ → Opened
+openOf layout image name = onSound layout image (underName name (findIn image name 0 (files image)))
 
 -- a reading call on that file, by its descriptor's sector; 8 where there is none
 unfoldable pub onFile : Opened → (ℕ → Report) → Report

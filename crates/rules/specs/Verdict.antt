@@ -12,30 +12,31 @@ use Rattle.rules.specs.Descriptor.{descriptorRule}
 use Rattle.rules.specs.Index.{indexRule}
 use Rattle.rules.specs.Volume.{files, nameIn, holders}
 use Rattle.rules.specs.Tests.{Test, refuse, firstOf}
+use Rattle.rules.specs.declared.Layout.{Layout}
 
 -- 1: the length is 256 × n for n 3 to 1,600
 unfoldable pub sizeRule : List ℕ → Bool
 sizeRule image = eqb (length image % 256) 0 && (leb 3 (sectorCount image) && leb (sectorCount image) 1600)
 
 -- 4: the descriptors keep their rules, and the names ascend strictly after the name `previous`
-unfoldable pub descriptorsRule : ℕ → List ℕ → List ℕ → List ℕ → Bool
-descriptorsRule n image previous [] = true
-descriptorsRule n image previous (k ∷ ks) =
-    descriptorRule n (sectorOf image k) && (precedes previous (nameIn image k) && descriptorsRule n image (nameIn image k) ks)
+unfoldable pub descriptorsRule : Layout → ℕ → List ℕ → List ℕ → List ℕ → Bool
+descriptorsRule layout n image previous [] = true
+descriptorsRule layout n image previous (k ∷ ks) =
+    descriptorRule layout n (sectorOf image k) && (precedes previous (nameIn image k) && descriptorsRule layout n image (nameIn image k) ks)
 
 -- 5: a sector has two holders
 unfoldable pub heldTwice : List ℕ → Bool
 heldTwice [] = false
 heldTwice (h ∷ hs) = ltb 0 (count h hs) || heldTwice hs
 
-unfoldable pub volumeTests : List ℕ → List Test
-volumeTests image =
+unfoldable pub volumeTests : Layout → List ℕ → List Test
+volumeTests layout image =
     let n = sectorCount image in
     refuse 1 (not (sizeRule image))
     ∷ (refuse 2 (not (labelRule n (sectorOf image 0)))
     ∷ (refuse 3 (not (indexRule n (sectorOf image 1)))
-    ∷ (refuse 4 (not (descriptorsRule n image [] (files image)))
+    ∷ (refuse 4 (not (descriptorsRule layout n image [] (files image)))
     ∷ (refuse 5 (heldTwice (holders image)) ∷ (refuse 6 (not (mapRule n (holders image) (sectorOf image 0))) ∷ [])))))
 
-unfoldable pub verdict : List ℕ → ℕ
-verdict image = firstOf (volumeTests image)
+unfoldable pub verdict : Layout → List ℕ → ℕ
+verdict layout image = firstOf (volumeTests layout image)

@@ -1,6 +1,11 @@
 // The value types of the rules. What they mean is said in specs/, which holds the paper as definitions;
 // proofs/ holds the laws about them.
 
+// The rules that an image is read by: whether status bit 10 hex is the backup mark, "changed since backup", or forbidden.
+pub struct Layout {
+    pub marks: bool,
+}
+
 // A block of a chain: its first sector, and the last offset in the file that it covers.
 pub struct Block {
     pub start: usize,

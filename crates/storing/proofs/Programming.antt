@@ -12,7 +12,7 @@ use Rattle.rules.specs.Bytes.{wordBytes, splice}
 use Rattle.rules.specs.Sectors.{sectorOf, sectorCount, written}
 use Rattle.rules.specs.Map.{freeCount, marked, markedAll}
 use Rattle.rules.specs.Chain.{blocks, places, blocksBytes}
-use Rattle.rules.specs.Kind.{sectorsFor}
+use Rattle.rules.specs.Kind.{sectorsFor, marking}
 use Rattle.rules.specs.Descriptor.{newDescriptor, chainOf, withChain}
 use Rattle.rules.specs.Index.{indexOf}
 use Rattle.rules.specs.Volume.{files, placed}
@@ -21,6 +21,7 @@ use Rattle.rules.specs.Choice.{descriptorChoice}
 use Rattle.rules.specs.Outcome.{write}
 use Rattle.rules.specs.Calls.Create.{entered}
 use Rattle.rules.specs.Calls.Store.{dataWrites, newSectors, newBlocks}
+use Rattle.rules.specs.declared.Layout.{Layout}
 use Rattle.rules.proofs.Splice.{splice-length, put-back}
 use Rattle.rules.proofs.Descriptor.{numbered-chain, new-length, new-chain}
 use Rattle.rules.proofs.Extended.{with-chain-length, with-chain-chain, with-chain-laid}
@@ -33,15 +34,15 @@ use Rattle.storing.specs.Spread.{IsSpread, Taken, Spread}
 use Rattle.storing.specs.Program.{programDescriptor, programMap, programWrites}
 
 -- the header is a whole sector, and its chain is empty
-module _ (name : List ℕ) (many size : ℕ) (ten : length name ≡ 10) {header : List ℕ} (is : header ≡ splice (newDescriptor name 0x01 0 (size % 256) 0) 14 (wordBytes many)) where
+module _ (layout : Layout) (name : List ℕ) (many size : ℕ) (ten : length name ≡ 10) {header : List ℕ} (is : header ≡ splice (newDescriptor name (marking layout 0x01) 0 (size % 256) 0) 14 (wordBytes many)) where
   abbrev new : List ℕ
-  new = newDescriptor name 0x01 0 (size % 256) 0
+  new = newDescriptor name (marking layout 0x01) 0 (size % 256) 0
 
   whole : length new ≡ 256
-  whole = new-length name 0x01 0 (size % 256) 0 ten
+  whole = new-length name (marking layout 0x01) 0 (size % 256) 0 ten
 
   empty : chainOf new ≡ replicate 228 0
-  empty = new-chain name 0x01 0 (size % 256) 0 ten
+  empty = new-chain name (marking layout 0x01) 0 (size % 256) 0 ten
 
   pub header-long : length header ≡ 256
   header-long = ap length is ∙ splice-length new 14 (wordBytes many) ∙ whole
@@ -54,7 +55,7 @@ module _ (name : List ℕ) (many size : ℕ) (ten : length name ≡ 10) {header 
     laid-in : putMid 28 228 header chain ≡ splice header 28 chain
     laid-in = put-back header chain 28 228 (spread .size) (omega (arith, header-long))
 
-    pub chain-in : putMid 28 228 header chain ≡ withChain (newDescriptor name 0x01 0 (size % 256) 0) many (blocks chain)
+    pub chain-in : putMid 28 228 header chain ≡ withChain (newDescriptor name (marking layout 0x01) 0 (size % 256) 0) many (blocks chain)
     chain-in = laid-in ∙ ap (λ (h : List ℕ). splice h 28 chain) is ∙ with-chain-laid new many (blocks chain) whole chain (rw empty (spread .laid))
 
     pub chain-long : length (putMid 28 228 header chain) ≡ 256
@@ -75,28 +76,28 @@ module _ (image name bytes : List ℕ) (k many : ℕ) (chosen : k ≡ descriptor
 
   -- written one after another
   module _ (is : Taken many (marked 1 (sectorOf image 0) k) after chain) where
-    pub program-written : (one two descriptor : List ℕ) → one ≡ written image (dataWrites bytes (places chain)) → two ≡ splice one (256 * k) descriptor
-        → descriptor ≡ withChain (newDescriptor name 0x01 0 (length bytes % 256) 0) many (blocks chain)
-        → splice two 0 after ≡ written image (programWrites image name bytes)
+    pub program-written : (layout : Layout) (one two descriptor : List ℕ) → one ≡ written image (dataWrites bytes (places chain)) → two ≡ splice one (256 * k) descriptor
+        → descriptor ≡ withChain (newDescriptor name (marking layout 0x01) 0 (length bytes % 256) 0) many (blocks chain)
+        → splice two 0 after ≡ written image (programWrites layout image name bytes)
     unfolding programWrites programDescriptor programMap newBlocks newSectors markedAll written
-    program-written one two descriptor one-is two-is descriptor-is =
+    program-written layout one two descriptor one-is two-is descriptor-is =
         rw (two-is, one-is, descriptor-is, is .places-are, is .blocks-are, is .map, chosen, so-many) (written-both image (dataWrites bytes (newSectors image (sectorsFor (length bytes)))) _)
 
 -- and then entered: all its sectors were free
-module _ (image name bytes : List ℕ) (whole : Sound image) (ten : length name ≡ 10) (room : 1 + sectorsFor (length bytes) ≤ freeCount (sectorOf image 0)) where
-  descriptor-long : length (programDescriptor image name bytes) ≡ 256
+module _ (layout : Layout) (image name bytes : List ℕ) (whole : Sound layout image) (ten : length name ≡ 10) (room : 1 + sectorsFor (length bytes) ≤ freeCount (sectorOf image 0)) where
+  descriptor-long : length (programDescriptor layout image name bytes) ≡ 256
   unfolding programDescriptor
-  descriptor-long = with-chain-length _ (sectorsFor (length bytes)) (newBlocks image (sectorsFor (length bytes))) ∙ new-length name 0x01 0 (length bytes % 256) 0 ten
+  descriptor-long = with-chain-length _ (sectorsFor (length bytes)) (newBlocks image (sectorsFor (length bytes))) ∙ new-length name (marking layout 0x01) 0 (length bytes % 256) 0 ten
 
   map-long : length (programMap image bytes) ≡ 256
   unfolding programMap
-  map-long = all-length 1 (sectorOf image 0) _ ∙ label-long image whole
+  map-long = all-length 1 (sectorOf image 0) _ ∙ label-long layout image whole
 
-  pub program-entered : (k : ℕ) → k ≡ descriptorChoice (sectorOf image 0) → (there after : List ℕ) → there ≡ written image (programWrites image name bytes)
+  pub program-entered : (k : ℕ) → k ≡ descriptorChoice (sectorOf image 0) → (there after : List ℕ) → there ≡ written image (programWrites layout image name bytes)
       → after ≡ written there (write 1 (indexOf (placed there name k (files there))) ∷ [])
-      → after ≡ written image (dataWrites bytes (newSectors image (sectorsFor (length bytes))) ++ entered image name (descriptorChoice (sectorOf image 0)) (programDescriptor image name bytes) (programMap image bytes))
+      → after ≡ written image (dataWrites bytes (newSectors image (sectorsFor (length bytes))) ++ entered image name (descriptorChoice (sectorOf image 0)) (programDescriptor layout image name bytes) (programMap image bytes))
   unfolding programWrites newSectors
   program-entered k chosen there after there-is after-is =
-      written-entered image name bytes (descriptorChoice (sectorOf image 0)) (newSectors image (sectorsFor (length bytes))) (programDescriptor image name bytes) (programMap image bytes) whole
-      (new-free (sectorCount image) (sectorOf image 0) (sectorsFor (length bytes)) (label-long image whole) (sound-fenced image whole) room) descriptor-long map-long there after there-is
+      written-entered layout image name bytes (descriptorChoice (sectorOf image 0)) (newSectors image (sectorsFor (length bytes))) (programDescriptor layout image name bytes) (programMap image bytes) whole
+      (new-free (sectorCount image) (sectorOf image 0) (sectorsFor (length bytes)) (label-long layout image whole) (sound-fenced layout image whole) room) descriptor-long map-long there after there-is
       (after-is ∙ ap (λ (j : ℕ). written there (write 1 (indexOf (placed there name j (files there))) ∷ [])) chosen)

@@ -10,7 +10,7 @@ ghost use Rattle.rules.specs.Bytes.{wordBytes, over, splice};
 ghost use Rattle.rules.specs.Sectors.{sectorOf, written};
 ghost use Rattle.rules.specs.Name.{nameRule, wrongPlace};
 ghost use Rattle.rules.specs.Chain.{places};
-ghost use Rattle.rules.specs.Kind.{sectorsFor};
+ghost use Rattle.rules.specs.Kind.{sectorsFor, marking};
 ghost use Rattle.rules.specs.Descriptor.{newDescriptor};
 ghost use Rattle.rules.specs.Sound.{Sound};
 ghost use Rattle.rules.specs.Choice.{descriptorChoice};
@@ -22,6 +22,7 @@ ghost use Rattle.storing.specs.Spread.{Spread};
 use descriptor::chain::Cursor;
 use descriptor::chain::Step;
 use descriptor::header::new_descriptor;
+use descriptor::kind::marking;
 use extension::Tip;
 use extension::extend;
 use extension::tip_with;
@@ -31,6 +32,7 @@ use map::choice::Search;
 use map::choice::descriptor_choice;
 use map::free::free_count_of;
 use opening::find;
+use rules::Layout;
 use rules::NamedAnswer;
 use rules::Opened;
 use sector::buffer::copy;
@@ -95,28 +97,35 @@ fn write_data(image: &mut [u8], chain: &[u8], bytes: &[u8])
 }
 
 // The descriptor of a program of `size` bytes, in `many` sectors, laid into 256 zeros, its chain still empty.
-fn program_header(descriptor: &mut [u8; 256], name: &[u8], size: usize, many: usize)
+fn program_header(layout: Layout, descriptor: &mut [u8; 256], name: &[u8], size: usize, many: usize)
     requires { ⌜ (now descriptor ≡ replicate 256 0) × (length (now name) ≡ 10) × (many < 65536) ⌝ }
-    ensures { λ _. ⌜ now (descriptor .exit) ≡ splice (newDescriptor (now (name .entry)) 0x01 0 (size % 256) 0) 14 (wordBytes many) ⌝ }
+    ensures { λ _. ⌜ now (descriptor .exit) ≡ splice (newDescriptor (now (name .entry)) (marking layout 0x01) 0 (size % 256) 0) 14 (wordBytes many) ⌝ }
 {
     let end_offset = (size % 256) as u8;
     let high = (many / 256) as u8;
     let low = (many % 256) as u8;
-    new_descriptor(descriptor, name, 0x01, 0, end_offset, 0);
+    new_descriptor(descriptor, name, marking(layout, 0x01), 0, end_offset, 0);
     descriptor[14] = high;
     descriptor[15] = low;
 }
 
 // What is written of a program before it is entered, in the order of the definition; false where a 77th block would be needed, and then nothing is.
-fn write_program(image: &mut [u8], k: usize, name: &[u8], many: usize, bytes: &[u8]) -> bool
+fn write_program(
+    layout: Layout,
+    image: &mut [u8],
+    k: usize,
+    name: &[u8],
+    many: usize,
+    bytes: &[u8],
+) -> bool
     requires { ⌜ (256 ≤ length (now image)) × (length (now name) ≡ 10) × (length (now bytes) ≤ 32768) × (many ≡ sectorsFor (length (now bytes))) × (k ≡ descriptorChoice (sectorOf (now image) 0)) ⌝ }
-    ensures { λ r. ⌜ (r ≡ leb (length (newBlocks (now (image .entry)) many)) 76) × (now (image .exit) ≡ written (now (image .entry)) (cond r (programWrites (now (image .entry)) (now (name .entry)) (now (bytes .entry))) [])) ⌝ }
+    ensures { λ r. ⌜ (r ≡ leb (length (newBlocks (now (image .entry)) many)) 76) × (now (image .exit) ≡ written (now (image .entry)) (cond r (programWrites layout (now (image .entry)) (now (name .entry)) (now (bytes .entry))) [])) ⌝ }
 {
     let mut sector0 = [0u8; 256];
     copy(&mut sector0, &image[0..256]);
     mark(&mut sector0, k);
     let mut descriptor = [0u8; 256];
-    program_header(&mut descriptor, name, bytes.len(), many);
+    program_header(layout, &mut descriptor, name, bytes.len(), many);
     if !spread(&mut sector0, &mut descriptor[28..256], many) {
         return false;
     }
@@ -127,9 +136,9 @@ fn write_program(image: &mut [u8], k: usize, name: &[u8], many: usize, bytes: &[
 }
 
 // On a sound volume, under a name that keeps the rule and is not there.
-fn store_new(image: &mut [u8], name: &[u8], bytes: &[u8]) -> NamedAnswer
-    requires { ⌜ Sound (now image) × (nameRule (now name) ≡ true) ⌝ }
-    ensures { λ r. ⌜ Meets (NamedSays None) (storing (now (image .entry)) (now (name .entry)) (now (bytes .entry))) r (now (image .entry)) (now (image .exit)) ⌝ }
+fn store_new(layout: Layout, image: &mut [u8], name: &[u8], bytes: &[u8]) -> NamedAnswer
+    requires { ⌜ Sound layout (now image) × (nameRule (now name) ≡ true) ⌝ }
+    ensures { λ r. ⌜ Meets (NamedSays None) (storing layout (now (image .entry)) (now (name .entry)) (now (bytes .entry))) r (now (image .entry)) (now (image .exit)) ⌝ }
 {
     if bytes.len() > 32768 {
         return NamedAnswer::Refused(15);
@@ -143,21 +152,21 @@ fn store_new(image: &mut [u8], name: &[u8], bytes: &[u8]) -> NamedAnswer
         return NamedAnswer::Refused(12);
     }
     let k = descriptor_choice(sector_of(image, 0));
-    if !write_program(image, k, name, many, bytes) {
+    if !write_program(layout, image, k, name, many, bytes) {
         return NamedAnswer::Refused(13);
     }
     enter(image, name, k);
     NamedAnswer::Done
 }
 
-pub fn store(image: &mut [u8], name: &[u8], bytes: &[u8]) -> NamedAnswer
-    ensures { λ r. ⌜ Meets (NamedSays (wrongPlace (now (name .entry)))) (storeOf (now (image .entry)) (now (name .entry)) (now (bytes .entry))) r (now (image .entry)) (now (image .exit)) ⌝ }
+pub fn store(layout: Layout, image: &mut [u8], name: &[u8], bytes: &[u8]) -> NamedAnswer
+    ensures { λ r. ⌜ Meets (NamedSays (wrongPlace (now (name .entry)))) (storeOf layout (now (image .entry)) (now (name .entry)) (now (bytes .entry))) r (now (image .entry)) (now (image .exit)) ⌝ }
 {
-    let opened = find(image, name);
+    let opened = find(layout, image, name);
     match opened {
         Opened::Refused(number) => NamedAnswer::Refused(number),
         Opened::Misnamed(place) => NamedAnswer::Misnamed(place),
         Opened::At(_, _) => NamedAnswer::Refused(9),
-        Opened::Absent => store_new(image, name, bytes),
+        Opened::Absent => store_new(layout, image, name, bytes),
     }
 }

@@ -7,16 +7,17 @@ ghost use Rattle.rules.specs.Outcome.{AmountSays, Gives};
 ghost use Rattle.rules.specs.Calls.Summary.{freeCountOf, summaryOf, SummarySays};
 use map::free::free_count_of;
 use rules::Amount;
+use rules::Layout;
 use rules::Summary;
 use sector::buffer::lay;
 use sector::bytes::part;
 use sector::bytes::sector_of;
 use sector::numbers::number_at;
 
-pub fn free_count(image: &[u8]) -> Amount
-    ensures { λ r. ⌜ AmountSays r (freeCountOf (now (image .entry))) ⌝ }
+pub fn free_count(layout: Layout, image: &[u8]) -> Amount
+    ensures { λ r. ⌜ AmountSays r (freeCountOf layout (now (image .entry))) ⌝ }
 {
-    let number = judge::judge(image);
+    let number = judge::judge(layout, image);
     if number != 0 {
         return Amount::Refused(number);
     }
@@ -36,10 +37,10 @@ fn file_count(sector1: &[u8]) -> usize
     files
 }
 
-pub fn summary(image: &[u8], name: &mut [u8; 10]) -> Summary
-    ensures { λ r. ⌜ Gives (SummarySays (now (image .entry))) (summaryOf (now (image .entry))) r (now (name .entry)) (now (name .exit)) ⌝ }
+pub fn summary(layout: Layout, image: &[u8], name: &mut [u8; 10]) -> Summary
+    ensures { λ r. ⌜ Gives (SummarySays (now (image .entry))) (summaryOf layout (now (image .entry))) r (now (name .entry)) (now (name .exit)) ⌝ }
 {
-    let number = judge::judge(image);
+    let number = judge::judge(layout, image);
     if number != 0 {
         return Summary::Refused(number);
     }

@@ -62,7 +62,7 @@ start₆ c = start₅ (chosen c)
 
 -- what the tests so far say of the file
 small : (c : tie.Start) → c .args .k < 65536
-small c = omega (arith, in-volume _ _ (c .pre), c .pre .sound .size)
+small c = omega (arith, in-volume _ _ _ (c .pre), c .pre .sound .size)
 
 status-is : (c : tie.After-byte) → c .byte .result ≡ statusOf (sectorOf (start c .args .image .now) (start c .args .k))
 status-is c = c .byte .ensures .0 ∙ ap (λ (s : List ℕ). byteAt s 12) (c .before .sector-of .ensures)
@@ -108,9 +108,9 @@ extendable c few =
     let file = start₆ t .pre in
     let image = start₆ t .args .image .now in
     let d = sectorOf image (start₆ t .args .k) in
-    let built = built-chain (sectorCount image) (sectorsOf d) (chainOf d) (t .tip-of .result) (omega (arith, file .sound .size)) (part-length d 28 228 (omega (arith, is-sector _ _ file))) (has-rules _ _ file .chain) (tip-is t) in
+    let built = built-chain (sectorCount image) (sectorsOf d) (chainOf d) (t .tip-of .result) (omega (arith, file .sound .size)) (part-length d 28 228 (omega (arith, is-sector _ _ _ file))) (has-rules _ _ _ file .chain) (tip-is t) in
     let range = new-range (chosen t) in
-    let few-sectors = rw (file .is) at (sectors-few image (file .place) (file .sound) (file .inside)) in (
+    let few-sectors = rw (file .is) at (sectors-few _ image (file .place) (file .sound) (file .inside)) in (
       record {
         built = built .0;
         low = range .0;
@@ -197,7 +197,7 @@ returns-6 c =
     let p = passed (w .before) in
     let a = start₆ (w .before) .args in
     rw (p .0, p .1, eq-eqb _ _ (p .2), le-ltb (freeCount _) 1 (p .3), le-ltb 76 (length (longerBlocks (a .image .now) (a .k))) (omega (arith, used-is w, e .if5 .left)), done .write-longer .ensures)
-    (done-meets (a .image .now) _ (appendWrites (a .image .now) (a .bytes .now) (a .k)) refl)
+    (done-meets (a .image .now) _ (appendWrites _ (a .image .now) (a .bytes .now) (a .k)) refl)
 
 pub append-at-spec : {M : Type 1} → statement M
 append-at-spec =

@@ -7,9 +7,10 @@ use Rattle.rules.specs.Bytes.{splice}
 use Rattle.rules.specs.Sectors.{sectorOf, written}
 use Rattle.rules.specs.Map.{marked}
 use Rattle.rules.specs.Chain.{blocks, extended}
-use Rattle.rules.specs.Descriptor.{sectorsOf, chainOf, withChain}
+use Rattle.rules.specs.Descriptor.{sectorsOf, chainOf, withChain, markedBy}
 use Rattle.rules.specs.Choice.{dataChoice}
 use Rattle.rules.specs.Calls.Append.{longerBlocks, appendWrites}
+use Rattle.rules.specs.declared.Layout.{Layout}
 use Rattle.rules.proofs.Opening.{in-volume, is-sector, file-long}
 use borrow.Author.Needs.{needs}
 use Rattle.appending.proofs.write_longer.Statement.{statement}
@@ -32,15 +33,15 @@ abbrev second : tie.After-write-sector3 → tie.After-write-sector2
 second c = c .before .before .before .before .before
 
 -- three sectors written one after the other, the first of them the one chosen
-three : (image one two all bytes sector0 old descriptor : List ℕ) (k new : ℕ) → one ≡ splice image (256 * new) bytes → two ≡ splice one (256 * 0) sector0
+three : (layout : Layout) (image one two all bytes sector0 old descriptor : List ℕ) (k new : ℕ) → one ≡ splice image (256 * new) bytes → two ≡ splice one (256 * 0) sector0
     → all ≡ splice two (256 * k) descriptor → new ≡ dataChoice (sectorOf image 0) → sector0 ≡ marked 1 (sectorOf image 0) new
-    → old ≡ sectorOf image k → descriptor ≡ withChain old (sectorsOf old + 1) (extended 0 (blocks (chainOf old)) new)
-    → all ≡ written image (appendWrites image bytes k)
+    → old ≡ sectorOf image k → descriptor ≡ withChain (markedBy layout old) (sectorsOf old + 1) (extended 0 (blocks (chainOf old)) new)
+    → all ≡ written image (appendWrites layout image bytes k)
 unfolding appendWrites longerBlocks written
-three image one two all bytes sector0 old descriptor k new first second third is marks there longer = rw (third, second, first, marks, longer, there, is)
+three layout image one two all bytes sector0 old descriptor k new first second third is marks there longer = rw (third, second, first, marks, longer, there, is)
 
 small : (c : tie.Start) → c .args .k < 65536
-small c = omega (arith, in-volume _ _ (c .pre .0), c .pre .0 .sound .size)
+small c = omega (arith, in-volume _ _ _ (c .pre .0), c .pre .0 .sound .size)
 
 sector-of-requires : tie.Need-sector-of-requires
 sector-of-requires c κs = small (c .before .before .before .before)
@@ -48,12 +49,12 @@ sector-of-requires c κs = small (c .before .before .before .before)
 longer-requires : tie.Need-longer-requires
 longer-requires c κs =
     let pre = start c .pre in
-    rw (c .sector-of .ensures) (refl, is-sector _ _ (pre .0), pre .2, pre .3)
+    rw (c .sector-of .ensures) (refl, is-sector _ _ _ (pre .0), pre .2, pre .3)
 
 map-with-requires : tie.Need-map-with-requires
 map-with-requires c κs =
     let sound = start (c .before .before .before .before) .pre .0 .sound in
-    (refl, file-long _ 0 sound (omega (arith, sound .size)))
+    (refl, file-long _ _ 0 sound (omega (arith, sound .size)))
 
 write-sector-requires : tie.Need-write-sector-requires
 write-sector-requires c κs = omega (arith, start (descriptor (c .before .before) .before) .pre .2 .high)
@@ -71,7 +72,7 @@ returns c =
     let one = first two in
     let made = map one in
     let longer = descriptor made in
-    three _ _ _ _ _ _ _ _ _ _ (one .write-sector .ensures) (two .write-sector2 .ensures) (third .write-sector3 .ensures) (start (longer .before) .pre .1) (made .map-with .ensures)
+    three _ _ _ _ _ _ _ _ _ _ _ (one .write-sector .ensures) (two .write-sector2 .ensures) (third .write-sector3 .ensures) (start (longer .before) .pre .1) (made .map-with .ensures)
     (longer .before .sector-of .ensures) (longer .longer .ensures)
 
 pub write-longer-spec : {M : Type 1} → statement M

@@ -5,10 +5,10 @@ use Rattle.belt.proofs.judge_arguments.Statement.{statement}
 use Rattle.belt.proofs.judge_arguments.Tie as tie
 
 abbrev Inv-loop : tie.InvT-loop
-Inv-loop first end verbose argument₀ buffer₀ tally₀ position₀ argument buffer tally position = Unit {0}
+Inv-loop layout first end verbose argument₀ buffer₀ tally₀ position₀ argument buffer tally position = Unit {0}
 
 abbrev μ-loop : tie.MeasureT-loop
-μ-loop first end verbose argument₀ buffer₀ tally₀ position₀ argument buffer tally position = end - position
+μ-loop layout first end verbose argument₀ buffer₀ tally₀ position₀ argument buffer tally position = end - position
 
 pub judge-arguments-spec : {M : Type 1} → statement M
 judge-arguments-spec =

@@ -11,18 +11,21 @@ use borrow.Author.Needs.{needs}
 use Rattle.belt.proofs.mark_of.Statement.{statement}
 use Rattle.belt.proofs.mark_of.Tie as tie
 
--- what was judged, and its number
-abbrev judged : tie.After-judge → List ℕ
-judged c = part (c .before .before .before .before .before .before .args .buffer .now) 0 (c .before .before .before .received .given .0 .0)
+-- the start of the call; what was judged, and its number
+abbrev start : tie.After-judge → tie.Start
+start c = c .before .before .before .before .before .before
 
-number : (c : tie.After-judge) → c .judge .result ≡ verdict (judged c)
-number c = c .judge .ensures ∙ ap verdict (c .before .part .ensures)
+abbrev judged : tie.After-judge → List ℕ
+judged c = part (start c .args .buffer .now) 0 (c .before .before .before .received .given .0 .0)
+
+number : (c : tie.After-judge) → c .judge .result ≡ verdict (start c .args .layout) (judged c)
+number c = c .judge .ensures ∙ ap (verdict (start c .args .layout)) (c .before .part .ensures)
 
 cast-result : tie.Need-cast-result
-cast-result c = omega (arith, number c, verdict-small (judged c))
+cast-result c = omega (arith, number c, verdict-small (start c .args .layout) (judged c))
 
 add-result : tie.Need-add-result
-add-result c = omega (arith, number c, verdict-small (judged c))
+add-result c = omega (arith, number c, verdict-small (start c .args .layout) (judged c))
 
 returns : tie.Need-returns
 unfolding markOf

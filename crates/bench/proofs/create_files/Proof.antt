@@ -16,8 +16,8 @@ abbrev μ-loop : tie.MeasureT-loop
 abbrev turn : tie.After-create Inv-loop μ-loop → tie.At-loop Inv-loop μ-loop
 turn c = c .before .before .before .before .before .before .before
 
-kept : (c : tie.After-create Inv-loop μ-loop) → length (c .create .last .0) ≡ length (turn c .before .before .args .image .now)
-kept c = c .create .kept .0 ∙ turn c .loop .inv
+kept : (c : tie.After-create Inv-loop μ-loop) → length (c .create .last .1 .0) ≡ length (turn c .before .before .args .image .now)
+kept c = c .create .kept .1 .0 ∙ turn c .loop .inv
 
 pub create-files-spec : {M : Type 1} → statement M
 create-files-spec =

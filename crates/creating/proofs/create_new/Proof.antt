@@ -11,6 +11,7 @@ use borrow.Rule.Slice.PartMut.{putMid}
 use Rattle.rules.specs.Bytes.{wordAt, part, splice}
 use Rattle.rules.specs.Sectors.{sectorOf, sectorCount, written}
 use Rattle.rules.specs.Map.{freeCount, marked}
+use Rattle.rules.specs.Kind.{marking}
 use Rattle.rules.specs.Descriptor.{newDescriptor}
 use Rattle.rules.specs.Volume.{files}
 use Rattle.rules.specs.Choice.{descriptorChoice}
@@ -19,6 +20,7 @@ use Rattle.rules.specs.Tests.{firstOf, unlessMet}
 use Rattle.rules.specs.Outcome.{write, done, refusal}
 use Rattle.rules.specs.Calls.Create.{createStatus, entered, createTests, creating}
 use Rattle.rules.specs.Calls.Store.{dataWrites}
+use Rattle.rules.specs.declared.Layout.{Layout}
 use Rattle.rules.proofs.Splice.{splice-length, put-back}
 use Rattle.rules.proofs.Sectors.{sector-word}
 use Rattle.rules.proofs.Name.{name-is}
@@ -36,37 +38,37 @@ use Rattle.creating.proofs.create_new.Statement.{statement}
 use Rattle.creating.proofs.create_new.Tie as tie
 
 -- which test gives which number; place 126, the last but one, is that of a 127th file
-module _ (image name : List ℕ) (status recordLength recordsPerSector : ℕ) where
-  misasked : createStatus status ≡ false → creating image name status recordLength recordsPerSector ≡ refusal 15
+module _ (layout : Layout) (image name : List ℕ) (status recordLength recordsPerSector : ℕ) where
+  misasked : createStatus status ≡ false → creating layout image name status recordLength recordsPerSector ≡ refusal 15
   unfolding creating createTests firstOf unlessMet
   misasked e = rw e
 
-  module _ (whole : Sound image) (asked : createStatus status ≡ true) where
-    full : (wordAt (sectorOf image 1) 252 ≡ 0 → ⊥) → creating image name status recordLength recordsPerSector ≡ refusal 11
+  module _ (whole : Sound layout image) (asked : createStatus status ≡ true) where
+    full : (wordAt (sectorOf image 1) 252 ≡ 0 → ⊥) → creating layout image name status recordLength recordsPerSector ≡ refusal 11
     unfolding creating createTests firstOf unlessMet
-    full some = rw (asked, le-leb 127 (length (files image)) (place-some image 126 whole some .0))
+    full some = rw (asked, le-leb 127 (length (files image)) (place-some layout image 126 whole some .0))
 
     module _ (room : wordAt (sectorOf image 1) 252 ≡ 0) where
       few : length (files image) < 127
-      few = omega (arith, place-none image 126 whole room)
+      few = omega (arith, place-none layout image 126 whole room)
 
-      taken : freeCount (sectorOf image 0) ≡ 0 → creating image name status recordLength recordsPerSector ≡ refusal 12
+      taken : freeCount (sectorOf image 0) ≡ 0 → creating layout image name status recordLength recordsPerSector ≡ refusal 12
       unfolding creating createTests firstOf unlessMet
       taken none = rw (asked, lt-leb 127 (length (files image)) few, lt-ltb (freeCount (sectorOf image 0)) 1 (omega arith))
 
       passed : (freeCount (sectorOf image 0) ≡ 0 → ⊥) → (k : ℕ) → k ≡ descriptorChoice (sectorOf image 0)
-          → creating image name status recordLength recordsPerSector ≡ done (entered image name k (newDescriptor name status recordsPerSector 0 recordLength) (marked 1 (sectorOf image 0) k))
+          → creating layout image name status recordLength recordsPerSector ≡ done (entered image name k (newDescriptor name (marking layout status) recordsPerSector 0 recordLength) (marked 1 (sectorOf image 0) k))
       unfolding creating createTests firstOf unlessMet
       passed some k is = rw (is, asked, lt-leb 127 (length (files image)) few, le-ltb (freeCount (sectorOf image 0)) 1 (omega (arith, some)))
 
 -- the descriptor is not in sector 0, so what is marked there is what stood there
-marked-there : (image one sector0 descriptor : List ℕ) (k : ℕ) → Sound image → 2 ≤ k → length descriptor ≡ 256 → one ≡ splice image (256 * k) descriptor → sector0 ≡ marked 1 (part one 0 256) k
+marked-there : (layout : Layout) (image one sector0 descriptor : List ℕ) (k : ℕ) → Sound layout image → 2 ≤ k → length descriptor ≡ 256 → one ≡ splice image (256 * k) descriptor → sector0 ≡ marked 1 (part one 0 256) k
     → putMid 0 256 one sector0 ≡ written image (write k descriptor ∷ (write 0 (marked 1 (sectorOf image 0) k) ∷ []))
 unfolding sectorOf written
-marked-there image one sector0 descriptor k is high long one-is marks =
+marked-there layout image one sector0 descriptor k is high long one-is marks =
     let same : part one 0 256 ≡ sectorOf image 0 = ap (λ (i : List ℕ). sectorOf i 0) one-is ∙ sector-other image k descriptor long 0 (λ e. omega (arith, e, high)) in
     let here : sector0 ≡ marked 1 (sectorOf image 0) k = marks ∙ ap (λ (s : List ℕ). marked 1 s k) same in
-    let size : length sector0 ≡ 256 = ap length here ∙ marked-length 1 (sectorOf image 0) k ∙ label-long image is in
+    let size : length sector0 ≡ 256 = ap length here ∙ marked-length 1 (sectorOf image 0) k ∙ label-long layout image is in
     put-back one sector0 0 256 size (omega (arith, ap length one-is, splice-length image (256 * k) descriptor, is .whole, is .size)) ∙ rw (one-is, here)
 
 -- the ways back: past each test, and to the choice
@@ -101,22 +103,22 @@ returns : tie.Need-returns
 returns c =
     let a = c .before .before .before .before .args in
     let s = c .before .create-status in
-    refusal-meets (a .image .now) (creating (a .image .now) (a .name .now) (a .status) (a .record-length) (a .records-per-sector)) 15 refl
-    (misasked _ _ _ _ _ (sym (s .ensures) ∙ not-true (s .result) (c .if1 .taken)))
+    refusal-meets (a .image .now) (creating (a .layout) (a .image .now) (a .name .now) (a .status) (a .record-length) (a .records-per-sector)) 15 refl
+    (misasked _ _ _ _ _ _ (sym (s .ensures) ∙ not-true (s .result) (c .if1 .taken)))
 
 returns-2 : tie.Need-returns-2
 returns-2 c =
     let e = status (c .before) in
     let a = start e .args in
-    refusal-meets (a .image .now) (creating (a .image .now) (a .name .now) (a .status) (a .record-length) (a .records-per-sector)) 11 refl
-    (full _ _ _ _ _ (start e .pre .0) (asked e) (λ z. c .if2 .taken (last-is (c .before) ∙ z)))
+    refusal-meets (a .image .now) (creating (a .layout) (a .image .now) (a .name .now) (a .status) (a .record-length) (a .records-per-sector)) 11 refl
+    (full _ _ _ _ _ _ (start e .pre .0) (asked e) (λ z. c .if2 .taken (last-is (c .before) ∙ z)))
 
 returns-3 : tie.Need-returns-3
 returns-3 c =
     let room = place (c .before) in
     let a = start₂ room .args in
-    refusal-meets (a .image .now) (creating (a .image .now) (a .name .now) (a .status) (a .record-length) (a .records-per-sector)) 12 refl
-    (taken _ _ _ _ _ (start₂ room .pre .0) (asked (status (room .before))) (sym (last-is (room .before)) ∙ room .if2 .left) (sym (free-is (c .before)) ∙ c .if3 .taken))
+    refusal-meets (a .image .now) (creating (a .layout) (a .image .now) (a .name .now) (a .status) (a .record-length) (a .records-per-sector)) 12 refl
+    (taken _ _ _ _ _ _ (start₂ room .pre .0) (asked (status (room .before))) (sym (last-is (room .before)) ∙ room .if2 .left) (sym (free-is (c .before)) ∙ c .if3 .taken))
 
 -- the sector chosen, which was free
 chosen-is : (c : tie.After-descriptor-choice) → c .descriptor-choice .result ≡ descriptorChoice (sectorOf (start₃ c .args .image .now) 0)
@@ -127,21 +129,21 @@ is-free c =
     let some = counted c in
     let begin = start₃ c in
     subst (Chosen (sectorCount (begin .args .image .now)) (sectorOf (begin .args .image .now) 0)) (sym (chosen-is c))
-    (descriptor-choice-free (sectorCount (begin .args .image .now)) (sectorOf (begin .args .image .now) 0) (sound-fenced (begin .args .image .now) (begin .pre .0))
+    (descriptor-choice-free (sectorCount (begin .args .image .now)) (sectorOf (begin .args .image .now) 0) (sound-fenced _ (begin .args .image .now) (begin .pre .0))
     (omega (arith, some .if3 .left, free-is (some .before))))
 
 ten : (c : tie.After-descriptor-choice) → length (start₃ c .args .name .now) ≡ 10
 ten c = name-is _ (start₃ c .pre .1) .ten
 
 write-descriptor-requires : tie.Need-write-descriptor-requires
-write-descriptor-requires c κs = (omega (arith, is-free (c .before) .low), ten (c .before))
+write-descriptor-requires c κs = let choice = c .before .before in (omega (arith, is-free choice .low), ten choice)
 
 -- the image with the descriptor, which is not in sector 0
 abbrev described : tie.After-mark → tie.After-write-descriptor
 described c = c .before .before .before .before
 
 abbrev chosen : tie.After-write-descriptor → tie.After-descriptor-choice
-chosen c = c .before .before
+chosen c = c .before .before .before
 
 part-mark-end : tie.Need-part-mark-end
 part-mark-end c =
@@ -154,8 +156,8 @@ returns-4 : tie.Need-returns-4
 unfolding written dataWrites
 returns-4 c =
     let entering = c .before .before in
-    let marking = entering .before .before .before .before in
-    let writing = described marking in
+    let mapped = entering .before .before .before .before in
+    let writing = described mapped in
     let choice = chosen writing in
     let some = counted choice in
     let room = place (some .before) in
@@ -164,18 +166,23 @@ returns-4 c =
     let image = a .image .now in
     let name = a .name .now in
     let k = choice .descriptor-choice .result in
-    let descriptor = newDescriptor name (a .status) (a .records-per-sector) 0 (a .record-length) in
-    let long = new-length name (a .status) (a .records-per-sector) 0 (a .record-length) (ten choice) in
+    let with-mark = marking (a .layout) (a .status) in
+    let descriptor = newDescriptor name with-mark (a .records-per-sector) 0 (a .record-length) in
+    let long = new-length name with-mark (a .records-per-sector) 0 (a .record-length) (ten choice) in
+    let there =
+    writing .write-descriptor .ensures
+    ∙ ap (λ (s : ℕ). splice image (256 * k) (newDescriptor name s (a .records-per-sector) 0 (a .record-length))) (writing .before .before .marking .ensures)
+    in
     let met =
-    done-meets image (creating image name (a .status) (a .record-length) (a .records-per-sector)) _
-    (passed _ _ _ _ _ (begin .pre .0) (asked (status (room .before))) (sym (last-is (room .before)) ∙ room .if2 .left) (λ z. some .if3 .left (free-is (some .before) ∙ z)) k (chosen-is choice))
+    done-meets image (creating (a .layout) image name (a .status) (a .record-length) (a .records-per-sector)) _
+    (passed _ _ _ _ _ _ (begin .pre .0) (asked (status (room .before))) (sym (last-is (room .before)) ∙ room .if2 .left) (λ z. some .if3 .left (free-is (some .before) ∙ z)) k (chosen-is choice))
     in
     record {
       said = met .said;
       left =
-          written-entered image name [] k [] descriptor (marked 1 (sectorOf image 0) k) (begin .pre .0) (λ j one. subst (Chosen (sectorCount image) (sectorOf image 0)) (only-one k j one) (is-free choice)) long
-          (marked-length 1 (sectorOf image 0) k ∙ label-long image (begin .pre .0)) _ _
-          (marked-there image _ (marking .mark .last .0) descriptor k (begin .pre .0) (is-free choice .from) long (writing .write-descriptor .ensures) (marking .mark .ensures)) (entering .enter .ensures)
+          written-entered _ image name [] k [] descriptor (marked 1 (sectorOf image 0) k) (begin .pre .0) (λ j one. subst (Chosen (sectorCount image) (sectorOf image 0)) (only-one k j one) (is-free choice)) long
+          (marked-length 1 (sectorOf image 0) k ∙ label-long _ image (begin .pre .0)) _ _
+          (marked-there _ image _ (mapped .mark .last .0) descriptor k (begin .pre .0) (is-free choice .from) long there (mapped .mark .ensures)) (entering .enter .ensures)
           ∙ met .left;
     }
 
@@ -192,6 +199,7 @@ create-new-spec =
     (λ c κs. search needs)
     (λ c. search needs)
     returns-3
+    (λ c κs. search needs)
     (λ c κs. search needs)
     (λ c κs. search needs)
     write-descriptor-requires

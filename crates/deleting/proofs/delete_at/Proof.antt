@@ -27,7 +27,7 @@ status-is c = rw (c .byte .ensures .0, c .before .sector-of .ensures)
 sector-of-requires : tie.Need-sector-of-requires
 sector-of-requires c κs =
     let file = c .before .before .pre in
-    omega (arith, in-volume _ _ file, file .sound .size)
+    omega (arith, in-volume _ _ _ file, file .sound .size)
 
 returns : tie.Need-returns
 unfolding deleting deleteTests firstOf unlessMet

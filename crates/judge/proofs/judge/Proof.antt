@@ -13,6 +13,7 @@ use Rattle.rules.specs.Index.{rangeRule, indexRule}
 use Rattle.rules.specs.Map.{mapRule}
 use Rattle.rules.specs.Volume.{files, holders}
 use Rattle.rules.specs.Verdict.{sizeRule, heldTwice}
+use Rattle.rules.specs.declared.Layout.{Layout}
 use Rattle.rules.proofs.Tests.{both}
 use Rattle.rules.proofs.Bytes.{part-length}
 use Rattle.rules.proofs.Sectors.{sector-length}
@@ -58,6 +59,9 @@ image₅ c = image₄ (e₄ (c .before))
 abbrev image₆ : tie.Else6 → List ℕ
 image₆ c = image₅ (c .before .before)
 
+abbrev layout₆ : tie.Else6 → Layout
+layout₆ c = lent (e₃ (e₄ (c .before .before .before) .before)) .before .args .layout
+
 abbrev image₇ : tie.After-claim-files → List ℕ
 image₇ c = image₆ (e₆ c)
 
@@ -78,7 +82,7 @@ index-is-result c = rw (← c .before .sector-in2 .ensures) (sym (c .index-rule 
 indexed : (c : tie.Else5) → indexRule (sectorCount (image₅ c)) (sectorOf (image₅ c) 1) ≡ true
 indexed c = index-is-result (c .before) ∙ not-false (c .before .index-rule .result) (c .if5 .left)
 
-passed : (c : tie.Else6) → FourPassed (image₆ c)
+passed : (c : tie.Else6) → FourPassed (layout₆ c) (image₆ c)
 passed c =
     let five = c .before .before in
     let four = e₄ (five .before) in
@@ -91,7 +95,7 @@ passed c =
 
 -- what the claims gave, said of the holders
 twice-is : (c : tie.After-claim-files) → heldTwice (holders (image₇ c)) ≡ c .claim-files .result
-twice-is c = judged-twice _ _ (laid c .lay-map .ensures) (passed (e₆ c)) _ (c .claim-files .ensures .0)
+twice-is c = judged-twice _ _ _ (laid c .lay-map .ensures) (passed (e₆ c)) _ (c .claim-files .ensures .0)
 
 -- and of the map; sector 0 was read before the label's test
 abbrev sector0 : tie.Else7 → tie.After-sector-in
@@ -105,38 +109,38 @@ map-is c =
     let e = e₇ c in
     let f = claimed e in
     sym (c .map-rule .ensures
-    ∙ judged-map _ _ (laid f .lay-map .ensures) (passed (e₆ f)) _ (f .claim-files .ensures .0) (e .if7 .left) _ (f .claim-files .ensures .1 (e .if7 .left)) (long f) _ _
+    ∙ judged-map _ _ _ (laid f .lay-map .ensures) (passed (e₆ f)) _ (f .claim-files .ensures .0) (e .if7 .left) _ (f .claim-files .ensures .1 (e .if7 .left)) (long f) _ _
     (c .before .before .part .ensures) (sector0 e .sector-in .ensures) (λ i. omega (arith, lent (sector0 e .before) .shared-slice-known .given i)))
 
 returns : tie.Need-returns
 unfolding sizeRule
-returns c = sym (wrong-size _ (rw (ne-eqb _ _ (c .if1 .taken))))
+returns c = sym (wrong-size _ _ (rw (ne-eqb _ _ (c .if1 .taken))))
 
 returns-2 : tie.Need-returns-2
 unfolding sizeRule
-returns-2 c = sym (wrong-size _ (rw (eq-eqb _ _ (c .before .if1 .left), lt-leb _ _ (c .if2 .taken))))
+returns-2 c = sym (wrong-size _ _ (rw (eq-eqb _ _ (c .before .if1 .left), lt-leb _ _ (c .if2 .taken))))
 
 returns-3 : tie.Need-returns-3
 unfolding sizeRule
-returns-3 c = let low = c .before in sym (wrong-size _ (rw (eq-eqb _ _ (low .before .if1 .left), le-leb _ _ (low .if2 .left), lt-leb _ _ (c .if3 .taken))))
+returns-3 c = let low = c .before in sym (wrong-size _ _ (rw (eq-eqb _ _ (low .before .if1 .left), le-leb _ _ (low .if2 .left), lt-leb _ _ (c .if3 .taken))))
 
 returns-4 : tie.Need-returns-4
 returns-4 c =
     let l = c .before in
-    sym (wrong-label _ (sized (e₃ l)) (label-is l ∙ not-true (l .label-rule .result) (c .if4 .taken)))
+    sym (wrong-label _ _ (sized (e₃ l)) (label-is l ∙ not-true (l .label-rule .result) (c .if4 .taken)))
 
 returns-5 : tie.Need-returns-5
 returns-5 c =
     let i = c .before in
     let e = e₄ i in
-    sym (wrong-index _ (sized (e₃ (e .before))) (labelled e) (index-is-result i ∙ not-true (i .index-rule .result) (c .if5 .taken)))
+    sym (wrong-index _ _ (sized (e₃ (e .before))) (labelled e) (index-is-result i ∙ not-true (i .index-rule .result) (c .if5 .taken)))
 
 returns-6 : tie.Need-returns-6
 returns-6 c =
     let d = c .before in
     let five = d .before in
     let four = e₄ (five .before) in
-    sym (wrong-descriptor _ (sized (e₃ (four .before))) (labelled four) (indexed five) (sym (d .descriptors-rule .ensures) ∙ not-true (d .descriptors-rule .result) (c .if6 .taken)))
+    sym (wrong-descriptor _ _ (sized (e₃ (four .before))) (labelled four) (indexed five) (sym (d .descriptors-rule .ensures) ∙ not-true (d .descriptors-rule .result) (c .if6 .taken)))
 
 sector-in-requires : tie.Need-sector-in-requires
 sector-in-requires c κs = let size = size-is (image₃ c) (sized c) in omega (arith, size .0, size .1)
@@ -159,10 +163,10 @@ claim-files-requires c κs =
     let l = c .before .before in
     let four = passed (l .before .before) in
     let size = size-is _ (four .sized) in
-    (l .lay-map .kept .0, omega (arith, size .1), size .2, holders-below _ four)
+    (l .lay-map .kept .0, omega (arith, size .1), size .2, holders-below _ _ four)
 
 returns-7 : tie.Need-returns-7
-returns-7 c = let f = c .before .before in sym (wrong-holders _ (passed (e₆ f)) (twice-is f ∙ c .if7 .taken))
+returns-7 c = let f = c .before .before in sym (wrong-holders _ _ (passed (e₆ f)) (twice-is f ∙ c .if7 .taken))
 
 map-rule-requires : tie.Need-map-rule-requires
 map-rule-requires c κs =
@@ -176,13 +180,13 @@ returns-8 : tie.Need-returns-8
 returns-8 c =
     let m = c .before in
     let e = e₇ m in
-    sym (wrong-map _ (passed (e₆ (claimed e))) (twice-is (claimed e) ∙ e .if7 .left) (map-is m ∙ not-true (m .map-rule .result) (c .if8 .taken)))
+    sym (wrong-map _ _ (passed (e₆ (claimed e))) (twice-is (claimed e) ∙ e .if7 .left) (map-is m ∙ not-true (m .map-rule .result) (c .if8 .taken)))
 
 returns-9 : tie.Need-returns-9
 returns-9 c =
     let m = c .before in
     let e = e₇ m in
-    sym (nothing-wrong _ (passed (e₆ (claimed e))) (twice-is (claimed e) ∙ e .if7 .left) (map-is m ∙ not-false (m .map-rule .result) (c .if8 .left)))
+    sym (nothing-wrong _ _ (passed (e₆ (claimed e))) (twice-is (claimed e) ∙ e .if7 .left) (map-is m ∙ not-false (m .map-rule .result) (c .if8 .left)))
 
 pub judge-spec : {M : Type 1} → statement M
 judge-spec =

@@ -14,7 +14,7 @@ abbrev start : tie.Else1 → tie.Start
 start c = c .before .before .before .before
 
 -- past the judge
-sound : (c : tie.Else1) → verdict (start c .args .image .now) ≡ 0
+sound : (c : tie.Else1) → verdict (start c .args .layout) (start c .args .image .now) ≡ 0
 sound c = sym (c .before .judge .ensures) ∙ c .if1 .left
 
 returns : tie.Need-returns
@@ -22,14 +22,14 @@ returns c =
     let a = c .before .before .before .before .args in
     let number = c .before .judge .ensures in
     rw number
-    (amount-refused (a .out .now) _ (verdict (a .image .now)) (λ z. c .if1 .taken (number ∙ z)) (listing-unsound (a .image .now) (length (a .out .now)) (λ z. c .if1 .taken (number ∙ z))))
+    (amount-refused (a .out .now) _ (verdict (a .layout) (a .image .now)) (λ z. c .if1 .taken (number ∙ z)) (listing-unsound (a .layout) (a .image .now) (length (a .out .now)) (λ z. c .if1 .taken (number ∙ z))))
 
 returns-2 : tie.Need-returns-2
 returns-2 c =
     let p = c .before .before in
     let e = p .before .before in
     let a = start e .args in
-    amount-refused (a .out .now) _ 15 (λ z. omega arith) (listing-narrow (a .image .now) (length (a .out .now)) (sound e) (omega (arith, p .put-listing .ensures .ends, c .if2 .taken)))
+    amount-refused (a .out .now) _ 15 (λ z. omega arith) (listing-narrow (a .layout) (a .image .now) (length (a .out .now)) (sound e) (omega (arith, p .put-listing .ensures .ends, c .if2 .taken)))
 
 returns-3 : tie.Need-returns-3
 returns-3 c =
@@ -38,8 +38,8 @@ returns-3 c =
     let p = fits .before .before in
     let e = p .before .before in
     let a = start e .args in
-    let size : p .put-listing .result ≡ length (listingText (a .image .now)) = p .put-listing .ensures .ends ∙ omega arith in
-    let given = amount-given (a .out .now) _ _ _ (listing-fits (a .image .now) (length (a .out .now)) (sound e) (omega (arith, size, fits .if2 .left))) in
+    let size : p .put-listing .result ≡ length (listingText (a .layout) (a .image .now)) = p .put-listing .ensures .ends ∙ omega arith in
+    let given = amount-given (a .out .now) _ _ _ (listing-fits (a .layout) (a .image .now) (length (a .out .now)) (sound e) (omega (arith, size, fits .if2 .left))) in
     record { said = rw size (given .said); left = laid .put-listing2 .ensures .left ∙ given .left }
 
 pub listing-spec : {M : Type 1} → statement M

@@ -10,7 +10,7 @@ returns c =
     let l = o .before .before .before .before in
     let a = l .before .before .before .before .args in
     let gave = rw (o .amount .given .1) at (l .listing .ensures) in
-    (shown-given (a .image .now) (a .out .now) gave, number-given (a .image .now) (a .out .now) gave)
+    (shown-given _ (a .image .now) (a .out .now) gave, number-given _ (a .image .now) (a .out .now) gave)
 
 returns-2 : tie.Need-returns-2
 returns-2 c =
@@ -19,8 +19,8 @@ returns-2 c =
     let l = o .before .before .before .before in
     let a = l .before .before .before .before .args in
     let gave = rw (o .amount2 .given .1) at (l .listing .ensures) in
-    let line = shown-refused (a .image .now) (a .out .now) gave in
-    (rw (← line .1, ← line .0) (y .refused-line .ensures), number-refused (a .image .now) (a .out .now) gave)
+    let line = shown-refused _ (a .image .now) (a .out .now) gave in
+    (rw (← line .1, ← line .0) (y .refused-line .ensures), number-refused _ (a .image .now) (a .out .now) gave)
 
 pub show-spec : {M : Type 1} → statement M
 show-spec =

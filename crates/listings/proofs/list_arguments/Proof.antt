@@ -5,10 +5,10 @@ use Rattle.listings.proofs.list_arguments.Statement.{statement}
 use Rattle.listings.proofs.list_arguments.Tie as tie
 
 abbrev Inv-loop : tie.InvT-loop
-Inv-loop first end argument₀ buffer₀ text₀ tally₀ position₀ argument buffer text tally position = Unit {0}
+Inv-loop layout first end argument₀ buffer₀ text₀ tally₀ position₀ argument buffer text tally position = Unit {0}
 
 abbrev μ-loop : tie.MeasureT-loop
-μ-loop first end argument₀ buffer₀ text₀ tally₀ position₀ argument buffer text tally position = end - position
+μ-loop layout first end argument₀ buffer₀ text₀ tally₀ position₀ argument buffer text tally position = end - position
 
 pub list-arguments-spec : {M : Type 1} → statement M
 list-arguments-spec =

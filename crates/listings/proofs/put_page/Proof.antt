@@ -10,7 +10,7 @@ use Rattle.listings.proofs.put_page.Statement.{statement}
 use Rattle.listings.proofs.put_page.Tie as tie
 
 -- the text is no longer than what was lent
-few : (c : tie.After-part) → length (c .part .result .now) ≤ 4212
+few : (c : tie.After-part) → length (c .part .result .now) ≤ 4466
 few c =
     let start = c .before .before .before .before .before .before .before .before .before .before .before .before .before .before .before .before .before .before .before .before .before .before .before in
     rw (c .part .ensures, length-take) (omega (arith, start .pre))

@@ -4,10 +4,10 @@ use Rattle.masters.proofs.entered_with.Statement.{statement}
 use Rattle.masters.proofs.entered_with.Tie as tie
 
 abbrev Inv-loop : tie.InvT-loop
-Inv-loop sum skipped form argument₀ source₀ other₀ last earlier sums place₀ argument source other place = Unit {0}
+Inv-loop layout sum skipped form argument₀ source₀ other₀ last earlier sums place₀ argument source other place = Unit {0}
 
 abbrev μ-loop : tie.MeasureT-loop
-μ-loop sum skipped form argument₀ source₀ other₀ last earlier sums place₀ argument source other place = place
+μ-loop layout sum skipped form argument₀ source₀ other₀ last earlier sums place₀ argument source other place = place
 
 pub entered-with-spec : {M : Type 1} → statement M
 entered-with-spec =

@@ -6,10 +6,10 @@ use Rattle.masters.proofs.find_all.Statement.{statement}
 use Rattle.masters.proofs.find_all.Tie as tie
 
 abbrev Inv-loop : tie.InvT-loop
-Inv-loop images skipped only-sums argument₀ source₀ packed₀ other₀ last₀ earlier₀ sums₀ tally₀ own₀ argument source packed other last earlier sums tally own = Table last own
+Inv-loop layout images skipped only-sums argument₀ source₀ packed₀ other₀ last₀ earlier₀ sums₀ tally₀ own₀ argument source packed other last earlier sums tally own = Table last own
 
 abbrev μ-loop : tie.MeasureT-loop
-μ-loop images skipped only-sums argument₀ source₀ packed₀ other₀ last₀ earlier₀ sums₀ tally₀ own₀ argument source packed other last earlier sums tally own = images - own
+μ-loop layout images skipped only-sums argument₀ source₀ packed₀ other₀ last₀ earlier₀ sums₀ tally₀ own₀ argument source packed other last earlier sums tally own = images - own
 
 pub find-all-spec : {M : Type 1} → statement M
 find-all-spec =

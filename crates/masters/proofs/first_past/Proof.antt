@@ -5,10 +5,10 @@ use Rattle.masters.proofs.first_past.Statement.{statement}
 use Rattle.masters.proofs.first_past.Tie as tie
 
 abbrev Inv-loop : tie.InvT-loop
-Inv-loop own skipped form argument₀ source₀ other₀ place₀ argument source other place = Unit {0}
+Inv-loop layout own skipped form argument₀ source₀ other₀ place₀ argument source other place = Unit {0}
 
 abbrev μ-loop : tie.MeasureT-loop
-μ-loop own skipped form argument₀ source₀ other₀ place₀ argument source other place = own - place
+μ-loop layout own skipped form argument₀ source₀ other₀ place₀ argument source other place = own - place
 
 pub first-past-spec : {M : Type 1} → statement M
 first-past-spec =

@@ -9,6 +9,7 @@ use borrow.Rule.Slice.PartMut.{putMid}
 use Rattle.rules.specs.Bytes.{part, splice}
 use Rattle.rules.specs.Outcome.{AnswerSays}
 use Rattle.rules.specs.Calls.Pack.{packNumber, afterPack}
+use Rattle.rules.specs.declared.Layout.{Layout}
 use Rattle.rules.specs.declared.Answer.{Answer}
 use Rattle.rules.proofs.Bytes.{part-length}
 use Rattle.rules.proofs.Splice.{put-back}
@@ -21,16 +22,16 @@ use Rattle.masters.proofs.pack_received.Statement.{statement}
 use Rattle.masters.proofs.pack_received.Tie as tie
 
 -- where there is room: by what packing answered and left of the image that was read
-module _ (source packed : List ℕ) {received : Received} (count : ℕ) (gave : received ≡ Bytes count) (room : count ≤ length packed) {image : List ℕ} (is : image ≡ part source 0 count) where
+module _ (layout : Layout) (source packed : List ℕ) {received : Received} (count : ℕ) (gave : received ≡ Bytes count) (room : count ≤ length packed) {image : List ℕ} (is : image ≡ part source 0 count) where
   lent : count - 0 ≡ count
   lent = omega arith
 
-  by-answer : (answer : Answer) → AnswerSays answer (packNumber image (part packed 0 (count - 0))) → masterBy count answer ≡ masterOf received source packed
+  by-answer : (answer : Answer) → AnswerSays answer (packNumber layout image (part packed 0 (count - 0))) → masterBy count answer ≡ masterOf layout received source packed
   unfolding masterOf
   by-answer answer said = rw (gave, le-ltb (length packed) count room) (ap (masterBy count) (says-answer answer _ (rw (lent, is) at said)))
 
-  laid-back : (after : List ℕ) → after ≡ afterPack image (part packed 0 (count - 0)) → length after ≡ length (part packed 0 (count - 0))
-      → putMid 0 (count - 0) packed after ≡ packedOver received source packed
+  laid-back : (after : List ℕ) → after ≡ afterPack layout image (part packed 0 (count - 0)) → length after ≡ length (part packed 0 (count - 0))
+      → putMid 0 (count - 0) packed after ≡ packedOver layout received source packed
   unfolding packedOver
   laid-back after left kept =
       rw (lent, gave, le-ltb (length packed) count room)
@@ -60,15 +61,15 @@ abbrev start : tie.After-pack → tie.Start
 start c = read c .before .before .before .before
 
 module _ (c : tie.After-pack) where
-  answered : masterBy (count c) (c .pack .result) ≡ masterOf (start c .args .received) (start c .args .source .now) (start c .args .packed .now)
+  answered : masterBy (count c) (c .pack .result) ≡ masterOf (start c .args .layout) (start c .args .received) (start c .args .source .now) (start c .args .packed .now)
   answered =
       let a = start c .args in
-      by-answer (a .source .now) (a .packed .now) (count c) (read c .received .given .1) (part-is c .before .if1 .left) (part-is c .part .ensures) (c .pack .result) (c .pack .ensures .0)
+      by-answer (a .layout) (a .source .now) (a .packed .now) (count c) (read c .received .given .1) (part-is c .before .if1 .left) (part-is c .part .ensures) (c .pack .result) (c .pack .ensures .0)
 
-  left : putMid 0 (count c - 0) (start c .args .packed .now) (c .pack .last .1 .0) ≡ packedOver (start c .args .received) (start c .args .source .now) (start c .args .packed .now)
+  left : putMid 0 (count c - 0) (start c .args .packed .now) (c .pack .last .1 .1 .0) ≡ packedOver (start c .args .layout) (start c .args .received) (start c .args .source .now) (start c .args .packed .now)
   left =
       let a = start c .args in
-      laid-back (a .source .now) (a .packed .now) (count c) (read c .received .given .1) (part-is c .before .if1 .left) (part-is c .part .ensures) (c .pack .last .1 .0) (c .pack .ensures .1) (c .pack .kept .1 .0)
+      laid-back (a .layout) (a .source .now) (a .packed .now) (count c) (read c .received .given .1) (part-is c .before .if1 .left) (part-is c .part .ensures) (c .pack .last .1 .1 .0) (c .pack .ensures .1) (c .pack .kept .1 .1 .0)
 
 returns-3 : tie.Need-returns-3
 unfolding masterBy

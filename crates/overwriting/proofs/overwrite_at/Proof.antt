@@ -1,21 +1,21 @@
--- `overwriting::overwrite_at` meets its contract: each refusal gives the number of the first test that was met; a place of a sound file is inside the image. Assumes nothing.
+-- `overwriting::overwrite_at` meets its contract: each refusal gives the number of the first test that was met; a place of a sound file is inside the image; by the old rule a descriptor marked where it stands is what it was. Assumes nothing.
 use mathlib.Core.Path.{_≡_, refl, sym, ap, _∙_}
 use mathlib.Core.Bool.{false}
-use mathlib.Core.List.{List, [], _∷_}
+use mathlib.Core.List.{List}
 use Prim.Native.Nat.{ℕ, _+_, _-_, _*_, _≤_, _<_}
 use native.Mathlib.Omega.{arith}
 use lib.ListN.{length, getD}
 use borrow.Author.Tests.{eq-eqb, ne-eqb, le-leb, lt-leb}
 use Rattle.rules.specs.Bytes.{byteAt, wordAt, part, splice}
-use Rattle.rules.specs.Sectors.{sectorOf, written}
+use Rattle.rules.specs.Sectors.{sectorOf}
 use Rattle.rules.specs.Kind.{isProgram, isProtected}
 use Rattle.rules.specs.Descriptor.{statusOf, sectorsOf, chainOf}
 use Rattle.rules.specs.Chain.{places}
 use Rattle.rules.specs.Volume.{placesIn}
 use Rattle.rules.specs.Tests.{firstOf, unlessMet}
-use Rattle.rules.specs.Outcome.{write}
-use Rattle.rules.specs.Calls.Overwrite.{overwriteTests, overwriting}
+use Rattle.rules.specs.Calls.Overwrite.{overwriteTests, overwriteWrites, overwriting}
 use Rattle.rules.proofs.Bytes.{part-length}
+use Rattle.rules.proofs.Marks.{overwrite-written}
 use Rattle.rules.proofs.Splice.{put-back}
 use Rattle.rules.proofs.Status.{protected, unprotected, program, no-program}
 use Rattle.rules.proofs.Outcome.{refusal-meets, done-meets}
@@ -65,10 +65,10 @@ place-is c =
     c .place-at .ensures .0 ∙ ap (λ (s : List ℕ). getD (places s) (start₄ c .args .offset) 0) (c .before .part .ensures ∙ ap (λ (s : List ℕ). part s 28 228) (d .sector-of .ensures))
 
 reaches : (c : tie.After-place-at) → 256 * c .place-at .result + 256 ≤ length (start₄ c .args .image .now)
-reaches c = omega (arith, place-is c, place-in-image (start₄ c .args .image .now) (start₄ c .args .k) (start₄ c .pre) (start₄ c .args .offset) (inside (tested c .before)))
+reaches c = omega (arith, place-is c, place-in-image _ (start₄ c .args .image .now) (start₄ c .args .k) (start₄ c .pre) (start₄ c .args .offset) (inside (tested c .before)))
 
 sector-of-requires : tie.Need-sector-of-requires
-sector-of-requires c κs = let pre = c .before .before .before .pre in omega (arith, in-volume _ _ pre, pre .sound .size)
+sector-of-requires c κs = let pre = c .before .before .before .pre in omega (arith, in-volume _ _ _ pre, pre .sound .size)
 
 returns : tie.Need-returns
 unfolding overwriting overwriteTests firstOf unlessMet
@@ -99,32 +99,51 @@ returns-4 c =
     let a = start₃ i .args in
     rw (open-file (e .before), is-data e, lt-leb (sectorsOf (sectorOf (a .image .now) (a .k))) (a .offset) (inside i), ne-eqb _ _ (c .if4 .taken)) (refusal-meets (a .image .now) _ 15 refl refl)
 
+mark-descriptor-requires : tie.Need-mark-descriptor-requires
+mark-descriptor-requires c κs = let file = start₄ (c .before) .pre in omega (arith, in-volume _ _ _ file, file .sound .whole)
+
+-- marked, the image is as long as it was
+abbrev placed : tie.After-mark-descriptor → tie.After-place-at
+placed c = c .before .before
+
+abbrev marked : tie.After-copy → tie.After-mark-descriptor
+marked c = c .before .before .before .before
+
+reaches-marked : (c : tie.After-mark-descriptor) → 256 * placed c .place-at .result + 256 ≤ length (c .mark-descriptor .last .1 .0)
+reaches-marked c = omega (arith, reaches (placed c), c .mark-descriptor .kept .1 .0)
+
 part-copy-end : tie.Need-part-copy-end
-part-copy-end c = omega (arith, reaches c)
+part-copy-end c = omega (arith, reaches-marked (c .before .before))
 
 copy-requires : tie.Need-copy-requires
 copy-requires c κs =
-    let p = c .before .place-at .result in
+    let m = c .before .before .before in
+    let p = placed m .place-at .result in
     let e : 256 * p + 256 - 256 * p ≡ 256 = omega arith in
-    rw e (part-length (start₄ (c .before) .args .image .now) (256 * p) 256 (reaches (c .before)) ∙ sym (tested (c .before) .if4 .left))
+    rw e (part-length (m .mark-descriptor .last .1 .0) (256 * p) 256 (reaches-marked m) ∙ sym (tested (placed m) .if4 .left))
 
 returns-5 : tie.Need-returns-5
-unfolding overwriting overwriteTests firstOf unlessMet written
+unfolding overwriting overwriteTests firstOf unlessMet
 returns-5 c =
-    let q = c .before .before .before .before in
+    let copied = c .before .before in
+    let m = marked copied in
+    let q = placed m in
     let t = tested q in
     let i = t .before in
     let d = i .before .before in
     let a = start₄ q .args in
     let p = q .place-at .result in
     let e : 256 * p + 256 - 256 * p ≡ 256 = omega arith in
-    let meets = done-meets (a .image .now) _ (write (getD (placesIn (a .image .now) (a .k)) (a .offset) 0) (a .bytes .now) ∷ []) refl in
+    let meets = done-meets (a .image .now) _ (overwriteWrites (a .layout) (a .image .now) (a .offset) (a .bytes .now) (a .k)) refl in
     rw (open-file (d .before), is-data d, lt-leb (sectorsOf (sectorOf (a .image .now) (a .k))) (a .offset) (inside i), eq-eqb _ _ (t .if4 .left))
     (record {
       said = meets .said;
       left =
-          rw (e, c .before .before .copy .ensures)
-          (put-back (a .image .now) (a .bytes .now) (256 * p) 256 (t .if4 .left) (reaches q) ∙ ap (λ (m : ℕ). splice (a .image .now) (256 * m) (a .bytes .now)) (place-is q));
+          rw (e, copied .copy .ensures)
+          (put-back (m .mark-descriptor .last .1 .0) (a .bytes .now) (256 * p) 256 (t .if4 .left) (reaches-marked m)
+          ∙ ap (λ (n : ℕ). splice (m .mark-descriptor .last .1 .0) (256 * n) (a .bytes .now)) (place-is q)
+          ∙ ap (λ (l : List ℕ). splice l (256 * getD (placesIn (a .image .now) (a .k)) (a .offset) 0) (a .bytes .now)) (m .mark-descriptor .ensures)
+          ∙ sym (overwrite-written (a .layout) (a .image .now) (a .bytes .now) (a .offset) (a .k)));
     })
 
 pub overwrite-at-spec : {M : Type 1} → statement M
@@ -146,6 +165,7 @@ overwrite-at-spec =
     (λ c κs. search needs)
     (λ c. search needs)
     (λ c. search needs)
+    mark-descriptor-requires
     (λ c. search needs)
     (λ c. search needs)
     part-copy-end

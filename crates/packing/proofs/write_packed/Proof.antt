@@ -29,9 +29,9 @@ lay-system-requires c κs =
     let e = c .before in
     let is = start e .pre .0 in (
       omega (arith, is .whole, is .size, start e .pre .1),
-      omega (arith, e .extent-of .ensures .0, files-few _ is),
+      omega (arith, e .extent-of .ensures .0, files-few _ _ is),
       label-length _ _ (is .whole) (omega (arith, is .size)),
-      omega (arith, e .extent-of .ensures .1, used-inside _ is),
+      omega (arith, e .extent-of .ensures .1, used-inside _ _ is),
       omega (arith, is .size),
     )
 
@@ -39,17 +39,17 @@ mul-end : tie.Need-mul-end
 mul-end c =
     let e = extent (system (descriptors (c .before .before))) in
     let is = start e .pre .0 in
-    omega (arith, e .extent-of .ensures .1, used-inside _ is, is .size)
+    omega (arith, e .extent-of .ensures .1, used-inside _ _ is, is .size)
 
 -- the sectors in use are inside the target
-room : (c : tie.After-lay-data) → 256 * extent (system (descriptors c)) .extent-of .result .used ≤ length (c .lay-data .last .1 .0)
+room : (c : tie.After-lay-data) → 256 * extent (system (descriptors c)) .extent-of .result .used ≤ length (c .lay-data .last .1 .1 .0)
 room c =
     let s = descriptors c in
     let y = system s in
     let e = extent y in
     let pre = start e .pre in
     let kept = ap length (c .lay-data .ensures) ∙ splice-length _ _ _ ∙ ap length (s .lay-descriptors .ensures) ∙ splice-length _ _ _ ∙ ap length (y .lay-system .ensures) ∙ splice-length _ _ _ in
-    omega (arith, kept, e .extent-of .ensures .1, used-inside _ (pre .0), pre .0 .whole, pre .1)
+    omega (arith, kept, e .extent-of .ensures .1, used-inside _ _ (pre .0), pre .0 .whole, pre .1)
 
 sub-fill-free : tie.Need-sub-fill-free
 sub-fill-free c = room (c .before .before)
@@ -66,7 +66,7 @@ returns c =
     let e = extent y in
     let a = start e .args in
     let pre = start e .pre in
-    laid-packed (a .source .now) (pre .0) (e .extent-of .ensures .0) (e .extent-of .ensures .1) (a .target .now) _ _ _ _ (pre .1) (y .lay-system .ensures) (s .lay-descriptors .ensures) (d .lay-data .ensures)
+    laid-packed _ (a .source .now) (pre .0) (e .extent-of .ensures .0) (e .extent-of .ensures .1) (a .target .now) _ _ _ _ (pre .1) (y .lay-system .ensures) (s .lay-descriptors .ensures) (d .lay-data .ensures)
     (f .fill-free .ensures)
 
 pub write-packed-spec : {M : Type 1} → statement M

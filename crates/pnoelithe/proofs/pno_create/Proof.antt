@@ -5,7 +5,9 @@ use Rattle.pnoelithe.proofs.pno_create.Statement.{statement}
 use Rattle.pnoelithe.proofs.pno_create.Tie as tie
 
 returns : tie.Need-returns
-returns c = writing-crosses _ _ _ _ _ _ _ (c .named-number .ensures _ _) (c .before .before .before .before .create .ensures)
+returns c =
+    let called = c .before .before .before .before in
+    rw (← called .before .before .layout-of .ensures) (writing-crosses _ _ _ _ _ _ _ (c .named-number .ensures _ _) (called .create .ensures))
 
 pub pno-create-spec : {M : Type 1} → statement M
-pno-create-spec = tie.close (tie.spec (λ c κs. search needs) (λ c κs. search needs) (λ c. search needs) returns)
+pno-create-spec = tie.close (tie.spec (λ c κs. search needs) (λ c κs. search needs) (λ c κs. search needs) (λ c. search needs) returns)

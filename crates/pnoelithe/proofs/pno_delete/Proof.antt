@@ -5,7 +5,9 @@ use Rattle.pnoelithe.proofs.pno_delete.Statement.{statement}
 use Rattle.pnoelithe.proofs.pno_delete.Tie as tie
 
 returns : tie.Need-returns
-returns c = writing-crosses _ _ _ _ _ _ _ (c .named-number .ensures _ _) (c .before .before .before .before .delete .ensures)
+returns c =
+    let called = c .before .before .before .before in
+    rw (← called .before .before .layout-of .ensures) (writing-crosses _ _ _ _ _ _ _ (c .named-number .ensures _ _) (called .delete .ensures))
 
 pub pno-delete-spec : {M : Type 1} → statement M
-pno-delete-spec = tie.close (tie.spec (λ c κs. search needs) (λ c κs. search needs) (λ c. search needs) returns)
+pno-delete-spec = tie.close (tie.spec (λ c κs. search needs) (λ c κs. search needs) (λ c κs. search needs) (λ c. search needs) returns)

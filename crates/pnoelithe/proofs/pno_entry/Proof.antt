@@ -16,9 +16,10 @@ returns : tie.Need-returns
 unfolding AnswerSays
 returns c =
     let o = c .before in
-    let gives = o .before .before .before .before .before .entry .ensures in
+    let call = o .before .before .before .before .before in
+    let gives = call .entry .ensures in
     let said = rw (o .answer .given .1) at (gives .said .said) in
-    (record { returned = said .0; left = gives .left }, (refused-kept _ _ _ _ said, (refused-kept _ _ _ _ said, (refused-kept _ _ _ _ said, refused-kept _ _ _ _ said))))
+    rw (← call .before .before .layout-of .ensures) (record { returned = said .0; left = gives .left }, (refused-kept _ _ _ _ said, (refused-kept _ _ _ _ said, (refused-kept _ _ _ _ said, refused-kept _ _ _ _ said))))
 
 returns-2 : tie.Need-returns-2
 unfolding AnswerSays rowOf entryRow entryOf
@@ -26,9 +27,11 @@ returns-2 c =
     let l = c .before in
     let k = l .before in
     let o = k .before in
-    let gives = o .before .before .before .before .before .entry .ensures in
+    let call = o .before .before .before .before .before in
+    let gives = call .entry .ensures in
     let said = rw (o .enum-told .given .1) at (gives .said .said) in
-    let row = gives .said .row-is ∙ unless-passed _ _ noRow said in (
+    let row = gives .said .row-is ∙ unless-passed _ _ noRow said in
+    rw (← call .before .before .layout-of .ensures) (
       record { returned = sym said; left = gives .left },
       (
         k .kind-number .ensures ∙ ap (λ (r : Row). kindNumber (r .kind)) row ∙ sym (behind-given 0 _ _ refl),
@@ -46,6 +49,7 @@ pub pno-entry-spec : {M : Type 1} → statement M
 pno-entry-spec =
     tie.close
     (tie.spec
+    (λ c κs. search needs)
     (λ c κs. search needs)
     (λ c. search needs)
     (λ c. search needs)

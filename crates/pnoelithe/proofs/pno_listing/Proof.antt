@@ -5,9 +5,10 @@ use Rattle.pnoelithe.proofs.pno_listing.Tie as tie
 
 returns : tie.Need-returns
 returns c =
-    let called = c .before .before .before .before .listing .ensures in
+    let call = c .before .before .before .before in
+    let called = call .listing .ensures in
     let crossed = c .amount-number .ensures _ (called .said) in
-    (record { returned = crossed .returned; left = called .left }, crossed)
+    rw (← call .before .before .layout-of .ensures) (record { returned = crossed .returned; left = called .left }, crossed)
 
 pub pno-listing-spec : {M : Type 1} → statement M
-pno-listing-spec = tie.close (tie.spec (λ c κs. search needs) (λ c κs. search needs) (λ c. search needs) returns)
+pno-listing-spec = tie.close (tie.spec (λ c κs. search needs) (λ c κs. search needs) (λ c κs. search needs) (λ c. search needs) returns)

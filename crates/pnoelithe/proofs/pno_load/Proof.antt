@@ -5,9 +5,10 @@ use Rattle.pnoelithe.proofs.pno_load.Tie as tie
 
 returns : tie.Need-returns
 returns c =
-    let called = c .before .before .before .before .before .load .ensures in
+    let call = c .before .before .before .before .before in
+    let called = call .load .ensures in
     let crossed = c .named-amount-number .ensures _ _ (called .said) in
-    (record { returned = crossed .0 .returned; left = called .left }, crossed)
+    rw (← call .before .before .layout-of .ensures) (record { returned = crossed .0 .returned; left = called .left }, crossed)
 
 pub pno-load-spec : {M : Type 1} → statement M
-pno-load-spec = tie.close (tie.spec (λ c κs. search needs) (λ c κs. search needs) (λ c. search needs) returns)
+pno-load-spec = tie.close (tie.spec (λ c κs. search needs) (λ c κs. search needs) (λ c κs. search needs) (λ c. search needs) returns)

@@ -5,7 +5,9 @@ use Rattle.pnoelithe.proofs.pno_protect.Statement.{statement}
 use Rattle.pnoelithe.proofs.pno_protect.Tie as tie
 
 returns : tie.Need-returns
-returns c = writing-crosses _ _ _ _ _ _ _ (c .named-number .ensures _ _) (c .before .before .before .before .protect .ensures)
+returns c =
+    let called = c .before .before .before .before in
+    rw (← called .before .before .layout-of .ensures) (writing-crosses _ _ _ _ _ _ _ (c .named-number .ensures _ _) (called .protect .ensures))
 
 pub pno-protect-spec : {M : Type 1} → statement M
-pno-protect-spec = tie.close (tie.spec (λ c κs. search needs) (λ c κs. search needs) (λ c. search needs) returns)
+pno-protect-spec = tie.close (tie.spec (λ c κs. search needs) (λ c κs. search needs) (λ c κs. search needs) (λ c. search needs) returns)

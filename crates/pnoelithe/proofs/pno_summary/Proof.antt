@@ -11,18 +11,20 @@ returns : tie.Need-returns
 unfolding SummarySays
 returns c =
     let o = c .before in
-    let gives = o .before .before .summary .ensures in
+    let call = o .before .before in
+    let gives = call .summary .ensures in
     let said = rw (o .summary2 .given .1) at (gives .said) in
-    (record { returned = said .0; left = gives .left }, (refused-kept _ _ _ _ said, (refused-kept _ _ _ _ said, refused-kept _ _ _ _ said)))
+    rw (← call .before .before .layout-of .ensures) (record { returned = said .0; left = gives .left }, (refused-kept _ _ _ _ said, (refused-kept _ _ _ _ said, refused-kept _ _ _ _ said)))
 
 returns-2 : tie.Need-returns-2
 unfolding SummarySays
 returns-2 c =
     let o = c .before in
-    let gives = o .before .before .summary .ensures in
+    let call = o .before .before in
+    let gives = call .summary .ensures in
     let said = rw (o .summary3 .given .1) at (gives .said) in
-    (record { returned = sym (said .0); left = gives .left }, (said .1 ∙ sym (behind-given 0 _ _ refl), (said .2 ∙ sym (behind-given 0 _ _ refl), said .3 ∙ sym (behind-given 0 _ _ refl))))
+    rw (← call .before .before .layout-of .ensures) (record { returned = sym (said .0); left = gives .left }, (said .1 ∙ sym (behind-given 0 _ _ refl), (said .2 ∙ sym (behind-given 0 _ _ refl), said .3 ∙ sym (behind-given 0 _ _ refl))))
 
 pub pno-summary-spec : {M : Type 1} → statement M
 pno-summary-spec =
-    tie.close (tie.spec (λ c κs. search needs) (λ c. search needs) (λ c. search needs) returns returns-2)
+    tie.close (tie.spec (λ c κs. search needs) (λ c κs. search needs) (λ c. search needs) (λ c. search needs) returns returns-2)

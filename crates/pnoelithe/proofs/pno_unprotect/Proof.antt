@@ -5,7 +5,9 @@ use Rattle.pnoelithe.proofs.pno_unprotect.Statement.{statement}
 use Rattle.pnoelithe.proofs.pno_unprotect.Tie as tie
 
 returns : tie.Need-returns
-returns c = writing-crosses _ _ _ _ _ _ _ (c .named-number .ensures _ _) (c .before .before .before .before .unprotect .ensures)
+returns c =
+    let called = c .before .before .before .before in
+    rw (← called .before .before .layout-of .ensures) (writing-crosses _ _ _ _ _ _ _ (c .named-number .ensures _ _) (called .unprotect .ensures))
 
 pub pno-unprotect-spec : {M : Type 1} → statement M
-pno-unprotect-spec = tie.close (tie.spec (λ c κs. search needs) (λ c κs. search needs) (λ c. search needs) returns)
+pno-unprotect-spec = tie.close (tie.spec (λ c κs. search needs) (λ c κs. search needs) (λ c κs. search needs) (λ c. search needs) returns)

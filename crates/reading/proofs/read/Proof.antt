@@ -32,7 +32,7 @@ start₂ c = start (c .before .before)
 abbrev file : tie.After-word → tie.After-opened3
 file c = c .before .before .before
 
-found : (c : tie.After-opened3) → openOf (start₂ c .args .image .now) (start₂ c .args .name .now) ≡ At (c .opened3 .given .0 .0) (c .opened3 .given .0 .1 .0)
+found : (c : tie.After-opened3) → openOf (start₂ c .args .layout) (start₂ c .args .image .now) (start₂ c .args .name .now) ≡ At (c .opened3 .given .0 .0) (c .opened3 .given .0 .1 .0)
 found c = sym (c .before .before .find .ensures) ∙ c .opened3 .given .1
 
 count-is : (c : tie.After-word) → sectorsOf (sectorOf (start₂ (file c) .args .image .now) (file c .opened3 .given .0 .1 .0)) ≡ c .word .result
@@ -43,7 +43,7 @@ inside c = omega (arith, count-is (c .before), c .if1 .left)
 
 sector-of-requires : tie.Need-sector-of-requires
 sector-of-requires c κs =
-    let is = opened-is _ _ _ _ (found (c .before)) in
+    let is = opened-is _ _ _ _ _ (found (c .before)) in
     omega (arith, is .low, is .whole .size)
 
 -- a test that was met
@@ -57,7 +57,7 @@ returns c =
     let w = c .before in
     let o = file w in
     let a = start₂ o .args in
-    on-found _ _ _ _ ReadSays _ _ (found o) _ _
+    on-found _ _ _ _ _ ReadSays _ _ (found o) _ _
     (rw (le-leb (sectorsOf (sectorOf (a .image .now) (o .opened3 .given .0 .1 .0))) (a .offset) (omega (arith, count-is w, c .if1 .taken))) (refused-15 (a .out .now) _ refl))
 
 returns-2 : tie.Need-returns-2
@@ -66,7 +66,7 @@ returns-2 c =
     let l = c .before in
     let o = file (l .before) in
     let a = start₂ o .args in
-    on-found _ _ _ _ ReadSays _ _ (found o) _ _
+    on-found _ _ _ _ _ ReadSays _ _ (found o) _ _
     (rw (lt-leb (sectorsOf (sectorOf (a .image .now) (o .opened3 .given .0 .1 .0))) (a .offset) (inside l), lt-ltb (length (a .out .now)) 256 (c .if2 .taken)) (refused-15 (a .out .now) _ refl))
 
 returns-3 : tie.Need-returns-3
@@ -74,20 +74,20 @@ unfolding readOf
 returns-3 c =
     let o = c .before in
     let f = o .before .before in
-    file-refused _ _ (start f .args .out .now) _ _ (sym (f .find .ensures) ∙ o .opened .given .1)
+    file-refused _ _ _ (start f .args .out .now) _ _ (sym (f .find .ensures) ∙ o .opened .given .1)
 
 returns-4 : tie.Need-returns-4
 unfolding readOf
 returns-4 c =
     let o = c .before in
     let f = o .before .before in
-    file-misnamed _ _ (start f .args .out .now) _ _ (sym (f .find .ensures) ∙ o .opened2 .given .1)
+    file-misnamed _ _ _ (start f .args .out .now) _ _ (sym (f .find .ensures) ∙ o .opened2 .given .1)
 
 returns-5 : tie.Need-returns-5
 unfolding readOf
 returns-5 c =
     let f = c .before .before in
-    file-absent _ _ (start f .args .out .now) _ (sym (f .find .ensures) ∙ c .enum-told .given .1)
+    file-absent _ _ _ (start f .args .out .now) _ (sym (f .find .ensures) ∙ c .enum-told .given .1)
 
 returns-6 : tie.Need-returns-6
 unfolding readOf reading readTests firstOf unlessMet placesIn chainOf NamedSays
@@ -104,7 +104,7 @@ returns-6 c =
     let a = start₂ o .args in
     let k = o .opened3 .given .0 .1 .0 in
     let given = gives-done (ReadSays None) Done (a .out .now) _ 0 (sectorOf (a .image .now) (getD (placesIn (a .image .now) k) (a .offset) 0)) refl refl in
-    on-found _ _ _ _ ReadSays _ _ (found o) _ _
+    on-found _ _ _ _ _ ReadSays _ _ (found o) _ _
     (rw (lt-leb (sectorsOf (sectorOf (a .image .now) k)) (a .offset) (inside l), le-ltb (length (a .out .now)) 256 (r .if2 .left))
     (record {
       said = given .said;

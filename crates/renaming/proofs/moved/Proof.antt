@@ -15,11 +15,11 @@ slice-aggregate-index-with c = sym (ap length (c .before .before .index-without 
 index-with-requires : tie.Need-index-with-requires
 index-with-requires c κs =
     let pre = c .before .before .before .before .before .before .before .pre in
-    (pre .0, omega (arith, in-volume _ _ (pre .1), pre .1 .sound .size))
+    (pre .0, omega (arith, in-volume _ _ _ (pre .1), pre .1 .sound .size))
 
 returns : tie.Need-returns
 unfolding files
-returns c = rw (c .index-with .ensures, c .before .before .before .index-without .ensures, c .before .before .before .before .sector-of .ensures, left-numbers _ _ (c .before .before .before .before .before .before .before .before .pre .1 .sound))
+returns c = rw (c .index-with .ensures, c .before .before .before .index-without .ensures, c .before .before .before .before .sector-of .ensures, left-numbers _ _ _ (c .before .before .before .before .before .before .before .before .pre .1 .sound))
 
 pub moved-spec : {M : Type 1} → statement M
 moved-spec =

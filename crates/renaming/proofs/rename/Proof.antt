@@ -9,6 +9,7 @@ use Rattle.rules.specs.Verdict.{verdict}
 use Rattle.rules.specs.Outcome.{RenameSays}
 use Rattle.rules.specs.Opening.{findIn}
 use Rattle.rules.specs.Calls.Rename.{openBoth, renameOf}
+use Rattle.rules.specs.declared.Layout.{Layout}
 use Rattle.rules.specs.declared.WrongPlace.the-variants as wrong
 use Rattle.rules.specs.declared.RenameAnswer.the-variants as renamed
 use Rattle.rules.specs.declared.Opened.the-variants.{At, Refused, Misnamed}
@@ -22,24 +23,24 @@ use Rattle.renaming.proofs.rename.Statement.{statement}
 use Rattle.renaming.proofs.rename.Tie as tie
 
 -- what is opened, test by test
-module _ (image old new : List ℕ) where
-  unsound : (verdict image ≡ 0 → ⊥) → openBoth image old new ≡ Refused (verdict image)
+module _ (layout : Layout) (image old new : List ℕ) where
+  unsound : (verdict layout image ≡ 0 → ⊥) → openBoth layout image old new ≡ Refused (verdict layout image)
   unfolding openBoth
-  unsound some = on-unsound image _ some
+  unsound some = on-unsound layout image _ some
 
-  module _ (sound : verdict image ≡ 0) where
-    misnamed : (place : ℕ) → wrongPlace old ≡ wrong.At place → openBoth image old new ≡ Misnamed place
+  module _ (sound : verdict layout image ≡ 0) where
+    misnamed : (place : ℕ) → wrongPlace old ≡ wrong.At place → openBoth layout image old new ≡ Misnamed place
     unfolding openBoth
-    misnamed place there = on-sound image _ sound ∙ under-wrong old _ place there
+    misnamed place there = on-sound layout image _ sound ∙ under-wrong old _ place there
 
     module _ (kept : wrongPlace old ≡ wrong.None) where
-      misnamed-new : (place : ℕ) → wrongPlace new ≡ wrong.At place → openBoth image old new ≡ Misnamed place
+      misnamed-new : (place : ℕ) → wrongPlace new ≡ wrong.At place → openBoth layout image old new ≡ Misnamed place
       unfolding openBoth
-      misnamed-new place there = on-sound image _ sound ∙ under-kept old _ kept ∙ under-wrong new _ place there
+      misnamed-new place there = on-sound layout image _ sound ∙ under-kept old _ kept ∙ under-wrong new _ place there
 
-      looked : wrongPlace new ≡ wrong.None → openBoth image old new ≡ findIn image old 0 (files image)
+      looked : wrongPlace new ≡ wrong.None → openBoth layout image old new ≡ findIn image old 0 (files image)
       unfolding openBoth
-      looked kept-new = on-sound image _ sound ∙ under-kept old _ kept ∙ under-kept new _ kept-new
+      looked kept-new = on-sound layout image _ sound ∙ under-kept old _ kept ∙ under-kept new _ kept-new
 
 -- the ways back: to each test that was passed
 abbrev start : tie.After-judge → tie.Start
@@ -63,7 +64,7 @@ passed c = c .before .before
 abbrev start₄ : tie.After-find-in → tie.Start
 start₄ c = start₃ (tested-new (passed c))
 
-sound : (c : tie.Else1) → verdict (start (c .before) .args .image .now) ≡ 0
+sound : (c : tie.Else1) → verdict (start (c .before) .args .layout) (start (c .before) .args .image .now) ≡ 0
 sound c = sym (c .before .judge .ensures) ∙ c .if1 .left
 
 kept : (c : tie.After-enum-told) → wrongPlace (start₂ (tested c) .args .old .now) ≡ wrong.None
@@ -75,11 +76,11 @@ kept-new c = sym (tested-new c .wrong-place2 .ensures) ∙ c .enum-told2 .given 
 -- both names passed: what the search gives
 opens : (c : tie.After-find-in) →
     let a = start₄ c .args in
-    openBoth (a .image .now) (a .old .now) (a .new .now) ≡ c .find-in .result
+    openBoth (a .layout) (a .image .now) (a .old .now) (a .new .now) ≡ c .find-in .result
 opens c =
     let new = passed c in
     let old = tested-new new .before in
-    looked _ _ _ (sound (tested old .before)) (kept old) (kept-new new) ∙ sym (c .find-in .ensures)
+    looked _ _ _ _ (sound (tested old .before)) (kept old) (kept-new new) ∙ sym (c .find-in .ensures)
 
 returns : tie.Need-returns
 unfolding renameOf RenameSays
@@ -88,8 +89,8 @@ returns c =
     let image = start j .args .image .now in
     let is = j .judge .ensures in
     meets-refusal (RenameSays _ _) (renamed.Refused _) image _ _
-    (refl, c .if1 .taken, λ z. omega (arith, z, is, verdict-small image))
-    (changing-refused _ _ _ (unsound _ _ _ (λ z. c .if1 .taken (is ∙ z)) ∙ ap Refused (sym is)))
+    (refl, c .if1 .taken, λ z. omega (arith, z, is, verdict-small (start j .args .layout) image))
+    (changing-refused _ _ _ (unsound _ _ _ _ (λ z. c .if1 .taken (is ∙ z)) ∙ ap Refused (sym is)))
 
 returns-2 : tie.Need-returns-2
 unfolding renameOf RenameSays
@@ -98,7 +99,7 @@ returns-2 c =
     let w = p .before .before in
     let there = sym (w .wrong-place .ensures) ∙ p .place .given .1 in
     meets-refusal (RenameSays _ _) (renamed.OldMisnamed _) (start₂ w .args .image .now) _ 7 (refl, there)
-    (changing-misnamed _ _ _ (misnamed _ _ _ (sound (w .before)) _ there))
+    (changing-misnamed _ _ _ (misnamed _ _ _ _ (sound (w .before)) _ there))
 
 returns-3 : tie.Need-returns-3
 unfolding renameOf RenameSays
@@ -108,7 +109,7 @@ returns-3 c =
     let old = w .before in
     let there = sym (w .wrong-place2 .ensures) ∙ p .place2 .given .1 in
     meets-refusal (RenameSays _ _) (renamed.NewMisnamed _) (start₃ w .args .image .now) _ 7 (refl, kept old, there)
-    (changing-misnamed _ _ _ (misnamed-new _ _ _ (sound (tested old .before)) (kept old) _ there))
+    (changing-misnamed _ _ _ (misnamed-new _ _ _ _ (sound (tested old .before)) (kept old) _ there))
 
 returns-4 : tie.Need-returns-4
 unfolding renameOf RenameSays
@@ -122,7 +123,7 @@ rename-at-requires c κs =
     let o = c .before .before in
     let f = o .before .before in
     let old = tested-new (passed f) .before in
-    (is-file _ _ _ _ (open-looked _ _ (sound (tested old .before)) (kept old) ∙ sym (f .find-in .ensures) ∙ o .k .given .1), none-rule _ (kept-new (passed f)))
+    (is-file _ _ _ _ _ (open-looked _ _ _ (sound (tested old .before)) (kept old) ∙ sym (f .find-in .ensures) ∙ o .k .given .1), none-rule _ (kept-new (passed f)))
 
 returns-5 : tie.Need-returns-5
 unfolding renameOf

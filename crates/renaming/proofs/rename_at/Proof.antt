@@ -1,12 +1,12 @@
--- `renaming::rename_at` meets its contract: a file of the new name refuses it; where there is none, the name laid over the image and sector 1 anew are the definition's writes. Assumes nothing.
+-- `renaming::rename_at` meets its contract: a file of the new name refuses it; where there is none, the descriptor marked, the name laid over it and sector 1 anew are the definition's writes. Assumes nothing.
 use mathlib.Core.Path.{_≡_, refl, sym, ap, _∙_}
 use mathlib.Core.List.{List, [], _∷_}
-use Prim.Native.Nat.{ℕ}
+use Prim.Native.Nat.{ℕ, _+_, _*_, _≤_}
 use native.Mathlib.Omega.{arith}
 use lib.ListN.{length}
 use Rattle.rules.specs.Bytes.{byteAt, splice}
 use Rattle.rules.specs.Sectors.{written, sectorOf}
-use Rattle.rules.specs.Descriptor.{statusOf}
+use Rattle.rules.specs.Descriptor.{statusOf, markedBy}
 use Rattle.rules.specs.Index.{indexOf, without}
 use Rattle.rules.specs.Volume.{files, placed}
 use Rattle.rules.specs.Tests.{firstOf, unlessMet}
@@ -16,9 +16,11 @@ use Rattle.rules.specs.Calls.Rename.{renameTests, renaming}
 use Rattle.rules.specs.declared.WrongPlace.the-variants.{None}
 use Rattle.rules.specs.declared.RenameAnswer.the-variants.{Done, Refused}
 use Rattle.rules.specs.declared.Opened.the-variants.{Absent}
-use Rattle.rules.proofs.Sectors.{sector-laid}
+use Rattle.rules.proofs.Splice.{splice-over}
+use Rattle.rules.proofs.Sectors.{sector-length}
 use Rattle.rules.proofs.Name.{name-is}
 use Rattle.rules.proofs.Indexed.{index-length}
+use Rattle.rules.proofs.Marks.{mark-length}
 use Rattle.rules.proofs.Status.{protected, unprotected}
 use Rattle.rules.proofs.Outcome.{bare, meets-refusal, meets-done}
 use Rattle.rules.proofs.Opening.{in-volume, adding-present, adding-absent}
@@ -27,7 +29,7 @@ use borrow.Author.Needs.{needs}
 use Rattle.renaming.proofs.rename_at.Statement.{statement}
 use Rattle.renaming.proofs.rename_at.Tie as tie
 
--- the ways back: to the search, and from the status that was read
+-- the ways back: to the search, from the status that was read, and to sector 1 made and the descriptor marked
 abbrev start : tie.After-find-in → tie.Start
 start c = c .before .before .before .before
 
@@ -39,6 +41,15 @@ start₂ c = start (c .before)
 
 abbrev start₃ : tie.After-byte → tie.Start
 start₃ c = start₂ (lost c)
+
+abbrev start₄ : tie.After-moved → tie.Start
+start₄ c = start₃ (c .before .before .before .before)
+
+abbrev moving : tie.After-mark-descriptor → tie.After-moved
+moving c = c .before .before
+
+abbrev marking : tie.After-lay → tie.After-mark-descriptor
+marking c = c .before .before .before .before
 
 absent : (c : tie.At-match-keys2) →
     let a = start₂ c .args in
@@ -55,7 +66,7 @@ returns c =
     meets-refusal (RenameSays None None) (Refused 9) (start f .args .image .now) _ 9 (bare 9 refl) (adding-present _ _ _ _ (sym (f .find-in .ensures) ∙ c .enum-told .given .1))
 
 sector-of-requires : tie.Need-sector-of-requires
-sector-of-requires c κs = let file = start₂ (c .before) .pre .0 in omega (arith, in-volume _ _ file, file .sound .size)
+sector-of-requires c κs = let file = start₂ (c .before) .pre .0 in omega (arith, in-volume _ _ _ file, file .sound .size)
 
 returns-2 : tie.Need-returns-2
 unfolding renaming renameTests firstOf unlessMet RenameSays
@@ -65,30 +76,42 @@ returns-2 c =
     meets-refusal (RenameSays None None) (Refused 10) (a .image .now) _ 10 (bare 10 refl)
     (adding-absent _ _ (absent (lost b)) ∙ rw (protected (sectorOf (a .image .now) (a .k)) _ (status-is b) (c .if1 .taken)))
 
+-- the file's descriptor is inside the image
+inside : (c : tie.After-moved) → 256 * start₄ c .args .k + 256 ≤ length (start₄ c .args .image .now)
+inside c = let file = start₄ c .pre .0 in omega (arith, in-volume _ _ _ file, file .sound .whole)
+
 moved-requires : tie.Need-moved-requires
 moved-requires c κs = (refl, start₃ (c .before .before .before) .pre .0)
 
+mark-descriptor-requires : tie.Need-mark-descriptor-requires
+mark-descriptor-requires c κs = inside (c .before)
+
 mul-lay : tie.Need-mul-lay
-mul-lay c = let file = start₃ (c .before .before .before .before .before) .pre .0 in omega (arith, in-volume _ _ file, file .sound .size)
+mul-lay c = let file = start₄ (moving (c .before .before .before)) .pre .0 in omega (arith, in-volume _ _ _ file, file .sound .size)
 
 slice-aggregate-write-sector : tie.Need-slice-aggregate-write-sector
-slice-aggregate-write-sector c = sym (ap length (c .before .before .before .before .before .before .moved .ensures) ∙ index-length _)
+slice-aggregate-write-sector c = sym (ap length (moving (marking (c .before .before .before .before)) .moved .ensures) ∙ index-length _)
 
 returns-3 : tie.Need-returns-3
 unfolding renaming renameTests firstOf unlessMet written RenameSays
 returns-3 c =
     let second = c .before .before in
     let first = second .before .before .before .before .before in
-    let index = first .before .before in
+    let marked = marking first in
+    let index = moving marked in
     let free = index .before .before .before in
     let b = free .before in
     let s = start₃ b in
     let a = s .args in
     let image = a .image .now in
-    let writes = write (a .k) (splice (sectorOf image (a .k)) 0 (a .new .now)) ∷ (write 1 (indexOf (placed image (a .new .now) (a .k) (without (a .k) (files image)))) ∷ []) in
-    let met = meets-done (RenameSays None None) Done image (renaming image (a .new .now) (a .k)) writes refl (adding-absent _ _ (absent (lost b)) ∙ rw (unprotected (sectorOf image (a .k)) _ (status-is b) (free .if1 .left))) in
-    let named = first .lay .ensures ∙ sym (sector-laid image (a .k) (a .new .now) (omega (arith, name-is _ (s .pre .1) .ten))) in
-    record { said = met .said; left = rw (second .write-sector .ensures, named, index .moved .ensures) (met .left) }
+    let writes = write (a .k) (splice (markedBy (a .layout) (sectorOf image (a .k))) 0 (a .new .now)) ∷ (write 1 (indexOf (placed image (a .new .now) (a .k) (without (a .k) (files image)))) ∷ []) in
+    let met = meets-done (RenameSays None None) Done image (renaming (a .layout) image (a .new .now) (a .k)) writes refl (adding-absent _ _ (absent (lost b)) ∙ rw (unprotected (sectorOf image (a .k)) _ (status-is b) (free .if1 .left))) in
+    let long = mark-length (a .layout) (sectorOf image (a .k)) ∙ sector-length image (a .k) (inside index) in
+    let named =
+    first .lay .ensures ∙ ap (λ (i : List ℕ). splice i (256 * a .k) (a .new .now)) (marked .mark-descriptor .ensures)
+    ∙ splice-over image (256 * a .k) (markedBy (a .layout) (sectorOf image (a .k))) (a .new .now) (omega (arith, name-is _ (s .pre .1) .ten, long))
+    in
+    record { said = met .said; left = cc (second .write-sector .ensures, named, index .moved .ensures, met .left) }
 
 pub rename-at-spec : {M : Type 1} → statement M
 rename-at-spec =
@@ -103,6 +126,7 @@ rename-at-spec =
     (λ c. search needs)
     returns-2
     moved-requires
+    mark-descriptor-requires
     mul-lay
     (λ c κs. search needs)
     slice-aggregate-write-sector

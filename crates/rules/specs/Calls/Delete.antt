@@ -10,6 +10,7 @@ use Rattle.rules.specs.Volume.{files, placesIn}
 use Rattle.rules.specs.Tests.{Test, refuse}
 use Rattle.rules.specs.Outcome.{Outcome, write, tested}
 use Rattle.rules.specs.Opening.{openOf, changing}
+use Rattle.rules.specs.declared.Layout.{Layout}
 
 -- of the file at k
 unfoldable pub deleteTests : List ℕ → ℕ → List Test
@@ -19,5 +20,5 @@ unfoldable pub deleting : List ℕ → ℕ → Outcome
 deleting image k =
     tested (deleteTests image k) (write 1 (indexOf (without k (files image))) ∷ (write 0 (markedAll 0 (sectorOf image 0) (k ∷ placesIn image k)) ∷ []))
 
-unfoldable pub deleteOf : List ℕ → List ℕ → Outcome
-deleteOf image name = changing (openOf image name) (deleting image)
+unfoldable pub deleteOf : Layout → List ℕ → List ℕ → Outcome
+deleteOf layout image name = changing (openOf layout image name) (deleting image)

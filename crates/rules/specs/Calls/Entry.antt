@@ -13,6 +13,7 @@ use Rattle.rules.specs.Sound.{fileAt}
 use Rattle.rules.specs.Tests.{Test, refuse, unlessMet}
 use Rattle.rules.specs.Verdict.{volumeTests}
 use Rattle.rules.specs.Outcome.{Report, reported, AnswerSays}
+use Rattle.rules.specs.declared.Layout.{Layout}
 use Rattle.rules.specs.declared.Kind.the-variants.{Program}
 use Rattle.rules.specs.declared.Row.{Row}
 use Rattle.rules.specs.declared.Entry.{Entry}
@@ -31,14 +32,14 @@ unfoldable pub noRow : Row
 noRow = record { name = replicate 10 0; kind = Program 0; sectors = 0; protected = false }
 
 -- of the file at a place, for a buffer of `room` bytes
-unfoldable pub entryTests : List ℕ → ℕ → ℕ → List Test
-entryTests image place room = volumeTests image ++ (refuse 8 (leb (length (files image)) place) ∷ (refuse 15 (ltb room 28) ∷ []))
+unfoldable pub entryTests : Layout → List ℕ → ℕ → ℕ → List Test
+entryTests layout image place room = volumeTests layout image ++ (refuse 8 (leb (length (files image)) place) ∷ (refuse 15 (ltb room 28) ∷ []))
 
-unfoldable pub entryOf : List ℕ → ℕ → ℕ → Report
-entryOf image place room = reported (entryTests image place room) 0 (headerIn image (fileAt image place))
+unfoldable pub entryOf : Layout → List ℕ → ℕ → ℕ → Report
+entryOf layout image place room = reported (entryTests layout image place room) 0 (headerIn image (fileAt image place))
 
-unfoldable pub entryRow : List ℕ → ℕ → ℕ → Row
-entryRow image place room = unlessMet (entryTests image place room) (rowOf (sectorOf image (fileAt image place))) noRow
+unfoldable pub entryRow : Layout → List ℕ → ℕ → ℕ → Row
+entryRow layout image place room = unlessMet (entryTests layout image place room) (rowOf (sectorOf image (fileAt image place))) noRow
 
 -- what the answer says, and the row beside it
 pub record EntrySays (row : Row) (entry : Entry) (report : Report) : Type 0 where

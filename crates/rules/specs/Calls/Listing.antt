@@ -1,4 +1,4 @@
--- The catalogue program's text. First line: disk name, n, free count. Then one line a file in name order: name, kind, length in bytes for a program or else record length, sectors, P or U for protected or not. Fields are parted by one space, names without their padding; every line ends in one newline.
+-- The catalogue program's text. First line: disk name, n, free count. Then one line a file in name order: name, kind, length in bytes for a program or else record length, sectors, P or U for protected or not; by the rule with marks a last field, M for marked or a hyphen. Fields are parted by one space, names without their padding; every line ends in one newline.
 use mathlib.Core.Bool.{cond}
 use mathlib.Core.List.{List, [], _∷_, _++_}
 use Prim.Native.Nat.{ℕ, zero, suc, _+_, _/_, _%_}
@@ -9,10 +9,11 @@ use Rattle.rules.specs.Sectors.{sectorOf, sectorCount}
 use Rattle.rules.specs.Map.{freeCount}
 use Rattle.rules.specs.Descriptor.{nameOf, statusOf, sectorsOf, fileKind}
 use Rattle.rules.specs.Volume.{files}
-use Rattle.rules.specs.Kind.{isProtected}
+use Rattle.rules.specs.Kind.{isProtected, isMarked}
 use Rattle.rules.specs.Tests.{Test, refuse}
 use Rattle.rules.specs.Verdict.{volumeTests, verdict}
 use Rattle.rules.specs.Outcome.{Report, reported}
+use Rattle.rules.specs.declared.Layout.{Layout}
 use Rattle.rules.specs.declared.Kind.{Kind}
 use Rattle.rules.specs.declared.Kind.the-variants.{Program, Fixed, Variable}
 
@@ -48,37 +49,41 @@ kindLength (Variable recordLength internal) = recordLength
 unfoldable pub diskLine : List ℕ → List ℕ
 diskLine image = unpadded (part (sectorOf image 0) 0 10) ++ (space ++ (decimal (sectorCount image) ++ (space ++ (decimal (freeCount (sectorOf image 0)) ++ (10 ∷ [])))))
 
-unfoldable pub fileLine : List ℕ → List ℕ
-fileLine descriptor =
+-- by the rule with marks: M for marked, or a hyphen
+unfoldable pub markField : Layout → ℕ → List ℕ
+markField layout status = cond (layout .marks) (32 ∷ (cond (isMarked status) 0x4D 0x2D ∷ [])) []
+
+unfoldable pub fileLine : Layout → List ℕ → List ℕ
+fileLine layout descriptor =
     unpadded (nameOf descriptor)
     ++ (space
     ++ (kindWord (fileKind descriptor)
     ++ (space
     ++ (decimal (kindLength (fileKind descriptor))
-    ++ (space ++ (decimal (sectorsOf descriptor) ++ (space ++ (cond (isProtected (statusOf descriptor)) 0x50 0x55 ∷ (10 ∷ [])))))))))
+    ++ (space ++ (decimal (sectorsOf descriptor) ++ (space ++ (cond (isProtected (statusOf descriptor)) 0x50 0x55 ∷ (markField layout (statusOf descriptor) ++ (10 ∷ []))))))))))
 
-unfoldable pub fileLines : List ℕ → List ℕ → List ℕ
-fileLines image [] = []
-fileLines image (k ∷ ks) = fileLine (sectorOf image k) ++ fileLines image ks
+unfoldable pub fileLines : Layout → List ℕ → List ℕ → List ℕ
+fileLines layout image [] = []
+fileLines layout image (k ∷ ks) = fileLine layout (sectorOf image k) ++ fileLines layout image ks
 
-unfoldable pub listingText : List ℕ → List ℕ
-listingText image = diskLine image ++ fileLines image (files image)
+unfoldable pub listingText : Layout → List ℕ → List ℕ
+listingText layout image = diskLine image ++ fileLines layout image (files image)
 
 -- for a buffer of `room` bytes
-unfoldable pub listingTests : List ℕ → ℕ → List Test
-listingTests image room = volumeTests image ++ (refuse 15 (ltb room (length (listingText image))) ∷ [])
+unfoldable pub listingTests : Layout → List ℕ → ℕ → List Test
+listingTests layout image room = volumeTests layout image ++ (refuse 15 (ltb room (length (listingText layout image))) ∷ [])
 
-unfoldable pub listingOf : List ℕ → ℕ → Report
-listingOf image room = reported (listingTests image room) (length (listingText image)) (listingText image)
+unfoldable pub listingOf : Layout → List ℕ → ℕ → Report
+listingOf layout image room = reported (listingTests layout image room) (length (listingText layout image)) (listingText layout image)
 
 -- an unsound image gives only `REFUSED` and its number
 unfoldable pub refusedLine : ℕ → List ℕ
 refusedLine number = 0x52 ∷ (0x45 ∷ (0x46 ∷ (0x55 ∷ (0x53 ∷ (0x45 ∷ (0x44 ∷ (32 ∷ (decimal number ++ (10 ∷ [])))))))))
 
 -- the text of an image, sound or not
-unfoldable pub listed : List ℕ → List ℕ
-listed image = cond (eqb (verdict image) 0) (listingText image) (refusedLine (verdict image))
+unfoldable pub listed : Layout → List ℕ → List ℕ
+listed layout image = cond (eqb (verdict layout image) 0) (listingText layout image) (refusedLine (verdict layout image))
 
 -- what the call leaves a program to show, for a buffer of `room` bytes: the listing, or the line of the refusal
-unfoldable pub shown : List ℕ → ℕ → List ℕ
-shown image room = cond (eqb (listingOf image room .number) 0) (listingText image) (refusedLine (listingOf image room .number))
+unfoldable pub shown : Layout → List ℕ → ℕ → List ℕ
+shown layout image room = cond (eqb (listingOf layout image room .number) 0) (listingText layout image) (refusedLine (listingOf layout image room .number))

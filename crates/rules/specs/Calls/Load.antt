@@ -12,6 +12,7 @@ use Rattle.rules.specs.Volume.{contentsIn}
 use Rattle.rules.specs.Tests.{Test, refuse}
 use Rattle.rules.specs.Outcome.{Report, reported}
 use Rattle.rules.specs.Opening.{openOf, onFile}
+use Rattle.rules.specs.declared.Layout.{Layout}
 
 unfoldable pub lengthIn : List ℕ → ℕ → ℕ
 lengthIn image k = programLength (sectorsOf (sectorOf image k)) (byteAt (sectorOf image k) 16)
@@ -26,5 +27,5 @@ loadTests image room k = refuse 14 (not (isProgram (statusOf (sectorOf image k))
 unfoldable pub loading : List ℕ → ℕ → ℕ → Report
 loading image room k = reported (loadTests image room k) (lengthIn image k) (programIn image k)
 
-unfoldable pub loadOf : List ℕ → List ℕ → ℕ → Report
-loadOf image name room = onFile (openOf image name) (loading image room)
+unfoldable pub loadOf : Layout → List ℕ → List ℕ → ℕ → Report
+loadOf layout image name room = onFile (openOf layout image name) (loading image room)

@@ -12,6 +12,7 @@ use Rattle.rules.specs.Index.{indexOf}
 use Rattle.rules.specs.Volume.{File, catalogue}
 use Rattle.rules.specs.Tests.{Test, refuse, firstOf, unlessMet}
 use Rattle.rules.specs.Verdict.{volumeTests}
+use Rattle.rules.specs.declared.Layout.{Layout}
 use Rattle.rules.specs.declared.Block.{Block}
 
 -- bytes 0 to 55 of sector 0
@@ -52,12 +53,12 @@ packed n label files =
     ++ (packedDescriptors (2 + length files) files ++ (packedData files ++ replicate (256 * (n - packedSectors files)) 0xE5))))
 
 -- the call: 1 to 6 of the source, then 15 for a target of another length; the target's old bytes do not matter
-unfoldable pub packTests : List ℕ → List ℕ → List Test
-packTests source target = volumeTests source ++ (refuse 15 (not (eqb (length target) (length source))) ∷ [])
+unfoldable pub packTests : Layout → List ℕ → List ℕ → List Test
+packTests layout source target = volumeTests layout source ++ (refuse 15 (not (eqb (length target) (length source))) ∷ [])
 
-abbrev pub packNumber : List ℕ → List ℕ → ℕ
-packNumber source target = firstOf (packTests source target)
+abbrev pub packNumber : Layout → List ℕ → List ℕ → ℕ
+packNumber layout source target = firstOf (packTests layout source target)
 
 -- the whole target afterwards
-unfoldable pub afterPack : List ℕ → List ℕ → List ℕ
-afterPack source target = unlessMet (packTests source target) (packed (sectorCount source) (labelArea source) (catalogue source)) target
+unfoldable pub afterPack : Layout → List ℕ → List ℕ → List ℕ
+afterPack layout source target = unlessMet (packTests layout source target) (packed (sectorCount source) (labelArea source) (catalogue source)) target

@@ -9,6 +9,7 @@ use Rattle.rules.specs.Volume.{placesIn}
 use Rattle.rules.specs.Tests.{Test, refuse}
 use Rattle.rules.specs.Outcome.{Report, reported}
 use Rattle.rules.specs.Opening.{openOf, onFile}
+use Rattle.rules.specs.declared.Layout.{Layout}
 
 -- of the file at k, its sector `offset`, for a buffer of `room` bytes
 unfoldable pub readTests : List ℕ → ℕ → ℕ → ℕ → List Test
@@ -17,5 +18,5 @@ readTests image offset room k = refuse 15 (leb (sectorsOf (sectorOf image k)) of
 unfoldable pub reading : List ℕ → ℕ → ℕ → ℕ → Report
 reading image offset room k = reported (readTests image offset room k) 0 (sectorOf image (getD (placesIn image k) offset 0))
 
-unfoldable pub readOf : List ℕ → List ℕ → ℕ → ℕ → Report
-readOf image name offset room = onFile (openOf image name) (reading image offset room)
+unfoldable pub readOf : Layout → List ℕ → List ℕ → ℕ → ℕ → Report
+readOf layout image name offset room = onFile (openOf layout image name) (reading image offset room)

@@ -1,11 +1,11 @@
--- Storing takes a name and the program's bytes, and writes status 01, c, byte 16 and the chain; the descriptor's other bytes are zero. L bytes take L/256 sectors rounded up, and byte 16 is L mod 256; the rest of the last sector is zero.
+-- Storing takes a name and the program's bytes, and writes status 01, c, byte 16 and the chain; the descriptor's other bytes are zero. L bytes take L/256 sectors rounded up, and byte 16 is L mod 256; the rest of the last sector is zero. By the rule with marks the new file is marked.
 use mathlib.Core.List.{List, [], _∷_, _++_}
 use Prim.Native.Nat.{ℕ, _+_, _%_}
 use lib.Dec.{leb, ltb}
 use lib.ListN.{length, drop, replicate}
 use Rattle.rules.specs.Bytes.{over}
 use Rattle.rules.specs.Sectors.{Write, sectorOf}
-use Rattle.rules.specs.Kind.{sectorsFor}
+use Rattle.rules.specs.Kind.{sectorsFor, marking}
 use Rattle.rules.specs.Map.{freeCount, marked, markedAll}
 use Rattle.rules.specs.Chain.{extendedAll}
 use Rattle.rules.specs.Descriptor.{newDescriptor, withChain}
@@ -15,6 +15,7 @@ use Rattle.rules.specs.Tests.{Test, refuse}
 use Rattle.rules.specs.Outcome.{Outcome, write, tested}
 use Rattle.rules.specs.Opening.{openOf, adding}
 use Rattle.rules.specs.Calls.Create.{entered}
+use Rattle.rules.specs.declared.Layout.{Layout}
 use Rattle.rules.specs.declared.Block.{Block}
 
 -- the bytes go to the sectors ks, in file order, 256 to each; where there are no more, zeros
@@ -36,14 +37,14 @@ storeTests image bytes =
     ∷ (refuse 11 (leb 127 (length (files image)))
     ∷ (refuse 12 (ltb (freeCount (sectorOf image 0)) (1 + many)) ∷ (refuse 13 (ltb 76 (length (newBlocks image many))) ∷ [])))
 
-unfoldable pub storing : List ℕ → List ℕ → List ℕ → Outcome
-storing image name bytes =
+unfoldable pub storing : Layout → List ℕ → List ℕ → List ℕ → Outcome
+storing layout image name bytes =
     let many = sectorsFor (length bytes) in
     let k = descriptorChoice (sectorOf image 0) in
     let ks = newSectors image many in
     tested (storeTests image bytes)
     (dataWrites bytes ks
-    ++ entered image name k (withChain (newDescriptor name 0x01 0 (length bytes % 256) 0) many (newBlocks image many)) (markedAll 1 (sectorOf image 0) (k ∷ ks)))
+    ++ entered image name k (withChain (newDescriptor name (marking layout 0x01) 0 (length bytes % 256) 0) many (newBlocks image many)) (markedAll 1 (sectorOf image 0) (k ∷ ks)))
 
-unfoldable pub storeOf : List ℕ → List ℕ → List ℕ → Outcome
-storeOf image name bytes = adding (openOf image name) (storing image name bytes)
+unfoldable pub storeOf : Layout → List ℕ → List ℕ → List ℕ → Outcome
+storeOf layout image name bytes = adding (openOf layout image name) (storing layout image name bytes)

@@ -10,15 +10,16 @@ use Rattle.rules.specs.Volume.{files}
 use Rattle.rules.specs.Tests.{unlessMet}
 use Rattle.rules.specs.Verdict.{volumeTests, verdict}
 use Rattle.rules.specs.Outcome.{Report, reported}
+use Rattle.rules.specs.declared.Layout.{Layout}
 use Rattle.rules.specs.declared.Summary.{Summary}
 use Rattle.rules.specs.declared.Summary.the-variants.{Given, Refused}
 
-unfoldable pub freeCountOf : List ℕ → Report
-freeCountOf image = reported (volumeTests image) (freeCount (sectorOf image 0)) []
+unfoldable pub freeCountOf : Layout → List ℕ → Report
+freeCountOf layout image = reported (volumeTests layout image) (freeCount (sectorOf image 0)) []
 
 -- the disk name goes into the lent array; the numbers stand in the answer
-unfoldable pub summaryOf : List ℕ → Report
-summaryOf image = reported (volumeTests image) 0 (part (sectorOf image 0) 0 10)
+unfoldable pub summaryOf : Layout → List ℕ → Report
+summaryOf layout image = reported (volumeTests layout image) 0 (part (sectorOf image 0) 0 10)
 
 unfoldable pub SummarySays : List ℕ → Summary → Report → Type 0
 SummarySays image (Given sectors listed free) report =
@@ -26,6 +27,6 @@ SummarySays image (Given sectors listed free) report =
 SummarySays image (Refused refused) report = (refused ≡ report .number) × (report .number ≡ 0 → ⊥)
 
 -- the one answer that says so
-unfoldable pub summaryAnswer : List ℕ → Summary
-summaryAnswer image =
-    unlessMet (volumeTests image) (Given (sectorCount image) (length (files image)) (freeCount (sectorOf image 0))) (Refused (verdict image))
+unfoldable pub summaryAnswer : Layout → List ℕ → Summary
+summaryAnswer layout image =
+    unlessMet (volumeTests layout image) (Given (sectorCount image) (length (files image)) (freeCount (sectorOf image 0))) (Refused (verdict layout image))

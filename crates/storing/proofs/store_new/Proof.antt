@@ -49,7 +49,7 @@ abbrev choosing : tie.After-write-program → tie.After-descriptor-choice
 choosing c = c .before .before
 
 returns : tie.Need-returns
-returns c = refusal-meets _ _ 15 refl (too-long _ _ _ (omega (arith, c .if1 .taken)))
+returns c = refusal-meets _ _ 15 refl (too-long _ _ _ _ (omega (arith, c .if1 .taken)))
 
 -- the bytes are not too many
 short : (c : tie.Else1) → length (start c .args .bytes .now) ≤ 32768
@@ -65,12 +65,12 @@ free-is c = c .free-count-of .ensures .0 ∙ ap freeCount (c .before .sector-of 
 returns-2 : tie.Need-returns-2
 returns-2 c =
     let e = length-tested (c .before) in
-    let full = place-some (start e .args .image .now) 126 (start e .pre .0) (λ z. c .if2 .taken (word-is (c .before) ∙ z)) in
-    refusal-meets _ _ 11 refl (no-place _ _ _ (short e) (full .0))
+    let full = place-some _ (start e .args .image .now) 126 (start e .pre .0) (λ z. c .if2 .taken (word-is (c .before) ∙ z)) in
+    refusal-meets _ _ 11 refl (no-place _ _ _ _ (short e) (full .0))
 
 -- the tests that have passed
 has-place : (c : tie.Else2) → length (files (start₂ c .args .image .now)) ≤ 126
-has-place c = place-none (start₂ c .args .image .now) 126 (start₂ c .pre .0) (sym (word-is (c .before)) ∙ c .if2 .left)
+has-place c = place-none _ (start₂ c .args .image .now) 126 (start₂ c .pre .0) (sym (word-is (c .before)) ∙ c .if2 .left)
 
 has-free : (c : tie.Else3) →
     let a = start₂ (place (c .before)) .args in
@@ -80,7 +80,7 @@ has-free c = omega (arith, free-is (c .before), c .if3 .left)
 returns-3 : tie.Need-returns-3
 returns-3 c =
     let passed = place (c .before) in
-    refusal-meets _ _ 12 refl (too-few-free _ _ _ (short (length-tested (passed .before))) (has-place passed) (omega (arith, free-is (c .before), c .if3 .taken)))
+    refusal-meets _ _ 12 refl (too-few-free _ _ _ _ (short (length-tested (passed .before))) (has-place passed) (omega (arith, free-is (c .before), c .if3 .taken)))
 
 -- the sector chosen
 chosen : (c : tie.After-descriptor-choice) → c .descriptor-choice .result ≡ descriptorChoice (sectorOf (at-start c .args .image .now) 0)
@@ -102,7 +102,7 @@ abbrev Program : (c : tie.After-write-program) → Bool → Type 0
 Program c enough =
     let a = at-start (choosing c) .args in
     (enough ≡ leb (length (newBlocks (a .image .now) (sectorsFor (length (a .bytes .now))))) 76)
-    × (c .write-program .last .0 ≡ written (a .image .now) (cond enough (programWrites (a .image .now) (a .name .now) (a .bytes .now)) []))
+    × (c .write-program .last .1 .0 ≡ written (a .image .now) (cond enough (programWrites (a .layout) (a .image .now) (a .name .now) (a .bytes .now)) []))
 
 program-is : (c : tie.After-write-program) (enough : Bool) → c .write-program .result ≡ enough → Program c enough
 program-is c enough e = subst (Program c) e (c .write-program .ensures)
@@ -114,7 +114,7 @@ returns-4 c =
     let choice = choosing p in
     let counted = free-tested choice in
     let is = program-is p false (not-true _ (c .if4 .taken)) in
-    let met = refusal-meets (at-start choice .args .image .now) _ 13 refl (too-scattered _ _ _ (at-length choice) (has-place (place (counted .before))) (has-free counted) (is .0)) in
+    let met = refusal-meets (at-start choice .args .image .now) _ 13 refl (too-scattered _ _ _ _ (at-length choice) (has-place (place (counted .before))) (has-free counted) (is .0)) in
     record { said = met .said; left = is .1 ∙ met .left }
 
 returns-5 : tie.Need-returns-5
@@ -127,11 +127,11 @@ returns-5 c =
     let begin = at-start choice in
     let a = begin .args in
     let is = program-is p true (not-false _ (passed .if4 .left)) in
-    let met = done-meets _ _ _ (stored _ _ _ (at-length choice) (has-place (place (counted .before))) (has-free counted) (is .0)) in
+    let met = done-meets _ _ _ (stored _ _ _ _ (at-length choice) (has-place (place (counted .before))) (has-free counted) (is .0)) in
     record {
       said = met .said;
       left =
-          program-entered (a .image .now) (a .name .now) (a .bytes .now) (begin .pre .0) (ten choice) (has-free counted) (choice .descriptor-choice .result) (chosen choice) _ _ (is .1) (entering .enter .ensures)
+          program-entered _ (a .image .now) (a .name .now) (a .bytes .now) (begin .pre .0) (ten choice) (has-free counted) (choice .descriptor-choice .result) (chosen choice) _ _ (is .1) (entering .enter .ensures)
           ∙ met .left;
     }
 

@@ -12,6 +12,7 @@ use Rattle.rules.specs.Bytes.{splice}
 use Rattle.rules.specs.Sectors.{sectorOf, written}
 use Rattle.rules.specs.Map.{marked}
 use Rattle.rules.specs.Chain.{blocks, places}
+use Rattle.rules.specs.Kind.{marking}
 use Rattle.rules.specs.Descriptor.{newDescriptor, chainOf, withChain}
 use Rattle.rules.specs.Choice.{descriptorChoice}
 use Rattle.rules.specs.Calls.Store.{dataWrites}
@@ -57,14 +58,14 @@ unfolding sectorOf
 marked-is c = c .mark .ensures ∙ ap (λ (s : List ℕ). marked 1 s (start c .args .k)) (copied c .copy .ensures)
 
 part-descriptor-end : tie.Need-part-descriptor-end
-part-descriptor-end c = omega (arith, header-long _ _ _ (start (mapped (c .before)) .pre .1) (c .before .program-header .ensures))
+part-descriptor-end c = omega (arith, header-long _ _ _ _ (start (mapped (c .before)) .pre .1) (c .before .program-header .ensures))
 
 spread-requires : tie.Need-spread-requires
 unfolding chainOf
 spread-requires c κs =
     let heading = c .before .before in
     let pre = start (mapped heading) .pre in
-    (search needs, header-empty _ _ _ (pre .1) (heading .program-header .ensures), omega (arith, pre .2, pre .3))
+    (search needs, header-empty _ _ _ _ (pre .1) (heading .program-header .ensures), omega (arith, pre .2, pre .3))
 
 -- what was spread, in that map
 abbrev SpreadAt : (c : tie.After-spread) → Bool → Type 0
@@ -88,19 +89,19 @@ taken : (c : tie.Else1) → let s = spreading c in let a = begun s .args in Take
 taken c = spread-is (spreading c) true (not-false _ (c .if1 .left)) .taken refl
 
 abbrev Descriptor : (c : tie.Else1) → List ℕ
-Descriptor c = let s = spreading c in putMid 28 228 (headed s .program-header .last .0) (s .spread .last .1 .0)
+Descriptor c = let s = spreading c in putMid 28 228 (headed s .program-header .last .1 .0) (s .spread .last .1 .0)
 
 descriptor-is : (c : tie.Else1) →
     let s = spreading c in
     let a = begun s .args in
-    Descriptor c ≡ withChain (newDescriptor (a .name .now) 0x01 0 (length (a .bytes .now) % 256) 0) (a .many) (blocks (s .spread .last .1 .0))
-descriptor-is c = chain-in _ _ _ (begun (spreading c) .pre .1) (headed (spreading c) .program-header .ensures) (taken c .spread)
+    Descriptor c ≡ withChain (newDescriptor (a .name .now) (marking (a .layout) 0x01) 0 (length (a .bytes .now) % 256) 0) (a .many) (blocks (s .spread .last .1 .0))
+descriptor-is c = chain-in _ _ _ _ (begun (spreading c) .pre .1) (headed (spreading c) .program-header .ensures) (taken c .spread)
 
 descriptor-long : (c : tie.Else1) → length (Descriptor c) ≡ 256
-descriptor-long c = chain-long _ _ _ (begun (spreading c) .pre .1) (headed (spreading c) .program-header .ensures) (taken c .spread)
+descriptor-long c = chain-long _ _ _ _ (begun (spreading c) .pre .1) (headed (spreading c) .program-header .ensures) (taken c .spread)
 
 chain-is : (c : tie.Else1) → chainOf (Descriptor c) ≡ spreading c .spread .last .1 .0
-chain-is c = chain-out _ _ _ (begun (spreading c) .pre .1) (headed (spreading c) .program-header .ensures) (taken c .spread)
+chain-is c = chain-out _ _ _ _ (begun (spreading c) .pre .1) (headed (spreading c) .program-header .ensures) (taken c .spread)
 
 few : (c : tie.Else1) → length (places (spreading c .spread .last .1 .0)) ≤ 128
 few c =
@@ -138,7 +139,7 @@ returns-2 c =
       enough-is (a .image .now) (a .name .now) (a .bytes .now) (a .k) (a .many) (begin .pre .4) (begin .pre .3) _ _ true (spread-is s true (not-false _ (e .if1 .left))),
       put-back _ _ 0 256 (search needs) (search needs)
           ∙ ap (splice (two .write-sector .last .0) 0) (third .copy2 .ensures)
-          ∙ program-written (a .image .now) (a .name .now) (a .bytes .now) (a .k) (a .many) (begin .pre .4) (begin .pre .3) _ chain (taken e) _ _ _ data-there (two .write-sector .ensures) (descriptor-is e),
+          ∙ program-written (a .image .now) (a .name .now) (a .bytes .now) (a .k) (a .many) (begin .pre .4) (begin .pre .3) _ chain (taken e) (a .layout) _ _ _ data-there (two .write-sector .ensures) (descriptor-is e),
     )
 
 pub write-program-spec : {M : Type 1} → statement M

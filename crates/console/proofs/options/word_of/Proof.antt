@@ -62,7 +62,7 @@ returns-5 c =
 returns-6 : tie.Need-returns-6
 unfolding imageOr wordOf letters
 returns-6 c =
-    let e5 = c .before .before in
+    let e5 = c .before .before .before in
     let e4 = e5 .before .before .before in
     let e3 = e4 .before .before .before in
     let e2 = e3 .before .before .before in
@@ -73,13 +73,14 @@ returns-6 c =
       sym (e3 .before .same3 .ensures) ∙ e3 .if3 .left,
       sym (e4 .before .same4 .ensures) ∙ e4 .if4 .left,
       sym (e5 .before .same5 .ensures) ∙ e5 .if5 .left,
-      ne-eqb _ 0x2D (λ e. c .if6 .taken (c .before .byte .ensures .0 ∙ e)),
+      sym (c .before .same6 .ensures) ∙ c .if6 .taken,
     ) refl
 
 returns-7 : tie.Need-returns-7
 unfolding imageOr wordOf letters
 returns-7 c =
-    let e5 = c .before .before .before in
+    let e6 = c .before .before in
+    let e5 = e6 .before .before .before in
     let e4 = e5 .before .before .before in
     let e3 = e4 .before .before .before in
     let e2 = e3 .before .before .before in
@@ -90,14 +91,15 @@ returns-7 c =
       sym (e3 .before .same3 .ensures) ∙ e3 .if3 .left,
       sym (e4 .before .same4 .ensures) ∙ e4 .if4 .left,
       sym (e5 .before .same5 .ensures) ∙ e5 .if5 .left,
-      eq-eqb _ 0x2D (sym (c .before .before .byte .ensures .0) ∙ c .before .if6 .left),
-      lt-ltb 1 _ (c .if7 .taken),
+      sym (e6 .before .same6 .ensures) ∙ e6 .if6 .left,
+      ne-eqb _ 0x2D (λ e. c .if7 .taken (c .before .byte .ensures .0 ∙ e)),
     ) refl
 
 returns-8 : tie.Need-returns-8
 unfolding imageOr wordOf letters
 returns-8 c =
-    let e5 = c .before .before .before in
+    let e6 = c .before .before .before in
+    let e5 = e6 .before .before .before in
     let e4 = e5 .before .before .before in
     let e3 = e4 .before .before .before in
     let e2 = e3 .before .before .before in
@@ -108,8 +110,29 @@ returns-8 c =
       sym (e3 .before .same3 .ensures) ∙ e3 .if3 .left,
       sym (e4 .before .same4 .ensures) ∙ e4 .if4 .left,
       sym (e5 .before .same5 .ensures) ∙ e5 .if5 .left,
-      eq-eqb _ 0x2D (sym (c .before .before .byte .ensures .0) ∙ c .before .if6 .left),
-      le-ltb 1 _ (c .if7 .left),
+      sym (e6 .before .same6 .ensures) ∙ e6 .if6 .left,
+      eq-eqb _ 0x2D (sym (c .before .before .byte .ensures .0) ∙ c .before .if7 .left),
+      lt-ltb 1 _ (c .if8 .taken),
+    ) refl
+
+returns-9 : tie.Need-returns-9
+unfolding imageOr wordOf letters
+returns-9 c =
+    let e6 = c .before .before .before in
+    let e5 = e6 .before .before .before in
+    let e4 = e5 .before .before .before in
+    let e3 = e4 .before .before .before in
+    let e2 = e3 .before .before .before in
+    let e1 = e2 .before .before .before in
+    rw (
+      sym (e1 .before .same .ensures) ∙ e1 .if1 .left,
+      sym (e2 .before .same2 .ensures) ∙ e2 .if2 .left,
+      sym (e3 .before .same3 .ensures) ∙ e3 .if3 .left,
+      sym (e4 .before .same4 .ensures) ∙ e4 .if4 .left,
+      sym (e5 .before .same5 .ensures) ∙ e5 .if5 .left,
+      sym (e6 .before .same6 .ensures) ∙ e6 .if6 .left,
+      eq-eqb _ 0x2D (sym (c .before .before .byte .ensures .0) ∙ c .before .if7 .left),
+      le-ltb 1 _ (c .if8 .left),
     ) refl
 
 pub word-of-spec : {M : Type 1} → statement M
@@ -131,7 +154,10 @@ word-of-spec =
     (λ c. search needs)
     (λ c κs. search needs)
     returns-5
+    (λ c. search needs)
     (λ c κs. search needs)
     returns-6
+    (λ c κs. search needs)
     returns-7
-    returns-8)
+    returns-8
+    returns-9)

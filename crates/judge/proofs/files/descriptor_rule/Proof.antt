@@ -6,13 +6,13 @@ use Prim.Native.Nat.{ℕ}
 use borrow.Author.Tests.{not-true, not-false}
 use Rattle.rules.specs.Bytes.{byteAt}
 use Rattle.rules.specs.Name.{nameRule}
-use Rattle.rules.specs.Kind.{statusRule, kindRule}
+use Rattle.rules.specs.Kind.{allowedBits, statusRule, kindRule}
 use Rattle.rules.specs.Descriptor.{nameOf, statusOf, sectorsOf, chainOf, fileKind, descriptorRule}
 use borrow.Author.Needs.{needs}
 use Rattle.judge.proofs.files.descriptor_rule.Statement.{statement}
 use Rattle.judge.proofs.files.descriptor_rule.Tie as tie
 
--- The ways back, each from a test to where the one before it had passed: the name, the status. And the descriptor, as each test has it.
+-- The ways back, each from a test to where the one before it had passed: the name, the status. And the descriptor, as each test has it; and the bits that are allowed.
 abbrev e₁ : tie.After-status-rule → tie.Else1
 e₁ c = c .before .before
 
@@ -28,6 +28,9 @@ d₁ c = c .before .before .before .args .descriptor .now
 abbrev d₂ : tie.After-status-rule → List ℕ
 d₂ c = d₁ (e₁ c .before)
 
+abbrev bits₂ : tie.After-status-rule → ℕ
+bits₂ c = allowedBits (e₁ c .before .before .before .before .args .layout)
+
 abbrev d₃ : tie.After-kind-rule → List ℕ
 d₃ c = d₂ (e₂ c .before)
 
@@ -39,10 +42,10 @@ name-is c = rw (← c .before .part .ensures) (sym (c .name-rule .ensures))
 good-name : (c : tie.Else1) → nameRule (nameOf (d₁ (c .before))) ≡ true
 good-name c = name-is (c .before) ∙ not-false (c .before .name-rule .result) (c .if1 .left)
 
-status-is : (c : tie.After-status-rule) → statusRule (statusOf (d₂ c)) ≡ c .status-rule .result
+status-is : (c : tie.After-status-rule) → statusRule (bits₂ c) (statusOf (d₂ c)) ≡ c .status-rule .result
 status-is c = rw (← c .before .byte .ensures .0) (sym (c .status-rule .ensures))
 
-good-status : (c : tie.Else2) → statusRule (statusOf (d₂ (c .before))) ≡ true
+good-status : (c : tie.Else2) → statusRule (bits₂ (c .before)) (statusOf (d₂ (c .before))) ≡ true
 good-status c = status-is (c .before) ∙ not-false (c .before .status-rule .result) (c .if2 .left)
 
 kind-is : (c : tie.After-kind-rule) → kindRule (fileKind (d₃ c)) (sectorsOf (d₃ c)) (byteAt (d₃ c) 16) ≡ c .kind-rule .result

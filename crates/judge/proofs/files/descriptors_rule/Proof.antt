@@ -18,18 +18,18 @@ use Rattle.judge.proofs.files.descriptors_rule.Statement.{statement}
 use Rattle.judge.proofs.files.descriptors_rule.Tie as tie
 
 abbrev Inv-loop : tie.InvT-loop
-Inv-loop n image sector1 previous₀ at₀ previous at = (at ≤ length sector1) × (descriptorsRule n image previous (numbers (drop at sector1)) ≡ descriptorsRule n image [] (files image))
+Inv-loop layout n image sector1 previous₀ at₀ previous at = (at ≤ length sector1) × (descriptorsRule layout n image previous (numbers (drop at sector1)) ≡ descriptorsRule layout n image [] (files image))
     × (rangeRule n (numbers (drop at sector1)) ≡ true)
 
 abbrev μ-loop : tie.MeasureT-loop
-μ-loop n image sector1 previous₀ at₀ previous at = length sector1 - at
+μ-loop layout n image sector1 previous₀ at₀ previous at = length sector1 - at
 
 loop-holds : tie.Need-loop-holds Inv-loop μ-loop
 unfolding files
 loop-holds c = let s = c .before .before .before in (search needs, rw (c .part .ensures, c .before .sector-in .ensures), rw (c .before .sector-in .ensures) (s .pre .2))
 
 returns : tie.Need-returns Inv-loop μ-loop
-returns c = let k = c .before in sym (sym (k .before .loop .inv .1) ∙ descriptors-past _ _ _ _ (k .number-at .ensures .none (c .if1 .taken)))
+returns c = let k = c .before in sym (sym (k .before .loop .inv .1) ∙ descriptors-past _ _ _ _ _ (k .number-at .ensures .none (c .if1 .taken)))
 
 -- The ways back: from the comparison of names to the descriptor read, and from there to the loop. What is to be shown, and what is left behind the number that stands here.
 abbrev read : tie.After-precedes Inv-loop μ-loop → tie.After-sector-in2 Inv-loop μ-loop
@@ -42,7 +42,7 @@ abbrev start : tie.At-loop Inv-loop μ-loop → tie.Start Inv-loop μ-loop
 start c = c .before .before .before .before
 
 abbrev rule : tie.At-loop Inv-loop μ-loop → List ℕ → List ℕ → Bool
-rule c = descriptorsRule (start c .args .n) (start c .args .image .now)
+rule c = descriptorsRule (start c .args .layout) (start c .args .n) (start c .args .image .now)
 
 abbrev more : tie.At-loop Inv-loop μ-loop → List ℕ
 more c = numbers (drop (c .loop .at + 2) (c .before .before .sector-in .result .now))
@@ -57,10 +57,10 @@ sector-in-requires-2 c κs = let s = start (c .before .before) in omega (arith, 
 -- all the rules, with the descriptor that was read taken off; its name is whatever equals it
 stepped : (c : tie.After-sector-in2 Inv-loop μ-loop) (name : List ℕ) → name ≡ nameOf (c .sector-in2 .result .now) →
     let l = test c in
-    rule l [] (files (start l .args .image .now)) ≡ (descriptorRule (start l .args .n) (c .sector-in2 .result .now) && (precedes (l .loop .previous .now) name && rule l name (more l)))
+    rule l [] (files (start l .args .image .now)) ≡ (descriptorRule (start l .args .layout) (start l .args .n) (c .sector-in2 .result .now) && (precedes (l .loop .previous .now) name && rule l name (more l)))
 stepped c name is =
     let k = c .before in
-    sym (test c .loop .inv .1) ∙ descriptors-step _ _ _ _ _ _ _ name (k .before .number-at .ensures .some (k .if1 .left)) (c .sector-in2 .ensures) is
+    sym (test c .loop .inv .1) ∙ descriptors-step _ _ _ _ _ _ _ _ name (k .before .number-at .ensures .some (k .if1 .left)) (c .sector-in2 .ensures) is
 
 returns-2 : tie.Need-returns-2 Inv-loop μ-loop
 returns-2 c =

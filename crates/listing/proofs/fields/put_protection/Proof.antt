@@ -1,4 +1,4 @@
--- `listing::fields::put_protection` meets its contract: the test of the status is the definition's, and each way lays its two bytes. Assumes nothing.
+-- `listing::fields::put_protection` meets its contract: the test of the status is the definition's, and each way lays its byte. Assumes nothing.
 use borrow.Author.Tests.{eq-eqb, ne-eqb}
 use borrow.Author.Needs.{needs}
 use Rattle.listing.proofs.fields.put_protection.Statement.{statement}

@@ -1,4 +1,4 @@
--- `listing::lines::put_file_line` meets its contract: five fields laid one behind the other, each with what ends it, are the line of what was read of the descriptor.
+-- `listing::lines::put_file_line` meets its contract: six fields laid one behind the other, with what ends them, are the line of what was read of the descriptor.
 -- Assumes nothing.
 use mathlib.Core.Path.{_≡_}
 use mathlib.Core.Bool.{cond}
@@ -9,7 +9,8 @@ use lib.ListN.{length-take}
 use Rattle.rules.specs.Bytes.{part}
 use Rattle.rules.specs.Kind.{isProtected}
 use Rattle.rules.specs.Descriptor.{nameOf, statusOf, sectorsOf, fileKind}
-use Rattle.rules.specs.Calls.Listing.{unpadded, decimal, kindWord, kindLength, fileLine}
+use Rattle.rules.specs.Calls.Listing.{unpadded, decimal, kindWord, kindLength, markField, fileLine}
+use Rattle.rules.specs.declared.Layout.{Layout}
 use Rattle.rules.specs.declared.Kind.{Kind}
 use Rattle.rules.proofs.Fields.{kind-read}
 use Rattle.line.proofs.LaidLaws.{laid-as, laid-then}
@@ -17,15 +18,15 @@ use borrow.Author.Needs.{needs}
 use Rattle.listing.proofs.lines.put_file_line.Statement.{statement}
 use Rattle.listing.proofs.lines.put_file_line.Tie as tie
 
--- the five fields
-line-is : (descriptor name : List ℕ) (kind : Kind) (long sectors status : ℕ) → name ≡ part descriptor 0 10 → kind ≡ fileKind descriptor → long ≡ kindLength kind
+-- the six fields
+line-is : (layout : Layout) (descriptor name : List ℕ) (kind : Kind) (long sectors status : ℕ) → name ≡ part descriptor 0 10 → kind ≡ fileKind descriptor → long ≡ kindLength kind
     → sectors ≡ sectorsOf descriptor → status ≡ statusOf descriptor
-    → (unpadded name ++ (32 ∷ [])) ++ ((kindWord kind ++ (32 ∷ [])) ++ ((decimal long ++ (32 ∷ [])) ++ ((decimal sectors ++ (32 ∷ [])) ++ (cond (isProtected status) 0x50 0x55 ∷ (10 ∷ [])))))
-    ≡ fileLine descriptor
+    → (unpadded name ++ (32 ∷ [])) ++ ((kindWord kind ++ (32 ∷ [])) ++ ((decimal long ++ (32 ∷ [])) ++ ((decimal sectors ++ (32 ∷ [])) ++ ((cond (isProtected status) 0x50 0x55 ∷ []) ++ (markField layout status ++ (10 ∷ []))))))
+    ≡ fileLine layout descriptor
 unfolding fileLine nameOf
-line-is descriptor name kind long sectors status n k l c s = rw (l, n, k, c, s) (simp append-assoc)
+line-is layout descriptor name kind long sectors status n k l c s = rw (l, n, k, c, s) (simp append-assoc)
 
--- the places, each found from one behind it: the start, the kind, and the first four fields
+-- the places, each found from one behind it: the start, the kind, and the first five fields
 abbrev start : tie.After-kind-of → tie.Start
 start c = c .before .before .before .before .before .before .before
 
@@ -44,6 +45,9 @@ measured c = c .before .before .before .before
 abbrev counted : tie.After-put-protection → tie.After-put-number2
 counted c = c .before .before .before .before
 
+abbrev kept : tie.After-put-mark → tie.After-put-protection
+kept c = c .before .before .before .before
+
 -- how far each of them comes
 near-name : (c : tie.After-put-name) → c .put-name .result ≤ 50011
 near-name c = omega (arith, start (kind c) .pre, c .put-name .ensures .ends, c .put-name .ensures .short)
@@ -56,6 +60,9 @@ near-length c = omega (arith, near-kind (sorted c), c .put-number .ensures .ends
 
 near-count : (c : tie.After-put-number2) → c .put-number2 .result ≤ 50061
 near-count c = omega (arith, near-length (measured c), c .put-number2 .ensures .ends, c .put-number2 .ensures .short)
+
+near-protection : (c : tie.After-put-protection) → c .put-protection .result ≤ 50062
+near-protection c = omega (arith, near-count (counted c), c .put-protection .ensures .ends, c .put-protection .ensures .short)
 
 put-name-requires : tie.Need-put-name-requires
 put-name-requires c κs = (search needs, rw (c .part .ensures, length-take) (omega arith))
@@ -72,9 +79,13 @@ put-number-requires-2 c κs = omega (arith, near-length (c .before .before .befo
 put-protection-requires : tie.Need-put-protection-requires
 put-protection-requires c κs = omega (arith, near-count (c .before .before .before))
 
+put-mark-requires : tie.Need-put-mark-requires
+put-mark-requires c κs = omega (arith, near-protection (c .before .before .before))
+
 returns : tie.Need-returns
 returns c =
-    let fifth = c .before .before in
+    let sixth = c .before .before in
+    let fifth = kept sixth in
     let fourth = counted fifth in
     let third = measured fourth in
     let second = sorted third in
@@ -85,8 +96,8 @@ returns c =
     let status = w .before .byte .ensures .0 in
     let sectors = w .word .ensures .0 in
     let is = kind-read (start k .args .descriptor .now) status sectors (b2 .byte2 .ensures .0) (k .before .byte3 .ensures .0) (k .kind-of .ensures) in
-    let line = laid-then (first .put-name .ensures) (laid-then (second .put-kind .ensures) (laid-then (third .put-number .ensures) (laid-then (fourth .put-number2 .ensures) (fifth .put-protection .ensures)))) in
-    laid-as (line-is (start k .args .descriptor .now) _ _ _ _ _ (first .before .part .ensures) is (third .before .kind-length .ensures) sectors status) (line .short) line
+    let line = laid-then (first .put-name .ensures) (laid-then (second .put-kind .ensures) (laid-then (third .put-number .ensures) (laid-then (fourth .put-number2 .ensures) (laid-then (fifth .put-protection .ensures) (sixth .put-mark .ensures))))) in
+    laid-as (line-is (start k .args .layout) (start k .args .descriptor .now) _ _ _ _ _ (first .before .part .ensures) is (third .before .kind-length .ensures) sectors status) (line .short) line
 
 pub put-file-line-spec : {M : Type 1} → statement M
 put-file-line-spec =
@@ -104,5 +115,6 @@ put-file-line-spec =
     put-number-requires
     put-number-requires-2
     put-protection-requires
+    put-mark-requires
     (λ c. search needs)
     returns)

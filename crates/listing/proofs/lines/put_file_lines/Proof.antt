@@ -9,13 +9,13 @@ use Rattle.listing.proofs.lines.put_file_lines.Statement.{statement}
 use Rattle.listing.proofs.lines.put_file_lines.Tie as tie
 
 abbrev Inv-loop : tie.InvT-loop
-Inv-loop text₀ at image sector1 next₀ place₀ text next place = Ahead image sector1 text₀ text at next place
+Inv-loop layout text₀ at image sector1 next₀ place₀ text next place = Ahead layout image sector1 text₀ text at next place
 
 abbrev μ-loop : tie.MeasureT-loop
-μ-loop text₀ at image sector1 next₀ place₀ text next place = length sector1 - place
+μ-loop layout text₀ at image sector1 next₀ place₀ text next place = length sector1 - place
 
 loop-holds : tie.Need-loop-holds Inv-loop μ-loop
-loop-holds c = ahead-start _ _ _ _ (c .sector-of .ensures)
+loop-holds c = ahead-start _ _ _ _ _ (c .sector-of .ensures)
 
 -- the start of the call, and the number that was read; that sector 1 is short
 abbrev start : tie.At-loop Inv-loop μ-loop → tie.Start Inv-loop μ-loop

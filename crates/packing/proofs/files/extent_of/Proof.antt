@@ -34,7 +34,7 @@ stepped c =
     counted-step is (rest-read (is .rest) (number c .number-at .ensures) (d .before .if1 .left)) (c .word .ensures .0 ∙ ap (λ (s : List ℕ). wordAt s 14) (d .sector-of2 .ensures))
 
 loop-holds : tie.Need-loop-holds Inv-loop μ-loop
-loop-holds c = counted-start _ _ (c .before .before .pre) (c .sector-of .ensures)
+loop-holds c = counted-start _ _ _ (c .before .before .pre) (c .sector-of .ensures)
 
 returns : tie.Need-returns Inv-loop μ-loop
 returns c = counted-end (c .before .before .loop .inv) (c .before .number-at .ensures .none (c .if1 .taken))
@@ -42,7 +42,7 @@ returns c = counted-end (c .before .before .loop .inv) (c .before .number-at .en
 add-used-2 : tie.Need-add-used-2 Inv-loop μ-loop
 add-used-2 c =
     let is = start (number c .before) .pre in
-    omega (arith, stepped c .used-is, used-inside _ is, is .size)
+    omega (arith, stepped c .used-is, used-inside _ _ is, is .size)
 
 loop-less : tie.Need-loop-less Inv-loop μ-loop
 loop-less c = omega (arith, stepped c .rest .inside)

@@ -43,13 +43,13 @@ contents c =
     ap joined (contents-read (start (d .before .before .before) .args .source .now) _ _ (d .sector-of2 .ensures) _ (c .part .ensures))
 
 mul-to : tie.Need-mul-to Inv-loop μ-loop
-mul-to c = omega (arith, c .before .before .before .pre .1, files-few _ (c .before .before .before .pre .0))
+mul-to c = omega (arith, c .before .before .before .pre .1, files-few _ _ (c .before .before .before .pre .0))
 
 add-to : tie.Need-add-to Inv-loop μ-loop
-add-to c = omega (arith, c .before .before .before .pre .1, files-few _ (c .before .before .before .pre .0))
+add-to c = omega (arith, c .before .before .before .pre .1, files-few _ _ (c .before .before .before .pre .0))
 
 loop-holds : tie.Need-loop-holds Inv-loop μ-loop
-loop-holds c = joined-start _ _ _ _ (c .before .before .before .pre .0) (c .sector-of .ensures)
+loop-holds c = joined-start _ _ _ _ _ (c .before .before .before .pre .0) (c .sector-of .ensures)
 
 returns : tie.Need-returns Inv-loop μ-loop
 returns c = joined-end (c .before .before .loop .inv) (c .before .number-at .ensures .none (c .if1 .taken))
@@ -60,7 +60,7 @@ lay-sectors-requires c κs =
     let e = p .before .before in
     let l = e .before .before in
     let is = start l .pre .0 in
-    omega (arith, joined-ahead (read e) (l .loop .inv), ap length (contents p), start l .pre .1, data-ends _ is, used-inside _ is, is .size)
+    omega (arith, joined-ahead (read e) (l .loop .inv), ap length (contents p), start l .pre .1, data-ends _ _ is, used-inside _ _ is, is .size)
 
 loop-less : tie.Need-loop-less Inv-loop μ-loop
 loop-less c = omega (arith, read (number (c .before .before)) .rest .inside)

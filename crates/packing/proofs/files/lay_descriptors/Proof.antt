@@ -50,18 +50,18 @@ few : (c : tie.After-word Inv-loop μ-loop) → number c .before .loop .start + 
 few c =
     let l = number c .before in
     let is = start l .pre .0 in
-    omega (arith, described-ahead (l .loop .inv) (read c) (count c), used-inside _ is, is .size)
+    omega (arith, described-ahead (l .loop .inv) (read c) (count c), used-inside _ _ is, is .size)
 
 header : (c : tie.After-part Inv-loop μ-loop) → c .part .result .now ≡ headerIn (source (sized c)) (number (sized c) .number-at .result)
 header c = header-read (source (sized c)) _ _ (sized c .before .sector-of2 .ensures) _ (c .part .ensures)
 
 add-start : tie.Need-add-start Inv-loop μ-loop
-add-start c = omega (arith, c .before .before .before .pre .1, files-few _ (c .before .before .before .pre .0))
+add-start c = omega (arith, c .before .before .before .pre .1, files-few _ _ (c .before .before .before .pre .0))
 
 loop-holds : tie.Need-loop-holds Inv-loop μ-loop
 loop-holds c =
     let pre = c .before .before .before .pre in
-    described-start _ _ _ _ (pre .0) (c .sector-of .ensures) (omega (arith, pre .1))
+    described-start _ _ _ _ _ (pre .0) (c .sector-of .ensures) (omega (arith, pre .1))
 
 returns : tie.Need-returns Inv-loop μ-loop
 returns c =
@@ -86,7 +86,7 @@ loop-again c =
     let p = d .before in
     let w = sized p in
     let l = number w .before in
-    let held = contents-count (source w) _ (read w .descriptor) ∙ sym (count w) in
+    let held = contents-count _ (source w) _ (read w .descriptor) ∙ sym (count w) in
     let packed = d .packed-descriptor .ensures ∙ descriptor-packed (source w) _ _ _ _ (header p) held in
     described-step (start l .pre .0 .whole) (l .loop .inv) (read w) (count w) packed (y .lay .ensures)
 

@@ -5,7 +5,8 @@ use Prim.Native.Nat.{ℕ}
 use lib.Dec.{ltb}
 use lib.ListN.{length}
 use Rattle.rules.specs.Calls.Listing.{refusedLine, listed}
+use Rattle.rules.specs.declared.Layout.{Layout}
 
 -- at most 65,536 bytes; more gives number 1
-unfoldable pub output : List ℕ → List ℕ
-output image = cond (ltb 65536 (length image)) (refusedLine 1) (listed image)
+unfoldable pub output : Layout → List ℕ → List ℕ
+output layout image = cond (ltb 65536 (length image)) (refusedLine 1) (listed layout image)

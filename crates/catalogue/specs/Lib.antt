@@ -1,2 +1,0 @@
--- The definitions that the contracts of `catalogue` cite.
-pub mod Output

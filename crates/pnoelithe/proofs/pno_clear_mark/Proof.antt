@@ -1,0 +1,11 @@
+-- `pnoelithe::pno_clear_mark` meets its contract: what the call answers crosses as its number, and the place where the name is wrong behind its pointer. Assumes nothing.
+use Rattle.pnoelithe.proofs.Crossings.{writing-crosses}
+use borrow.Author.Needs.{needs}
+use Rattle.pnoelithe.proofs.pno_clear_mark.Statement.{statement}
+use Rattle.pnoelithe.proofs.pno_clear_mark.Tie as tie
+
+returns : tie.Need-returns
+returns c = writing-crosses _ _ _ _ _ _ _ (c .named-number .ensures _ _) (c .before .before .before .before .clear-mark .ensures)
+
+pub pno-clear-mark-spec : {M : Type 1} → statement M
+pno-clear-mark-spec = tie.close (tie.spec (λ c κs. search needs) (λ c κs. search needs) (λ c κs. search needs) (λ c. search needs) returns)

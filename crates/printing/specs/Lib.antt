@@ -1,0 +1,2 @@
+-- The definitions that the contracts of `printing` cite.
+pub mod Output
