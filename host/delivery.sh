@@ -33,7 +33,7 @@ SECTORS_LEAST 3
 SECTORS_MOST 1600
 IMAGE_MOST 409600
 FILES_MOST 127
-LISTING_MOST 4212
+LISTING_MOST 4466
 PROGRAM_MOST 32768
 LOADED_MOST 408832
 END
@@ -89,6 +89,7 @@ int main(void) {
     SHOW(NOT_PROGRAM);
     SHOW(ARGUMENT);
     SHOW(SIZE);
+    SHOW(MARKS);
 END
         sizes | sed 's/ .*/);/; s/^/    SHOW(/'
         echo '    return 0;'
@@ -99,8 +100,8 @@ END
         echo '0 done'
         texts
         printf '%s no number of this library\n' 16 17 18 19 20 4294967295
-        echo 'version 0.3.0'
-        printf '%s\n' 'KIND 14' 'NOT_PROGRAM 14' 'ARGUMENT 15' 'SIZE 15'
+        echo 'version 0.4.0'
+        printf '%s\n' 'KIND 14' 'NOT_PROGRAM 14' 'ARGUMENT 15' 'SIZE 15' 'MARKS 1'
         sizes
     } >"$work/expected"
     must_print "${emulator[@]}" "$work/show"
@@ -119,7 +120,7 @@ show_wrapper() {
     {
         echo '#[allow(dead_code)]'
         echo 'mod pnoelithe;'
-        echo 'use pnoelithe::{Refusal, RenameRefusal, Which};'
+        echo 'use pnoelithe::{Layout, Refusal, RenameRefusal, Which};'
         echo 'fn main() {'
         for refusal in $refusals; do
             echo "    println!(\"{} {}\", Refusal::$refusal.number(), Refusal::$refusal);"
@@ -130,6 +131,7 @@ show_wrapper() {
         let renaming = RenameRefusal { refusal: Refusal::Name { place: 3 }, which };
         println!("{}; {:?}", renaming, Refusal::from(renaming));
     }
+    println!("{:?} {:?} {:?}", Layout::OLD, Layout::MARKS, Layout::default());
 }
 END
     } >"$work/rust/show.rs"
@@ -138,13 +140,14 @@ END
         texts
         sizes
         printf '%s breaks its rule; Name { place: 3 }\n' 'the old name' 'the new name' 'a name'
+        echo 'Layout { marks: false } Layout { marks: true } Layout { marks: false }'
     } >"$work/expected"
     must_print "$work/rust/show"
     echo "the header and pnoelithe.rs have the same texts and sizes"
 }
 
-# FOLDER: makes it, with a host that formats a volume of 40 sectors and stores a program. Sectors 0
-# and 1, the descriptor and the program's sector are taken, so 36 are free.
+# FOLDER: makes it, with a host that formats a volume of 40 sectors and stores a program, which has the
+# backup mark then. Sectors 0 and 1, the descriptor and the program's sector are taken, so 36 are free.
 write_own_host() {
     mkdir "$1"
     cat >"$1/host.c" <<'END'
@@ -157,18 +160,18 @@ int main(void) {
     size_t length = 0, wrong = 0;
     uint32_t number = pno_format(image, sizeof image, 40, disk, PNO_NAME_BYTES, 9, 40, 1, 1, &wrong);
     if (number == PNO_DONE)
-        number = pno_store(image, sizeof image, name, PNO_NAME_BYTES, bytes, sizeof bytes, &wrong);
+        number = pno_store(image, sizeof image, PNO_MARKS, name, PNO_NAME_BYTES, bytes, sizeof bytes, &wrong);
     if (number == PNO_DONE)
-        number = pno_listing(image, sizeof image, text, sizeof text, &length);
+        number = pno_listing(image, sizeof image, PNO_MARKS, text, sizeof text, &length);
     printf("%s: %s\n", PNO_VERSION, pno_text(number));
     fwrite(text, 1, length, stdout);
     return number != PNO_DONE;
 }
 END
     cat >"$work/expected" <<'END'
-0.3.0: done
+0.4.0: done
 OWN 40 36
-HELLO PROGRAM 5 1 U
+HELLO PROGRAM 5 1 U M
 END
 }
 
@@ -263,7 +266,7 @@ host_by_pkg_config() {
     read -r -a flags < <(pkg-config --cflags --libs pnoelithe)
     "${compiler[@]}" "${strict[@]}" "$own/host.c" "${flags[@]}" -o "$own/host"
     must_print "${emulator[@]}" "$own/host"
-    echo 0.3.0 >"$work/expected"
+    echo 0.4.0 >"$work/expected"
     must_print pkg-config --modversion pnoelithe
     echo "a host is built by pkg-config"
 }
@@ -301,14 +304,15 @@ host_in_cpp() {
 
 int main() {
     std::vector<uint8_t> volume(40 * PNO_SECTOR_BYTES), text(PNO_LISTING_MOST), v;
-    const uint8_t name[] = "EMPTY     ", none = 0;
+    const uint8_t name[] = "EMPTY     ", none = 0, *bytes = v.empty() ? &none : v.data();
+    const uint32_t layout = 0;
     uint8_t *image = volume.data();
     size_t image_len = volume.size(), name_len = PNO_NAME_BYTES, length = 0, wrong = 0;
     uint32_t number = pno_format(image, image_len, 40, name, name_len, 9, 40, 1, 1, &wrong);
     if (number == PNO_DONE)
-        number = pno_store(image, image_len, name, name_len, v.empty() ? &none : v.data(), v.size(), &wrong);
+        number = pno_store(image, image_len, layout, name, name_len, bytes, v.size(), &wrong);
     if (number == PNO_DONE)
-        number = pno_listing(image, image_len, text.data(), text.size(), &length);
+        number = pno_listing(image, image_len, layout, text.data(), text.size(), &length);
     std::printf("%s\n", pno_text(number));
     std::fwrite(text.data(), 1, length, stdout);
 }

@@ -274,6 +274,115 @@ TEXT DIS/FIX 128 2 U" "$work/packed.dsk"
     must_be_same "$work/packed.dsk" "$work/packed-again.dsk"
 }
 
+# IMAGE: it has a mark, so that every command without -m but clear is refused with 4.
+refused_by_the_old_rule() {
+    local image=$1 text="number 4: a file's descriptor breaks a rule"
+    refusal "$text" "$image"
+    refusal "$text" "$image" judge
+    refusal "$text" "$image" load ALPHA "$work/nothing"
+    refusal "$text" "$image" read NOTES "$work/nothing"
+    refusal "$text" "$image" store NEW "$work/beta"
+    refusal "$text" "$image" append NOTES "$work/note"
+    refusal "$text" "$image" delete ALPHA
+    refusal "$text" "$image" rename ALPHA NEW
+    refusal "$text" "$image" pack "$work/nothing"
+    [ ! -e "$work/nothing" ] || fail "a refused call has written a file"
+}
+
+# Case M's volume by the rule that has backup marks: status bit 10 hex. The descriptors of ALPHA and NOTES
+# are in sectors 2 and 3, and those of the files that come to them in 4 and 5; byte 12 is the status.
+keep_marks() {
+    local image=$work/marks.dsk
+    cp "$sample" "$image"
+    step 0 "number 0: a sound volume" -m "$image" judge
+    step 0 "SHELF 64 57
+ALPHA PROGRAM 300 2 U -
+NOTES DIS/VAR 80 1 U -" -m "$image"
+    step 0 "" -m "$image" store BETA "$work/beta"
+    bytes_at "$image" $((256 * 4)) 42 45 54 41 20 20 20 20 20 20 00 00 11 00 00 04 e8 00
+    step 0 "SHELF 64 52
+ALPHA PROGRAM 300 2 U -
+BETA PROGRAM 1000 4 U M
+NOTES DIS/VAR 80 1 U -" -m "$image"
+    refused_by_the_old_rule "$image"
+    # By the new rule it is a volume as others are.
+    step 0 "number 0: a sound volume" -m "$image" judge
+    step 0 "" -m "$image" read ALPHA "$work/found"
+    from_sector "$image" 34 512 >"$work/expected"
+    must_be_same "$work/expected" "$work/found"
+    cp "$image" "$work/less.dsk"
+    step 0 "" -m "$work/less.dsk" delete BETA
+    step 0 "SHELF 64 57
+ALPHA PROGRAM 300 2 U
+NOTES DIS/VAR 80 1 U" "$work/less.dsk"
+    # What is made and what is changed gets the mark, and nothing else does.
+    step 0 "" -m "$image" append TEXT "$work/note"
+    bytes_at "$image" $((256 * 5 + 12)) 10 02 00 01 00 80
+    bytes_at "$image" $((256 * 3 + 12)) 80
+    step 0 "" -m "$image" append NOTES "$work/note"
+    bytes_at "$image" $((256 * 3 + 12)) 90 03 00 02
+    step 0 "" -m "$image" load ALPHA "$work/found"
+    must_be_same "$work/alpha" "$work/found"
+    bytes_at "$image" $((256 * 2 + 12)) 01
+    step 0 "" -m "$image" rename ALPHA OMEGA
+    bytes_at "$image" $((256 * 2 + 12)) 11
+    step 0 "" -m "$image" rename OMEGA ALPHA
+    # NOTES is protected by hand. Its mark is cleared all the same, with -m or without, and once more.
+    put_at "$image" $((256 * 3 + 12)) '\x98'
+    step 0 "SHELF 64 49
+ALPHA PROGRAM 300 2 U M
+BETA PROGRAM 1000 4 U M
+NOTES DIS/VAR 80 2 P M
+TEXT DIS/FIX 128 1 U M" -m "$image"
+    step 1 "refused, number 10: the file is protected" -m "$image" append NOTES "$work/note"
+    cp "$image" "$work/expected-image"
+    put_at "$work/expected-image" $((256 * 3 + 12)) '\x88'
+    step 0 "" -m "$image" clear NOTES
+    must_be_same "$work/expected-image" "$image"
+    step 0 "" "$image" clear NOTES
+    must_be_same "$work/expected-image" "$image"
+    step 0 "" "$image" clear BETA
+    bytes_at "$image" $((256 * 4 + 12)) 01
+    step 0 "SHELF 64 49
+ALPHA PROGRAM 300 2 U M
+BETA PROGRAM 1000 4 U -
+NOTES DIS/VAR 80 2 P -
+TEXT DIS/FIX 128 1 U M" -m "$image"
+    # Packed, the descriptors lie from sector 2 on in the order of names, marks and all.
+    step 0 "" -m "$image" pack "$work/packed.dsk"
+    bytes_at "$work/packed.dsk" $((256 * 2 + 12)) 11
+    bytes_at "$work/packed.dsk" $((256 * 3 + 12)) 01
+    bytes_at "$work/packed.dsk" $((256 * 4 + 12)) 88
+    bytes_at "$work/packed.dsk" $((256 * 5 + 12)) 10
+    # Without a mark the volume is one by the old rule again.
+    step 0 "" "$image" clear ALPHA
+    refusal "number 4: a file's descriptor breaks a rule" "$image"
+    step 0 "" "$image" clear TEXT
+    step 0 "SHELF 64 49
+ALPHA PROGRAM 300 2 U
+BETA PROGRAM 1000 4 U
+NOTES DIS/VAR 80 2 P
+TEXT DIS/FIX 128 1 U" "$image"
+    be_refused_a_mark "$image"
+}
+
+# IMAGE: the numbers of clearing a mark, and the words that go with -m.
+be_refused_a_mark() {
+    refusal "number 8: there is no such file" "$1" clear GAMMA
+    refusal "number 7: a name breaks its rule: character 2 of the name" "$1" clear A.B
+    refusal "number 7: a name breaks its rule: the name has more than 10 characters" "$1" clear ELEVENBYTES
+    step 1 "refused, number 7: a name breaks its rule: character 3 of the new name" -m "$1" rename ALPHA GA.MMA
+    head -c 16383 "$1" >"$work/short.dsk"
+    refusal "number 1: the image's length is not that of a volume" "$work/short.dsk" clear A.B
+    step 1 "refused, number 1: the image's length is not that of a volume" -m "$work/short.dsk" clear A.B
+    local usage="usage: example [-m] IMAGE [judge | (load | read | store | append) NAME FILE | \
+(delete | clear) NAME | rename NAME NEW | pack FILE]"
+    step 2 "$usage"
+    step 2 "$usage" -m
+    step 2 "$usage" -m "$1" clear
+    step 2 "$usage" "$1" -m judge
+}
+
 # Images that are no volume, and a protected file of another disk manager's.
 judge_others() {
     head -c 16383 "$disk" >"$work/short.dsk"
@@ -556,6 +665,7 @@ say_where_a_name_is_wrong
 rename_a_file
 delete_a_file
 pack_twice
+keep_marks
 judge_others
 make_deleted
 keep_link_and_mode

@@ -38,6 +38,8 @@ must_be() {
 }
 
 # Case M's volume, one with a bit of the map cleared, and others of another disk manager's, in $work/images.
+# Two are case M's volume with a backup mark, status bit 10 hex: one on ALPHA, whose status is byte 524, and
+# one on NOTES, whose status is byte 780, which is protected there too.
 lay_out() {
     mkdir -p "$work/images"
     cd "$work/images"
@@ -46,12 +48,26 @@ lay_out() {
     gzip -dc "$host/vectors/20-small-90-rawname.dsk.gz" >label.dsk
     gzip -dc "$host/vectors/23-small-258-toolong.dsk.gz" >long.dsk
     : >empty.dsk
+    { head -c 524 sound.dsk && printf '\x11' && tail -c +526 sound.dsk; } >marked.dsk
+    { head -c 780 sound.dsk && printf '\x98' && tail -c +782 sound.dsk; } >locked.dsk
+    cp sound.dsk ./--marks
 }
 
 missing='No such file or directory'
 listing='SHELF 64 57
 ALPHA PROGRAM 300 2 U
 NOTES DIS/VAR 80 1 U'
+
+# The same by the new rule, of the images without a mark and with one.
+by_marks='SHELF 64 57
+ALPHA PROGRAM 300 2 U -
+NOTES DIS/VAR 80 1 U -'
+marked='SHELF 64 57
+ALPHA PROGRAM 300 2 U M
+NOTES DIS/VAR 80 1 U -'
+locked='SHELF 64 57
+ALPHA PROGRAM 300 2 U -
+NOTES DIS/VAR 80 1 P M'
 
 # One image for each number, as crates/belt/README.md has them, with its ground.
 grounds=('0-carried a sound volume'
@@ -87,11 +103,35 @@ try_belt() {
     done
     step 1 "$lines" '7 images: 1 sound, 1 of number 1, 1 of number 2, 1 of number 3, '\
 '1 of number 4, 1 of number 5, 1 of number 6' belt -v "${words[@]}"
+    step 1 "$lines" '7 images: 1 sound, 1 of number 1, 1 of number 2, 1 of number 3, '\
+'1 of number 4, 1 of number 5, 1 of number 6' belt -v --marks "${words[@]}"
     # The count that the belt's page has as its example.
     mapfile -t words < <(printf 'sound.dsk\n%.0s' {1..398} && printf 'map.dsk\n%.0s' {1..9} && printf 'missing.dsk\n%.0s' {1..5})
     must_be "$("$top/run" belt "${words[@]}" 2>&1 >"$work/written" | tail -n 1)" \
         '412 images: 398 sound, 9 of number 6, 5 unread' 'the last line of 412 images'
     must_be "$(wc -l <"$work/written")" 412 'lines of 412 images'
+}
+
+# A mark is number 4 by the old rule, and none by the new one. Behind an image there are no options.
+try_belt_by_marks() {
+    step 1 '4 marked.dsk
+0 sound.dsk
+4 locked.dsk' '3 images: 1 sound, 2 of number 4' belt marked.dsk sound.dsk locked.dsk
+    step 0 '0 marked.dsk
+0 sound.dsk
+0 locked.dsk' '3 images: 3 sound' belt --marks marked.dsk sound.dsk locked.dsk
+    step 2 '0 marked.dsk: a sound volume
+6 map.dsk: the map is not that of the files
+- missing.dsk: not read' "missing.dsk: $missing
+3 images: 1 sound, 1 of number 6, 1 unread" belt --marks -v marked.dsk map.dsk missing.dsk
+    step 1 '4' '1 image: 0 sound, 1 of number 4' belt <marked.dsk
+    step 0 '0' '1 image: 1 sound' belt --marks <marked.dsk
+    step 0 '0: a sound volume' '1 image: 1 sound' belt -v --marks <marked.dsk
+    step 1 '4 marked.dsk
+0 --marks' '2 images: 1 sound, 1 of number 4' belt marked.dsk --marks
+    step 0 '0 --marks' '1 image: 1 sound' belt -- --marks
+    step 0 '0 --marks
+0 marked.dsk' '2 images: 2 sound' belt --marks -- --marks marked.dsk
 }
 
 # A newline would begin another line, on either output.
@@ -125,6 +165,39 @@ $(cat "$host/vectors/23-small-258-toolong.rows.txt")" "missing.dsk: $missing
 REFUSED 2' '1 image: 0 sound, 1 of number 2' listings label.dsk
 }
 
+# By the new rule each file's line has a field more, and that of the disk has none. In long.dsk no file has
+# a mark.
+try_listings_by_marks() {
+    step 1 '==> marked.dsk <==
+REFUSED 4
+
+==> locked.dsk <==
+REFUSED 4' '2 images: 0 sound, 2 of number 4' listings marked.dsk locked.dsk
+    step 2 "==> sound.dsk <==
+$by_marks
+
+==> marked.dsk <==
+$marked
+
+==> map.dsk <==
+REFUSED 6
+
+==> missing.dsk <==
+-
+
+==> locked.dsk <==
+$locked
+
+==> long.dsk <==
+$(sed '2,$s/$/ -/' "$host/vectors/23-small-258-toolong.rows.txt")" "missing.dsk: $missing
+6 images: 4 sound, 1 of number 6, 1 unread" listings --marks sound.dsk marked.dsk map.dsk missing.dsk \
+        locked.dsk long.dsk
+    step 0 "==> --marks <==
+$by_marks" '1 image: 1 sound' listings --marks -- --marks
+    step 0 "==> --marks <==
+$listing" '1 image: 1 sound' listings -- --marks
+}
+
 try_catalogue() {
     step 0 "$listing" '' catalogue sound.dsk
     step 0 "$listing" '' catalogue <sound.dsk
@@ -136,6 +209,22 @@ try_catalogue() {
     # A sound disk may have the word as its name.
     { printf 'REFUSED   ' && tail -c +11 sound.dsk; } >named.dsk
     step 0 "REFUSED${listing#SHELF}" '' catalogue named.dsk
+    step 1 'REFUSED 4' '' catalogue marked.dsk
+    step 1 'REFUSED 4' '' catalogue <locked.dsk
+}
+
+# The second catalogue program, which goes by the new rule.
+try_catalogue_marks() {
+    step 0 "$marked" '' catalogue_marks marked.dsk
+    step 0 "$marked" '' catalogue_marks <marked.dsk
+    step 0 "$locked" '' catalogue_marks locked.dsk
+    step 0 "$by_marks" '' catalogue_marks sound.dsk
+    step 1 'REFUSED 6' '' catalogue_marks map.dsk
+    step 1 'REFUSED 1' '' catalogue_marks long.dsk
+    step 2 '' 'run: cannot read missing.dsk' catalogue_marks missing.dsk
+    step 2 '' 'run: cannot read .' catalogue_marks .
+    step 2 '' 'standard input: Is a directory' catalogue_marks <.
+    step 0 "REFUSED${by_marks#SHELF}" '' catalogue_marks named.dsk
 }
 
 # FILE: the bytes as one number, high byte first and a one in front, modulo the largest prime below
@@ -175,6 +264,32 @@ try_masters() {
         "$data/shelf-worn.dsk" missing.dsk map.dsk
 }
 
+# By the new rule a volume with a mark is another one than that without, and the same as its packed form.
+try_masters_by_marks() {
+    local sum other
+    "${emulator[@]}" "$out/example" -m marked.dsk pack packed.dsk
+    step 1 '4 - marked.dsk
+0 2 sound.dsk
+4 - packed.dsk' '3 images: 1 sound, 2 of number 4' masters marked.dsk sound.dsk packed.dsk
+    step 1 '0 1 sound.dsk
+0 2 marked.dsk
+6 - map.dsk
+0 4 locked.dsk
+0 2 packed.dsk
+0 1 sound.dsk' '6 images: 5 sound, 1 of number 6' masters --marks sound.dsk marked.dsk map.dsk locked.dsk \
+        packed.dsk sound.dsk
+    command -v python3 >/dev/null || return 0
+    "${emulator[@]}" "$out/example" sound.dsk pack "$work/packed"
+    sum=$(sum_of "$work/packed")
+    other=$(sum_of packed.dsk)
+    step 1 "4 - marked.dsk
+0 $sum sound.dsk" '2 images: 1 sound, 1 of number 4' masters --sums marked.dsk sound.dsk
+    step 0 "0 $other marked.dsk
+0 $sum sound.dsk" '2 images: 2 sound' masters --sums --marks marked.dsk sound.dsk
+    step 0 "0 $other marked.dsk
+0 $sum sound.dsk" '2 images: 2 sound' masters --marks --sums marked.dsk sound.dsk
+}
+
 # The table has room for 131,071 images. What comes behind is compared with all that came behind.
 try_past_the_table() {
     local words
@@ -195,8 +310,9 @@ try_past_the_table() {
 # words are not those.
 try_usage() {
     local program usage
-    for program in belt 'belt [-v] [--] [IMAGE...]' listings 'listings [--] IMAGE...' \
-        masters 'masters [--sums] [--] IMAGE...' catalogue 'catalogue < IMAGE' bench bench; do
+    for program in belt 'belt [-v] [--marks] [--] [IMAGE...]' listings 'listings [--marks] [--] IMAGE...' \
+        masters 'masters [--sums] [--marks] [--] IMAGE...' catalogue 'catalogue < IMAGE' \
+        catalogue_marks 'catalogue_marks < IMAGE' bench bench; do
         if [ -z "${usage:-}" ]; then
             usage=$program
             continue
@@ -206,17 +322,24 @@ try_usage() {
         step 0 "$(cat "$work/usage")" '' "$usage" -h
         step 2 '' "$(cat "$work/usage")" "$usage" --other
         grep -q -- '-h, --help' "$work/usage" || fail "$usage --help does not tell its options"
+        if [[ $program == *--marks* ]]; then
+            [ "$(grep -c -- --marks "$work/usage")" -gt 1 ] || fail "$usage --help does not tell of --marks"
+        fi
         usage=
     done
     step 2 '' "$("$top/run" masters -h)" masters -v sound.dsk
     step 2 '' "$("$top/run" belt -h)" belt --sums sound.dsk
+    step 2 '' "$("$top/run" listings -h)" listings --marks --sums sound.dsk
+    step 2 '' "$("$top/run" catalogue -h)" catalogue --marks
     step 2 '' "$("$top/run" --help)" no_such_program
 }
 
 # Output that is full or closed is told, and is no 0.
 try_outputs() {
     local program ended
-    for program in 'belt sound.dsk' 'belt -h' 'listings sound.dsk' 'masters sound.dsk' 'catalogue sound.dsk' bench; do
+    for program in 'belt sound.dsk' 'belt -h' 'listings sound.dsk' 'masters sound.dsk' 'catalogue sound.dsk' \
+        'belt --marks marked.dsk' 'listings --marks marked.dsk' 'masters --marks marked.dsk' \
+        'catalogue_marks marked.dsk' bench; do
         ended=0
         # shellcheck disable=SC2086
         "$top/run" $program >/dev/full 2>"$work/told" || ended=$?
@@ -327,10 +450,14 @@ fi
 compile_example
 lay_out
 try_belt
+try_belt_by_marks
 try_names
 try_listings
+try_listings_by_marks
 try_catalogue
+try_catalogue_marks
 try_masters
+try_masters_by_marks
 try_past_the_table
 try_usage
 try_outputs

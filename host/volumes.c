@@ -4,9 +4,10 @@
  *     volumes FOLDER
  *
  * writes for each volume NAME.dsk, NAME.dir (a line a file, in the order of names: name, bytes on the disk
- * with the descriptor, kind, R/O if protected; then the free bytes) and NAME.FILE.tif for each file, in the
- * form in which files are handed over between disk managers: 128 bytes of header, then the file's sectors.
- * All of it comes from what the calls were asked to do; nothing is read back from the volume.
+ * with the descriptor, kind, R/O if protected; then the free bytes), NAME.marks (a line a file: name, and M
+ * or a hyphen for its backup mark) and NAME.FILE.tif for each file, in the form in which files are handed
+ * over between disk managers: 128 bytes of header, then the file's sectors. All of it comes from what the
+ * calls were asked to do; nothing is read back from the volume.
  */
 #include <stdio.h>
 #include <stdlib.h>
@@ -17,6 +18,7 @@
 #define SECTOR PNO_SECTOR_BYTES
 #define MOST_FILES 40
 #define PROTECTED 0x08
+#define MARKED 0x10
 #define PROGRAM 0x01
 
 /* The disks that the other manager takes: its n is the product of the first three. */
@@ -24,12 +26,19 @@ struct geometry {
     const char *title;
     uint8_t sectors_per_track, tracks, sides, density;
     unsigned steps; /* how many calls are made on it by chance; where none, each of the lengths is stored */
+    uint32_t layout; /* by which all of them are */
 };
 
 static const struct geometry geometries[] = {
-    {"sssd-360", 9, 40, 1, 1, 60},          {"dssd-720", 9, 40, 2, 1, 400},
-    {"sssd-360-worn", 9, 40, 1, 1, 3000},   {"dsdd-1440", 18, 40, 2, 2, 1000},
-    {"dsdd-1440-worn", 18, 40, 2, 2, 6000}, {"sssd-360-lengths", 9, 40, 1, 1, 0},
+    {"sssd-360", 9, 40, 1, 1, 60, 0},
+    {"dssd-720", 9, 40, 2, 1, 400, 0},
+    {"sssd-360-worn", 9, 40, 1, 1, 3000, 0},
+    {"dsdd-1440", 18, 40, 2, 2, 1000, 0},
+    {"dsdd-1440-worn", 18, 40, 2, 2, 6000, 0},
+    {"sssd-360-lengths", 9, 40, 1, 1, 0, 0},
+    {"sssd-360-marks", 9, 40, 1, 1, 60, PNO_MARKS},
+    {"dssd-720-marks", 9, 40, 2, 1, 400, PNO_MARKS},
+    {"dsdd-1440-worn-marks", 18, 40, 2, 2, 6000, PNO_MARKS},
 };
 
 /* The lengths of programs that matter: of no byte, around whole sectors, and the longest. */
@@ -46,6 +55,7 @@ struct file {
 
 static uint8_t image[PNO_IMAGE_MOST];
 static size_t image_len;
+static uint32_t layout;
 static struct file files[MOST_FILES];
 static size_t file_count;
 static size_t free_sectors;
@@ -90,11 +100,18 @@ static int is_done(uint32_t number, uint32_t expected) {
     return number == PNO_DONE;
 }
 
+/* A file that was made or changed has the mark, where there are marks. */
+static void mark(struct file *file) {
+    if (layout & PNO_MARKS)
+        file->header[12] |= MARKED;
+}
+
 static struct file *add(const uint8_t name[10], uint8_t status) {
     struct file *file = &files[file_count++];
     memset(file, 0, sizeof *file);
     memcpy(file->header, name, 10);
     file->header[12] = status;
+    mark(file);
     return file;
 }
 
@@ -119,7 +136,7 @@ static void store_length(size_t length) {
     any_name(name);
     fill(bytes, length);
     uint32_t expected = find(name) ? PNO_PRESENT : free_sectors < sectors + 1 ? PNO_DISK_FULL : PNO_DONE;
-    if (is_done(pno_store(image, image_len, name, 10, bytes, length, &wrong), expected)) {
+    if (is_done(pno_store(image, image_len, layout, name, 10, bytes, length, &wrong), expected)) {
         struct file *file = add(name, PROGRAM);
         file->header[16] = (uint8_t)(length % SECTOR);
         free_sectors -= 1;
@@ -145,7 +162,7 @@ static void create(void) {
     uint8_t records = status & 0x80 ? 255 / length : 256 / length;
     any_name(name);
     uint32_t expected = find(name) ? PNO_PRESENT : free_sectors < 1 ? PNO_DISK_FULL : PNO_DONE;
-    if (is_done(pno_create(image, image_len, name, 10, status, length, records, &wrong), expected)) {
+    if (is_done(pno_create(image, image_len, layout, name, 10, status, length, records, &wrong), expected)) {
         struct file *file = add(name, status);
         file->header[13] = records;
         file->header[17] = length;
@@ -165,8 +182,10 @@ static void append(struct file *file) {
     fill(data, SECTOR);
     if (expected == PNO_DONE && free_sectors < 1)
         expected = PNO_DISK_FULL;
-    if (is_done(pno_append(image, image_len, file->header, 10, data, SECTOR, &wrong), expected))
+    if (is_done(pno_append(image, image_len, layout, file->header, 10, data, SECTOR, &wrong), expected)) {
         grow(file, data, SECTOR, 1);
+        mark(file);
+    }
 }
 
 static void overwrite(struct file *file) {
@@ -176,13 +195,16 @@ static void overwrite(struct file *file) {
     fill(data, SECTOR);
     if (expected == PNO_DONE && offset >= file->sectors)
         expected = PNO_ARGUMENT;
-    if (is_done(pno_overwrite(image, image_len, file->header, 10, offset, data, SECTOR, &wrong), expected))
+    if (is_done(pno_overwrite(image, image_len, layout, file->header, 10, offset, data, SECTOR, &wrong),
+                expected)) {
         memcpy(file->bytes + offset * SECTOR, data, SECTOR);
+        mark(file);
+    }
 }
 
 static void delete(struct file *file) {
     uint32_t expected = file->header[12] & PROTECTED ? PNO_PROTECTED : PNO_DONE;
-    if (is_done(pno_delete(image, image_len, file->header, 10, &wrong), expected)) {
+    if (is_done(pno_delete(image, image_len, layout, file->header, 10, &wrong), expected)) {
         free_sectors += 1 + file->sectors;
         free(file->bytes);
         *file = files[--file_count];
@@ -193,33 +215,43 @@ static void rename_file(struct file *file) {
     uint8_t name[10];
     any_name(name);
     uint32_t expected = find(name) ? PNO_PRESENT : file->header[12] & PROTECTED ? PNO_PROTECTED : PNO_DONE;
-    if (is_done(pno_rename(image, image_len, file->header, 10, name, 10, &which, &wrong), expected))
+    if (is_done(pno_rename(image, image_len, layout, file->header, 10, name, 10, &which, &wrong), expected)) {
         memcpy(file->header, name, 10);
+        mark(file);
+    }
 }
 
 static void protect(struct file *file) {
-    if (is_done(pno_protect(image, image_len, file->header, 10, &wrong), PNO_DONE))
+    if (is_done(pno_protect(image, image_len, layout, file->header, 10, &wrong), PNO_DONE))
         file->header[12] |= PROTECTED;
 }
 
 static void unprotect(struct file *file) {
-    if (is_done(pno_unprotect(image, image_len, file->header, 10, &wrong), PNO_DONE))
+    if (is_done(pno_unprotect(image, image_len, layout, file->header, 10, &wrong), PNO_DONE))
         file->header[12] &= (uint8_t)~PROTECTED;
 }
 
+static void clear_mark(struct file *file) {
+    if (is_done(pno_clear_mark(image, image_len, layout, file->header, 10, &wrong), PNO_DONE))
+        file->header[12] &= (uint8_t)~MARKED;
+}
+
 static void step(void) {
-    static void (*const on_file[])(struct file *) = {append, append,      append,  append,   overwrite,
-                                                     delete, rename_file, protect, unprotect};
+    static void (*const on_file[])(struct file *) = {append, append,      append,  append,    overwrite,
+                                                     delete, rename_file, protect, unprotect, clear_mark};
+    /* Clearing comes last: without marks there are none to clear. */
+    size_t calls = sizeof on_file / sizeof on_file[0] - (layout & PNO_MARKS ? 0 : 1);
     size_t sort = below(12);
     if (file_count == 0 || (sort < 3 && file_count < MOST_FILES))
         (sort % 2 ? create : store)();
     else
-        on_file[below(sizeof on_file / sizeof on_file[0])](&files[below(file_count)]);
+        on_file[below(calls)](&files[below(file_count)]);
 }
 
 static void format(const struct geometry *of) {
     size_t n = (size_t)of->sectors_per_track * of->tracks * of->sides;
     image_len = SECTOR * n;
+    layout = of->layout;
     file_count = 0;
     free_sectors = n - 2;
     is_done(pno_format(image, image_len, n, (const uint8_t *)"WRITTEN   ", 10, of->sectors_per_track,
@@ -283,14 +315,17 @@ static void write_volume(const char *folder, const char *title) {
     FILE *volume = create_file(folder, title, ".dsk");
     fwrite(image, 1, image_len, volume);
     close_file(volume);
-    FILE *rows = create_file(folder, title, ".dir");
+    FILE *rows = create_file(folder, title, ".dir"), *marks = create_file(folder, title, ".marks");
     qsort(files, file_count, sizeof files[0], by_name);
     for (size_t i = 0; i < file_count; i++) {
+        const uint8_t *header = files[i].header;
         write_row(rows, &files[i]);
+        fprintf(marks, "%.*s %c\n", used(header), (const char *)header, header[12] & MARKED ? 'M' : '-');
         write_file(folder, title, &files[i]);
     }
     fprintf(rows, "%zu bytes free\n", SECTOR * free_sectors);
     close_file(rows);
+    close_file(marks);
 }
 
 int main(int argc, char **argv) {

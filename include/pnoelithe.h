@@ -9,10 +9,12 @@
  * Conventions of every call
  *   - The name begins with pno_.
  *   - A buffer is a pointer and, right after it, its length in bytes.
+ *   - Every call but pno_format has, right after its first buffer, the layout by which it reads that image:
+ *     see The layout.
  *   - No pointer is null. For an empty buffer lend the address of any byte, and length 0. In C++ the data()
  *     of an empty std::vector may be null:
- *         const uint8_t none = 0;
- *         pno_store(image, image_len, name, name_len, v.empty() ? &none : v.data(), v.size(), &wrong);
+ *         const uint8_t none = 0, *bytes = v.empty() ? &none : v.data();
+ *         pno_store(image, image_len, layout, name, name_len, bytes, v.size(), &wrong);
  *   - What a call writes, the image among it, overlaps nothing else that is lent to it: no buffer, and
  *     nothing behind another pointer.
  *   - Counts, places and offsets are size_t. A value goes back through a pointer (size_t *, a name's ten
@@ -37,7 +39,7 @@ extern "C" {
 
 /* The version. While the major number is 0, the interface may change with each minor one. */
 #define PNO_VERSION_MAJOR 0
-#define PNO_VERSION_MINOR 3
+#define PNO_VERSION_MINOR 4
 #define PNO_VERSION_PATCH 0
 #define PNO_QUOTED(word) #word
 #define PNO_DOTTED(major, minor, patch) PNO_QUOTED(major) "." PNO_QUOTED(minor) "." PNO_QUOTED(patch)
@@ -50,7 +52,7 @@ extern "C" {
 #define PNO_SECTORS_MOST 1600  /* the most sectors of a volume */
 #define PNO_IMAGE_MOST 409600  /* the most bytes of a volume's image */
 #define PNO_FILES_MOST 127     /* the most files of a volume */
-#define PNO_LISTING_MOST 4212  /* the most bytes of a listing: room for every one */
+#define PNO_LISTING_MOST 4466  /* the most bytes of a listing, by any layout: room for every one */
 #define PNO_PROGRAM_MOST 32768 /* the most bytes that a store takes */
 #define PNO_LOADED_MOST 408832 /* the most bytes that a load gives: 1,597 full sectors */
 
@@ -122,6 +124,26 @@ static inline const char *pno_text(uint32_t number) {
 }
 
 /*
+ * The layout
+ *   By which rules a call reads an image, its caller chooses: 0, or constants of enum pno_layout joined by |.
+ *   Other bits are not looked at. The same image may be read by one layout and then by another.
+ *
+ * The backup mark
+ *   Later controllers take bit 10 hex of a file's status, byte 12 of its descriptor, as a mark: the file has
+ *   changed since it was last backed up. Which rule holds of that bit, layout says.
+ *   Without PNO_MARKS, the old rule: there is no mark. An image on which a file has the bit is number 4.
+ *   With PNO_MARKS, the new rule: every file may have the mark, whatever its kind, protected or not.
+ *   pno_create, pno_store, pno_append, pno_overwrite and pno_rename set it, in the status of the file that
+ *   they make or change, also where it is set; pno_protect, pno_unprotect and pno_pack leave it as it is; the
+ *   listing shows it in a field of its own. All else is as without PNO_MARKS.
+ *   pno_clear_mark takes the mark away. It always goes by the new rule.
+ *   So a volume without any mark is sound by both rules, and one with a mark by the new one alone.
+ */
+enum pno_layout {
+    PNO_MARKS = 1 /* status bit 10 hex is the backup mark */
+};
+
+/*
  * Names
  *   A disk or file name is ten bytes: one to ten printable ones (21 to 7E hex, no dot), then spaces (20 hex)
  *   up to the tenth. A name of another length, or one that breaks the rule, is number 7.
@@ -141,11 +163,11 @@ static inline const char *pno_text(uint32_t number) {
 
 /*
  * Judges an image: 0 where it is a sound volume, else the first of 1 to 6 that is due. The whole image is
- * tested for 1, then for 2, and so on.
+ * tested for 1, then for 2, and so on. A status with bit 10 hex is 4 without PNO_MARKS, and not with it.
  *
- * Stack: at most 344 bytes.
+ * Stack: at most 360 bytes.
  */
-uint32_t pno_judge(const uint8_t *image, size_t image_len);
+uint32_t pno_judge(const uint8_t *image, size_t image_len, uint32_t layout);
 
 /*
  * Makes an empty volume of n sectors of the image, whatever its bytes were: the label with the name, n and
@@ -163,9 +185,9 @@ uint32_t pno_format(uint8_t *image, size_t image_len, size_t n, const uint8_t *n
  * the system and the files hold.
  *
  * Numbers: 1 to 6.
- * Stack: at most 360 bytes.
+ * Stack: at most 376 bytes.
  */
-uint32_t pno_free_count(const uint8_t *image, size_t image_len, size_t *free_sectors);
+uint32_t pno_free_count(const uint8_t *image, size_t image_len, uint32_t layout, size_t *free_sectors);
 
 /*
  * A volume's summary: its name with the padding, its number of sectors n, of files, and of free sectors.
@@ -173,8 +195,8 @@ uint32_t pno_free_count(const uint8_t *image, size_t image_len, size_t *free_sec
  * Numbers: 1 to 6.
  * Stack: at most 392 bytes.
  */
-uint32_t pno_summary(const uint8_t *image, size_t image_len, uint8_t name[PNO_NAME_BYTES], size_t *n,
-                     size_t *files, size_t *free_sectors);
+uint32_t pno_summary(const uint8_t *image, size_t image_len, uint32_t layout, uint8_t name[PNO_NAME_BYTES],
+                     size_t *n, size_t *files, size_t *free_sectors);
 
 /* The kinds of file that pno_entry gives. */
 enum pno_kind {
@@ -194,43 +216,46 @@ enum pno_kind {
  *   sectors       the number of its sectors, without the descriptor; 0 of a program of no bytes
  *   is_protected  1 or 0
  * A program's length is 256 x sectors where the end offset, byte 16 of the header, is 0: its last sector is
- * full. Else it is 256 x (sectors - 1) and the end offset.
+ * full. Else it is 256 x (sectors - 1) and the end offset. With PNO_MARKS, bit 10 hex of byte 12 of the
+ * header is the file's mark; the kind is the same with the mark and without.
  *
  * Numbers: 1 to 6; 8 past the last file; 15 where header_len is below PNO_HEADER_BYTES.
- * Stack: at most 392 bytes.
+ * Stack: at most 408 bytes.
  */
-uint32_t pno_entry(const uint8_t *image, size_t image_len, size_t place, uint8_t *header, size_t header_len,
-                   size_t *kind, size_t *length, size_t *sectors, size_t *is_protected);
+uint32_t pno_entry(const uint8_t *image, size_t image_len, uint32_t layout, size_t place, uint8_t *header,
+                   size_t header_len, size_t *kind, size_t *length, size_t *sectors, size_t *is_protected);
 
 /*
  * Reads a sector of a file of any kind, protected or not: its 256 bytes. Offsets count from 0.
  *
  * Numbers: 1 to 6; 7; 8; 15 for an offset past the last sector, or where out_len is below PNO_SECTOR_BYTES.
- * Stack: at most 472 bytes.
+ * Stack: at most 488 bytes.
  */
-uint32_t pno_read(const uint8_t *image, size_t image_len, const uint8_t *name, size_t name_len,
-                  size_t offset, uint8_t *out, size_t out_len, size_t *wrong);
+uint32_t pno_read(const uint8_t *image, size_t image_len, uint32_t layout, const uint8_t *name,
+                  size_t name_len, size_t offset, uint8_t *out, size_t out_len, size_t *wrong);
 
 /*
  * Loads a program: its bytes, and their number behind length. Those of a program without sectors are none.
  *
  * Numbers: 1 to 6; 7; 8; 14; 15 where out_len is below the program's length, which is at most
  * PNO_LOADED_MOST.
- * Stack: at most 552 bytes.
+ * Stack: at most 536 bytes.
  */
-uint32_t pno_load(const uint8_t *image, size_t image_len, const uint8_t *name, size_t name_len, uint8_t *out,
-                  size_t out_len, size_t *length, size_t *wrong);
+uint32_t pno_load(const uint8_t *image, size_t image_len, uint32_t layout, const uint8_t *name,
+                  size_t name_len, uint8_t *out, size_t out_len, size_t *length, size_t *wrong);
 
 /*
  * The catalogue as text, and its length behind length. The first line has disk name, n and free count; then
  * one line a file, in the order of names: name, kind, length in bytes of a program or else record length,
- * sectors, and P or U for protected or not. One space between fields, names without their padding, and one
- * newline at the end of each line; no byte of zero ends the text.
+ * sectors, and P or U for protected or not; with PNO_MARKS one field more, M where the file has the mark and
+ * a hyphen where it has not. One space between fields, names without their padding, and one newline at the
+ * end of each line; no byte of zero ends the text.
  *
  * Numbers: 1 to 6; 15 where out_len is below the text's length, which is at most PNO_LISTING_MOST.
- * Stack: at most 376 bytes.
+ * Stack: at most 408 bytes.
  */
-uint32_t pno_listing(const uint8_t *image, size_t image_len, uint8_t *out, size_t out_len, size_t *length);
+uint32_t pno_listing(const uint8_t *image, size_t image_len, uint32_t layout, uint8_t *out, size_t out_len,
+                     size_t *length);
 
 /*
  * Calls that write
@@ -248,47 +273,50 @@ uint32_t pno_listing(const uint8_t *image, size_t image_len, uint8_t *out, size_
  * Creates a data file without sectors: its descriptor, which is zero but for the name, the status, the
  * records per sector (byte 13) and the record length (byte 17); its bit in the map; its place in sector 1.
  * The status is 00 (display, fixed), 02 (internal, fixed), 80 (display, variable) or 82 hex (internal,
- * variable); the other two are any byte.
+ * variable); the other two are any byte. With PNO_MARKS the status is one of these four too, and the file has
+ * the mark besides.
  *
  * Numbers: 1 to 6; 7; 9; 15 for another status; 11; 12.
- * Stack: at most 824 bytes.
+ * Stack: at most 840 bytes.
  */
-uint32_t pno_create(uint8_t *image, size_t image_len, const uint8_t *name, size_t name_len, uint8_t status,
-                    uint8_t record_length, uint8_t records_per_sector, size_t *wrong);
+uint32_t pno_create(uint8_t *image, size_t image_len, uint32_t layout, const uint8_t *name, size_t name_len,
+                    uint8_t status, uint8_t record_length, uint8_t records_per_sector, size_t *wrong);
 
 /*
  * Appends a sector to a data file: the sector's 256 bytes, its bit in the map, and in the descriptor the
- * number of sectors and the chain. The rest of the descriptor stays, the end offset and the record count
- * among it.
+ * number of sectors and the chain, with PNO_MARKS also the mark. The rest of the descriptor stays, the end
+ * offset and the record count among it.
  *
  * Numbers: 1 to 6; 7; 8; 10; 14 for a program; 15 where data_len is not PNO_SECTOR_BYTES; 12; 13, which is
  * not due where the sector that is taken follows the file's last one.
- * Stack: at most 1,080 bytes.
+ * Stack: at most 1,096 bytes.
  */
-uint32_t pno_append(uint8_t *image, size_t image_len, const uint8_t *name, size_t name_len,
+uint32_t pno_append(uint8_t *image, size_t image_len, uint32_t layout, const uint8_t *name, size_t name_len,
                     const uint8_t *data, size_t data_len, size_t *wrong);
 
 /*
- * Overwrites a sector of a data file: its 256 bytes and nothing else. Offsets count from 0.
+ * Overwrites a sector of a data file: its 256 bytes, with PNO_MARKS also the file's mark, and nothing else.
+ * Offsets count from 0.
  *
  * Numbers: 1 to 6; 7; 8; 10; 14 for a program; 15 for an offset past the last sector, or where data_len is
  * not PNO_SECTOR_BYTES.
- * Stack: at most 472 bytes.
+ * Stack: at most 488 bytes.
  */
-uint32_t pno_overwrite(uint8_t *image, size_t image_len, const uint8_t *name, size_t name_len, size_t offset,
-                       const uint8_t *data, size_t data_len, size_t *wrong);
+uint32_t pno_overwrite(uint8_t *image, size_t image_len, uint32_t layout, const uint8_t *name,
+                       size_t name_len, size_t offset, const uint8_t *data, size_t data_len, size_t *wrong);
 
 /*
  * Stores a program of 0 to PNO_PROGRAM_MOST bytes as a new file: bytes_len / 256 sectors, rounded up, the
- * rest of the last one zero; its descriptor, which is zero but for the name, status 01, the number of
- * sectors, the end offset, which is bytes_len mod 256, and the chain; the bits of all these in the map; its
- * place in sector 1. So 256 bytes take one sector, and no byte takes none but the descriptor's.
+ * rest of the last one zero; its descriptor, which is zero but for the name, status 01, or with PNO_MARKS 11
+ * hex, the number of sectors, the end offset, which is bytes_len mod 256, and the chain; the bits of all
+ * these in the map; its place in sector 1. So 256 bytes take one sector, and no byte takes none but the
+ * descriptor's.
  *
  * Numbers: 1 to 6; 7; 9; 15 where bytes_len is above PNO_PROGRAM_MOST; 11; 12, the descriptor's sector being
  * counted; 13.
  * Stack: at most 1,160 bytes.
  */
-uint32_t pno_store(uint8_t *image, size_t image_len, const uint8_t *name, size_t name_len,
+uint32_t pno_store(uint8_t *image, size_t image_len, uint32_t layout, const uint8_t *name, size_t name_len,
                    const uint8_t *bytes, size_t bytes_len, size_t *wrong);
 
 /*
@@ -296,41 +324,57 @@ uint32_t pno_store(uint8_t *image, size_t image_len, const uint8_t *name, size_t
  * themselves keep their bytes.
  *
  * Numbers: 1 to 6; 7; 8; 10.
- * Stack: at most 1,016 bytes.
+ * Stack: at most 1,032 bytes.
  */
-uint32_t pno_delete(uint8_t *image, size_t image_len, const uint8_t *name, size_t name_len, size_t *wrong);
+uint32_t pno_delete(uint8_t *image, size_t image_len, uint32_t layout, const uint8_t *name, size_t name_len,
+                    size_t *wrong);
 
 /*
- * Renames a file: the ten bytes of its name, and its place in sector 1.
+ * Renames a file: the ten bytes of its name, and its place in sector 1; with PNO_MARKS also its mark.
  *
  * Numbers: 1 to 6; 7 for the old name (which is 0), then for the new one (which is 1); 8 for the old one; 9
  * for the new one, also where it is the old one; 10.
- * Stack: at most 984 bytes.
+ * Stack: at most 1,000 bytes.
  */
-uint32_t pno_rename(uint8_t *image, size_t image_len, const uint8_t *old, size_t old_len,
+uint32_t pno_rename(uint8_t *image, size_t image_len, uint32_t layout, const uint8_t *old, size_t old_len,
                     const uint8_t *new_name, size_t new_len, size_t *which, size_t *wrong);
 
 /*
- * Protects a file, and unprotects it: one bit of its status. Either may be done again.
+ * Protects a file, and unprotects it: one bit of its status, which leaves the mark as it is. Either may be
+ * done again.
  *
  * Numbers: 1 to 6; 7; 8.
- * Stack: at most 456 bytes.
+ * Stack: at most 472 bytes.
  */
-uint32_t pno_protect(uint8_t *image, size_t image_len, const uint8_t *name, size_t name_len, size_t *wrong);
-uint32_t pno_unprotect(uint8_t *image, size_t image_len, const uint8_t *name, size_t name_len, size_t *wrong);
+uint32_t pno_protect(uint8_t *image, size_t image_len, uint32_t layout, const uint8_t *name, size_t name_len,
+                     size_t *wrong);
+uint32_t pno_unprotect(uint8_t *image, size_t image_len, uint32_t layout, const uint8_t *name,
+                       size_t name_len, size_t *wrong);
+
+/*
+ * Clears the mark of a file, protected or not: one bit of its status, and nothing else. It may be done again.
+ * This call always goes by the new rule: PNO_MARKS counts as set, whatever layout says.
+ *
+ * Numbers: 1 to 6; 7; 8.
+ * Stack: at most 472 bytes.
+ */
+uint32_t pno_clear_mark(uint8_t *image, size_t image_len, uint32_t layout, const uint8_t *name,
+                        size_t name_len, size_t *wrong);
 
 /*
  * Packs a volume into another image of the same length, whatever bytes that had: the target is then a sound
  * volume with the source's label, files and contents, and has nothing else on it. Bytes 0 to 55 of sector 0
  * are the source's. The descriptors lie from sector 2 on in the order of names, bytes 0 to 27 of each as
- * they were; the data of all files follows in that order without a gap, in one block a file; every free
- * sector is E5 hex. So volumes that differ only in where things lie, and in what is left in free sectors,
- * pack to the same bytes, and packing what was packed changes nothing. The source is read and never changed.
+ * they were, the mark among them; the data of all files follows in that order without a gap, in one block a
+ * file; every free sector is E5 hex. So volumes that differ only in where things lie, and in what is left in
+ * free sectors, pack to the same bytes, and packing what was packed changes nothing. The source is read, by
+ * the layout, and never changed.
  *
  * Numbers: 1 to 6 for the source; 15 where target_len is not source_len.
- * Stack: at most 760 bytes.
+ * Stack: at most 776 bytes.
  */
-uint32_t pno_pack(const uint8_t *source, size_t source_len, uint8_t *target, size_t target_len);
+uint32_t pno_pack(const uint8_t *source, size_t source_len, uint32_t layout, uint8_t *target,
+                  size_t target_len);
 
 #ifdef __cplusplus
 }

@@ -7,6 +7,7 @@
 use host::calls::Calls;
 use host::comparison::{Comparison, Part};
 use host::images::Images;
+use host::layout::Layout;
 use host::outside::Outside;
 use host::packing::Packs;
 use host::sequences::Sequences;
@@ -38,7 +39,7 @@ struct Arguments {
 
 impl Arguments {
     fn read() -> Result<Self, String> {
-        let (images, calls, sequences, packs) = (200_000, 200_000, 200_000, 6_000);
+        let (images, calls, sequences, packs) = (200_000, 200_000, 220_000, 8_000);
         let (seed, seeds, files) = (1, 1, Vec::new());
         let mut arguments = Arguments { images, calls, sequences, packs, seed, seeds, files };
         let mut words = std::env::args().skip(1);
@@ -91,11 +92,16 @@ fn run(arguments: &Arguments) -> Result<(), String> {
     Ok(())
 }
 
-/// The images from outside: the library's number for each, and the one that came with it.
+/// The images from outside: the library's number for each by both rules, and what came with it.
 fn list(outside: &[Outside]) {
-    for Outside { name, image, number, .. } in outside {
-        let expected = number.map_or(String::new(), |number| format!(", expected {}", number));
-        println!("{}: {}{}", name, library::number(image), expected);
+    for Outside { name, image, numbers, .. } in outside {
+        let by_rule = Layout::BOTH.map(|layout| {
+            let expected = numbers.by(layout);
+            let expected =
+                expected.map_or(String::new(), |number| format!(", expected {}", number));
+            format!("{}{}", library::number(image, layout), expected)
+        });
+        println!("{}: {}; with marks {}", name, by_rule[0], by_rule[1]);
     }
     println!("{} images from outside\n", outside.len());
 }

@@ -29,6 +29,11 @@ pub trait Part {
 
     fn tally(&self) -> &Tally;
 
+    /// How much was compared.
+    fn total(&self) -> u64 {
+        self.tally().total()
+    }
+
     /// Writes what came up, and fails where something did too rarely.
     fn report(&self) -> Result<(), String> {
         self.tally().report()
@@ -77,7 +82,7 @@ impl<P: Part> Comparison<P> {
     }
 
     pub fn total(&self) -> u64 {
-        self.part.tally().total()
+        self.part.total()
     }
 
     pub fn report(&self) -> Result<(), String> {

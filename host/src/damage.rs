@@ -1,6 +1,6 @@
 //! Changes of a sound disk, each aimed at one sentence of document 01, with the number that the
-//! paper gives for the changed image. The number follows from the disk's plan and from the
-//! sentence, never from a judge.
+//! paper gives for the changed image by the new rule, by which every sound disk is one. The number
+//! follows from the disk's plan and from the sentence, never from a judge.
 
 mod carried;
 mod chain;
@@ -12,6 +12,7 @@ mod label;
 mod map;
 mod values;
 
+use crate::layout::Layout;
 use crate::random::Random;
 use crate::volumes::{Disk, File, Name, HEADER_BYTES, SECTOR_BYTES};
 
@@ -37,7 +38,7 @@ impl Edit {
 pub struct Change {
     /// What was done, for a report.
     pub what: &'static str,
-    /// The paper's number for the changed image, where the change settles it.
+    /// The paper's number for the changed image by the new rule, where the change settles it.
     pub number: Option<u32>,
     pub edits: Vec<Edit>,
     /// The length in bytes of the changed image.
@@ -98,7 +99,7 @@ impl<'disk> Damage<'disk> {
     fn put_in_header(&mut self, what: &'static str, file: &File, byte: usize, bytes: &[u8]) {
         let mut changed = file.clone();
         changed.header[byte..][..bytes.len()].copy_from_slice(bytes);
-        let number = if changed.is_of_a_kind() { 0 } else { 4 };
+        let number = if changed.is_of_a_kind(Layout::MARKS) { 0 } else { 4 };
         self.put(what, number, in_descriptor(file, byte), bytes);
     }
 

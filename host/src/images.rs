@@ -1,36 +1,42 @@
 //! The comparison of images: the library's judge with both judges of this folder, and all three
-//! with the number that the paper gives where the image was built to have one.
+//! with the number that the paper gives where the image was built to have one. Each is judged by
+//! both rules.
 
 use crate::comparison::Part;
+use crate::layout::Layout;
 use crate::outside::Outside;
 use crate::random::Random;
 use crate::reference::{self, Descriptor, Form, Kind};
 use crate::suites::{edges_of_a_block, of_every_value, two_blocks, Batch, Image};
 use crate::table::JUDGE;
 use crate::tally::{hold, Tally};
-use crate::volumes::{Disk, File, MOST_BLOCKS, MOST_FILES, MOST_SECTORS, SECTOR_BYTES};
+use crate::volumes::{Disk, File, MARK, MOST_BLOCKS, MOST_FILES, MOST_SECTORS, SECTOR_BYTES};
 use crate::{library, tuned};
 
 pub type Comparison = crate::comparison::Comparison<Images>;
 
-/// How many images a number must at least have been given for.
+/// How many images a number must at least have been given for, by each rule.
 const LEAST_OF_EACH: u64 = 1000;
 /// How many changes of one disk are tried.
 const CHANGES: usize = 80;
 const SMALL_DISKS: usize = 10_000;
 
-const KNOWN: &str = "images whose number was known beforehand";
+const KNOWN: &str = "numbers that were known beforehand, of an image by a rule";
 
 /// What the sound disks are meant to show.
-const OF_DISKS: [(&str, fn(&Disk) -> bool); 3] = [
+const OF_DISKS: [(&str, fn(&Disk) -> bool); 4] = [
     ("sound disks built and read back", |_| true),
     ("  full", |disk| disk.free().is_empty()),
     ("  with 127 files", |disk| disk.files.len() == MOST_FILES),
+    ("  with a mark, sound by the new rule alone", Disk::is_marked),
 ];
 
 /// The same of each file on them.
-const OF_FILES: [(&str, fn(&File) -> bool); 8] = [
+const OF_FILES: [(&str, fn(&File) -> bool); 11] = [
     ("files on them", |_| true),
+    ("  with the mark", File::is_marked),
+    ("  with the mark and protected", |file| file.is_marked() && file.status() & 0x08 != 0),
+    ("  programs with the mark", |file| file.is_marked() && file.is_program()),
     ("  of 76 blocks", |file| file.runs.len() == MOST_BLOCKS),
     ("  without a sector", |file| file.runs.is_empty()),
     ("  programs", File::is_program),
@@ -87,11 +93,16 @@ impl Part for Images {
     }
 
     fn on_outside(&mut self, outside: &Outside, _: &mut Random) -> Result<(), String> {
-        self.image(&Image::of_outside(outside))
+        self.by_both(&Image::of_outside(outside))
     }
 
     fn tally(&self) -> &Tally {
         &self.tally
+    }
+
+    /// Each image was judged by both rules.
+    fn total(&self) -> u64 {
+        self.tally.total() / 2
     }
 
     fn report(&self) -> Result<(), String> {
@@ -103,7 +114,7 @@ impl Part for Images {
 impl Images {
     fn batch(&mut self, batch: &Batch) -> Result<(), String> {
         let mut buffer = std::mem::take(&mut self.buffer);
-        batch.each_image(&mut buffer, |image| self.image(image))?;
+        batch.each_image(&mut buffer, |image| self.by_both(image))?;
         self.buffer = buffer;
         if batch.number == 0 {
             self.count(&batch.disk);
@@ -120,24 +131,28 @@ impl Images {
         }
     }
 
-    fn image(&mut self, image: &Image) -> Result<(), String> {
-        let given = Given::of(image.bytes);
-        if !given.agree_with(image.number) {
-            return Err(difference(image, &given));
+    fn by_both(&mut self, image: &Image) -> Result<(), String> {
+        Layout::BOTH.into_iter().try_for_each(|layout| self.image(image, layout))
+    }
+
+    fn image(&mut self, image: &Image, layout: Layout) -> Result<(), String> {
+        let (given, paper) = (Given::of(image.bytes, layout), image.number(layout));
+        if !given.agree_with(paper) {
+            return Err(difference(image, layout, &given));
         }
-        self.tally.give(JUDGE.title, given.library);
-        if image.number.is_some() {
+        self.tally.give(JUDGE.title, layout, given.library);
+        if paper.is_some() {
             self.tally.meet(KNOWN);
         }
         Ok(())
     }
 }
 
-fn difference(image: &Image, given: &Given) -> String {
+fn difference(image: &Image, layout: Layout, given: &Given) -> String {
     let Given { library, reference, tuned } = given;
-    let paper = image.number.map_or("not settled".to_string(), |number| number.to_string());
+    let paper = image.number(layout).map_or("not settled".to_string(), |number| number.to_string());
     let lines = [
-        format!("difference in \"{}\"", image.what),
+        format!("difference in \"{}\" by {:?}", image.what, layout),
         format!("library {}, reference {}, tuned {}", library, reference, tuned),
         format!("by the paper {}", paper),
         format!("image kept as {}", image.keep()),
@@ -153,11 +168,11 @@ struct Given {
 }
 
 impl Given {
-    fn of(image: &[u8]) -> Self {
+    fn of(image: &[u8], layout: Layout) -> Self {
         Given {
-            library: library::number(image),
-            reference: reference::number(image),
-            tuned: tuned::number(image),
+            library: library::number(image, layout),
+            reference: reference::number(image, layout),
+            tuned: tuned::number(image, layout),
         }
     }
 
@@ -169,7 +184,7 @@ impl Given {
 
 /// Whether the reference finds the files of a sound disk as they were planned.
 fn reads_back(disk: &Disk) -> Option<()> {
-    let volume = reference::judge(&disk.image).ok()?;
+    let volume = reference::judge(&disk.image, Layout::MARKS).ok()?;
     let mut found = volume.files();
     for file in &disk.files {
         let (number, descriptor) = found.next()?;
@@ -177,6 +192,7 @@ fn reads_back(disk: &Disk) -> Option<()> {
             && *descriptor.name() == file.name()
             && descriptor.kind() == Some(kind(file))
             && descriptor.has(Descriptor::PROTECTED) == (file.status() & 0x08 != 0)
+            && descriptor.has(Descriptor::MARKED) == file.is_marked()
             && descriptor.sectors() == file.count()
             && descriptor.chain().places().eq(file.sectors());
         same.then_some(())?;
@@ -186,7 +202,7 @@ fn reads_back(disk: &Disk) -> Option<()> {
 
 fn kind(file: &File) -> Kind {
     let record_length = file.header[17];
-    match file.status() & !0x08 {
+    match file.status() & !(0x08 | MARK) {
         0x00 => Kind::Fixed { record_length, form: Form::Display },
         0x02 => Kind::Fixed { record_length, form: Form::Internal },
         0x80 => Kind::Variable { record_length, form: Form::Display },

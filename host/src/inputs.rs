@@ -1,8 +1,10 @@
-//! Writes inputs for the catalogue program into a folder, each with what the program must print:
-//! `NAME.dsk` and `NAME.program.txt`. To those made here come the images that are given.
+//! Writes inputs for the two catalogue programs into a folder, each with what they must print:
+//! `NAME.dsk`, `NAME.program.txt` and, for the one by the new rule, `NAME.marks.program.txt`. To
+//! those made here come the images that are given.
 //!
 //! `inputs SEED FOLDER [IMAGE...]`
 
+use host::layout::Layout;
 use host::random::Random;
 use host::reference::catalogue;
 use host::suites::Batch;
@@ -14,6 +16,10 @@ use std::process::ExitCode;
 /// The sectors of an image of 65,536 bytes, the longest that the program takes.
 const MOST_TAKEN: usize = 256;
 const CHANGES: usize = 200;
+
+/// The programs by the rules that they go by, with the ending of what is expected of them.
+const PROGRAMS: [(Layout, &str); 2] =
+    [(Layout::OLD, "program.txt"), (Layout::MARKS, "marks.program.txt")];
 
 fn main() -> ExitCode {
     let mut words = std::env::args().skip(1);
@@ -60,9 +66,11 @@ impl Input {
 
     fn write(&self, folder: &Path) -> Result<(), String> {
         let path = folder.join(format!("{}.dsk", self.name));
-        let expected = catalogue(&self.bytes);
+        let print = |(layout, ending)| {
+            std::fs::write(path.with_extension(ending), catalogue(&self.bytes, layout))
+        };
         std::fs::write(&path, &self.bytes)
-            .and_then(|()| std::fs::write(path.with_extension("program.txt"), expected))
+            .and_then(|()| PROGRAMS.into_iter().try_for_each(print))
             .map_err(|error| format!("{}: {}", path.display(), error))
     }
 }
@@ -71,10 +79,8 @@ fn inputs(seed: u64) -> Result<Vec<Input>, String> {
     let random = &mut Random::new(seed);
     let mut inputs = Vec::new();
     for (name, disk) in sound_disks(random) {
-        let taken = disk.sectors <= MOST_TAKEN;
-        let planned = if taken { lines(&disk) } else { "REFUSED 1\n".to_string() };
-        if catalogue(&disk.image) != planned {
-            return Err(format!("{}: the reference lists other lines than were planned", name));
+        if Layout::BOTH.into_iter().any(|by| catalogue(&disk.image, by) != printed(&disk, by)) {
+            return Err(format!("{}: the reference prints other lines than were planned", name));
         }
         inputs.push(Input { name, bytes: disk.image });
     }
@@ -83,7 +89,17 @@ fn inputs(seed: u64) -> Result<Vec<Input>, String> {
     Ok(inputs)
 }
 
-/// Disks of the greatest length that is taken, of the next one, and of other sizes.
+/// What a program prints for a disk that is sound by the new rule.
+fn printed(disk: &Disk, layout: Layout) -> String {
+    match (disk.sectors <= MOST_TAKEN, layout.marks || !disk.is_marked()) {
+        (false, _) => "REFUSED 1\n".to_string(),
+        (true, false) => "REFUSED 4\n".to_string(),
+        (true, true) => lines(disk, layout),
+    }
+}
+
+/// Disks of the greatest length that is taken, of the next one, and of other sizes, some with
+/// marks.
 fn sound_disks(random: &mut Random) -> Vec<(String, Disk)> {
     let mut disks = Vec::new();
     let mut add = |name: &str, shape: Shape, random: &mut Random| {
@@ -97,6 +113,13 @@ fn sound_disks(random: &mut Random) -> Vec<(String, Disk)> {
     for sectors in [3, 4, 8, 34, 35, 64, 90, 100, 150, 180, 200, 240, MOST_TAKEN - 1, MOST_TAKEN] {
         add(&format!("sound-{}-sectors", sectors), Shape::any(sectors, random), random);
     }
+    let add_marked = |(name, disk): &(String, Disk)| {
+        let mut disk = disk.clone();
+        disk.mark_by_chance(random);
+        (format!("{}-marked", name), disk)
+    };
+    let marked: Vec<(String, Disk)> = disks.iter().map(add_marked).collect();
+    disks.extend(marked);
     disks
 }
 
@@ -108,7 +131,8 @@ fn of_no_volume(random: &mut Random) -> Vec<Input> {
     lengths.map(|length| Input::new(&format!("{}-bytes", length), &bytes[..length])).into()
 }
 
-/// For each of the numbers 2 to 6 a damaged disk of the greatest length that is taken.
+/// For each of the numbers 2 to 6, by both rules, a damaged disk of the greatest length that is
+/// taken.
 fn unsound(random: &mut Random) -> Result<Vec<Input>, String> {
     let mut buffer = random.bytes(SECTOR_BYTES * (MOST_SECTORS + 2));
     let mut inputs = Vec::new();
@@ -116,7 +140,8 @@ fn unsound(random: &mut Random) -> Result<Vec<Input>, String> {
         let batch = Batch::of_any_shape(MOST_TAKEN, CHANGES, random);
         batch.each_image(&mut buffer, |image| {
             let wanted = 2 + inputs.len() as u32;
-            if image.number == Some(wanted) && image.bytes.len() == SECTOR_BYTES * MOST_TAKEN {
+            let is_wanted = Layout::BOTH.map(|layout| image.number(layout)) == [Some(wanted); 2];
+            if is_wanted && image.bytes.len() == SECTOR_BYTES * MOST_TAKEN {
                 inputs.push(Input::new(&format!("65536-number-{}", wanted), image.bytes));
             }
             Ok(())

@@ -1,8 +1,10 @@
 //! Programs of every length around whole sectors, short ones and the longest: each is stored on
 //! volumes with more sectors free than it takes, with just as many, and with one less; then it is
 //! looked at and loaded. Library, reference and plan must agree on every call, and what they agree
-//! on must be what the paper's formulas say, which stand here once more.
+//! on must be what the paper's formulas say, which stand here once more. All of it is done by each
+//! rule.
 
+use crate::layout::Layout;
 use crate::random::Random;
 use crate::suites::Image;
 use crate::table::{self, Arguments, Call, Given, Written};
@@ -22,12 +24,18 @@ const OTHER: &Name = b"OTHER     ";
 pub fn compared(seed: u64) -> Result<u64, String> {
     println!("lengths of programs, seed {}", seed);
     let mut lengths = Lengths::new(seed);
-    for length in LENGTHS.into_iter().flatten() {
-        lengths.length(length).map_err(|wrong| told(length, &wrong, seed))?;
+    for layout in Layout::BOTH {
+        lengths.layout = layout;
+        for length in LENGTHS.into_iter().flatten() {
+            lengths.length(length).map_err(|wrong| told(length, &wrong, seed))?;
+        }
+        lengths.too_long().map_err(|wrong| told(TOO_LONG, &wrong, seed))?;
     }
-    lengths.too_long().map_err(|wrong| told(TOO_LONG, &wrong, seed))?;
     let Lengths { calls, lengths, loaded, few_sectors, few_bytes, too_long, .. } = lengths;
-    println!("{:>8} lengths, from 0 to 1,100 and from 32,500 to 32,768 bytes", lengths);
+    println!(
+        "{:>8} lengths, from 0 to 1,100 and from 32,500 to 32,768 bytes by each rule",
+        lengths
+    );
     println!("{:>8} programs stored, looked at and loaded", loaded);
     println!("{:>8} stores with a sector too few free: 12", few_sectors);
     println!("{:>8} loads with a byte too few lent: 15", few_bytes);
@@ -43,6 +51,7 @@ fn told(length: usize, wrong: &str, seed: u64) -> String {
 /// What was compared.
 struct Lengths {
     random: Random,
+    layout: Layout,
     calls: u64,
     lengths: u64,
     loaded: u64,
@@ -53,10 +62,10 @@ struct Lengths {
 
 impl Lengths {
     fn new(seed: u64) -> Self {
-        let random = Random::new(seed);
+        let (random, layout) = (Random::new(seed), Layout::OLD);
         let (calls, lengths, loaded) = (0, 0, 0);
         let (few_sectors, few_bytes, too_long) = (0, 0, 0);
-        Lengths { random, calls, lengths, loaded, few_sectors, few_bytes, too_long }
+        Lengths { random, layout, calls, lengths, loaded, few_sectors, few_bytes, too_long }
     }
 
     fn length(&mut self, length: usize) -> Result<(), String> {
@@ -66,7 +75,7 @@ impl Lengths {
         let bytes = self.random.bytes(length);
         let spare = self.random.within(1..=MOST_OTHERS);
         for free in [takes, takes + spare] {
-            let before = volume_with(free, &mut self.random);
+            let before = self.volume_with(free);
             let (_, disk) = self.call(&STORE, &to_store(&bytes), &before, 0)?;
             let disk = disk.ok_or("a store that is done leaves a disk")?;
             let (written, _) = self.call(&FREE_COUNT, &NONE, &disk, 0)?;
@@ -74,7 +83,7 @@ impl Lengths {
             self.entry(&disk, &bytes, sectors)?;
             self.load(&disk, &bytes)?;
         }
-        let full = volume_with(takes - 1, &mut self.random);
+        let full = self.volume_with(takes - 1);
         self.call(&STORE, &to_store(&bytes), &full, 12)?;
         self.few_sectors += 1;
         self.lengths += 1;
@@ -86,6 +95,8 @@ impl Lengths {
         let at = disk.files.iter().position(|file| file.name() == *PROGRAM).unwrap_or(usize::MAX);
         let asked = Arguments { at, room: HEADER_BYTES, ..NONE };
         let (entry, _) = self.call(&ENTRY, &asked, disk, 0)?;
+        let status = if self.layout.marks { 0x11 } else { 0x01 };
+        must_be("status", entry.bytes[12].into(), status)?;
         must_be("byte 16", entry.bytes[16].into(), bytes.len() % 256)?;
         must_be("number of the kind", entry.numbers[0], 0)?;
         must_be("length of the entry", entry.numbers[1], bytes.len())?;
@@ -111,7 +122,7 @@ impl Lengths {
     fn too_long(&mut self) -> Result<(), String> {
         let bytes = self.random.bytes(TOO_LONG);
         for free in [0, 1, 128, 129, 130, 200] {
-            let disk = volume_with(free, &mut self.random);
+            let disk = self.volume_with(free);
             self.call(&STORE, &to_store(&bytes), &disk, 15)?;
             self.too_long += 1;
         }
@@ -127,10 +138,27 @@ impl Lengths {
         number: u32,
     ) -> Result<(Written, Option<Disk>), String> {
         let image = Image::as_planned("a volume for a program", disk);
-        let case = table::compared(call, arguments, &image, &mut self.random)?;
+        let arguments = arguments.clone().by(self.layout, &mut self.random);
+        let case = table::compared(call, &arguments, &image, &mut self.random)?;
         self.calls += 1;
         must_be(call.title, case.number as usize, number as usize)?;
         Ok((case.written, case.disk))
+    }
+
+    /// A volume on which so many sectors are free, all before or all behind those of another file,
+    /// which may have the mark where there are marks.
+    fn volume_with(&mut self, free: usize) -> Disk {
+        let random = &mut self.random;
+        let held = random.within(1..=MOST_OTHERS);
+        let descriptor = random.pick(&[2, 2 + free]);
+        let run = Run { start: descriptor + 1, length: held - 1 };
+        let runs = if run.length == 0 { vec![] } else { vec![run] };
+        let file = File::new(*OTHER, descriptor, runs, random);
+        let mut disk = Disk::of_files(2 + held + free, vec![file], random);
+        if self.layout.marks {
+            disk.mark_by_chance(random);
+        }
+        disk
     }
 }
 
@@ -140,16 +168,6 @@ fn must_be(what: &str, found: usize, expected: usize) -> Result<(), String> {
     } else {
         Err(format!("{} {}, not {}", what, found, expected))
     }
-}
-
-/// A volume on which so many sectors are free, all before or all behind those of another file.
-fn volume_with(free: usize, random: &mut Random) -> Disk {
-    let held = random.within(1..=MOST_OTHERS);
-    let descriptor = random.pick(&[2, 2 + free]);
-    let run = Run { start: descriptor + 1, length: held - 1 };
-    let runs = if run.length == 0 { vec![] } else { vec![run] };
-    let file = File::new(*OTHER, descriptor, runs, random);
-    Disk::of_files(2 + held + free, vec![file], random)
 }
 
 fn to_store(bytes: &[u8]) -> Arguments {

@@ -6,6 +6,7 @@ pub mod comparison;
 pub mod damage;
 pub mod frames;
 pub mod images;
+pub mod layout;
 pub mod lengths;
 pub mod library;
 pub mod names;

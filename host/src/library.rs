@@ -1,11 +1,12 @@
 //! The library's functions as the table asks them, by the C interface itself. Hosts have
 //! `pnoelithe`.
 
+use crate::layout::Layout;
 use crate::pnoelithe::imported;
 
 /// The number that the library gives for an image.
-pub fn number(image: &[u8]) -> u32 {
-    unsafe { imported::pno_judge(image.as_ptr(), image.len()) }
+pub fn number(image: &[u8], layout: Layout) -> u32 {
+    unsafe { imported::pno_judge(image.as_ptr(), image.len(), layout.bits()) }
 }
 
 /// `ask!(function, arguments...)`: the function's number. What is lent stands in brackets, and goes

@@ -1,13 +1,14 @@
-//! Names that are wrong in every way: each byte at each place of short and long ones, each byte after
-//! a space, each length. Every call that takes a name is asked with all of them. Library, reference
-//! and plan must agree on where a name is wrong, and what they agree on must be the place at which
-//! it was made wrong.
+//! Names that are wrong in every way: each byte at each place of short and long ones, each byte
+//! after a space, each length. Every call that takes a name is asked with all of them, by one rule
+//! or the other. Library, reference and plan must agree on where a name is wrong, and what they
+//! agree on must be the place at which it was made wrong.
 
+use crate::layout::Layout;
 use crate::random::Random;
 use crate::suites::Image;
 use crate::table::{self, Arguments, Call, Given, CALLS, NONE};
 use crate::tally::{hold, write_row, LEAST};
-use crate::volumes::{is_letter, Disk, File, Name, Run, SECTOR_BYTES};
+use crate::volumes::{is_letter, Disk, File, Name, Run, MARK, SECTOR_BYTES};
 use std::collections::BTreeMap;
 
 const LETTERS: &Name = b"ABCDEFGHIJ";
@@ -106,7 +107,8 @@ fn of_length(length: usize) -> [Made; 3] {
 
 struct Names {
     random: Random,
-    disk: Disk,
+    /// Without any mark, and with all.
+    disks: [Disk; 2],
     /// The wrong places and how often each came up, by what was asked.
     places: BTreeMap<(&'static str, Option<usize>), u64>,
     calls: u64,
@@ -120,8 +122,8 @@ const BOTH: &str = "rename, both";
 impl Names {
     fn new(seed: u64) -> Self {
         let mut random = Random::new(seed);
-        let disk = volume(&mut random);
-        Names { random, disk, places: BTreeMap::new(), calls: 0 }
+        let disks = [0, MARK].map(|mark| volume(mark, &mut random));
+        Names { random, disks, places: BTreeMap::new(), calls: 0 }
     }
 
     /// Every call with a name. A rename has it as its old name, as its new one, and as its old one
@@ -152,10 +154,14 @@ impl Names {
         which: Option<usize>,
         wrong: Option<usize>,
     ) -> Result<(), String> {
-        let at = if call.is_judging() { 0 } else { self.disk.sectors };
+        let layout = self.random.pick(&Layout::BOTH);
+        // By the new rule both will do.
+        let marked = layout.marks && self.random.once_in(2);
+        let disk = &self.disks[usize::from(marked)];
+        let at = if call.is_judging() { 0 } else { disk.sectors };
         let (name, other, room) = (name.clone(), other.clone(), SECTOR_BYTES);
-        let arguments = Arguments { name, other, at, room, ..NONE };
-        let image = Image::as_planned("a volume for names", &self.disk);
+        let arguments = Arguments { name, other, at, room, ..NONE }.by(layout, &mut self.random);
+        let image = Image::as_planned("a volume for names", disk);
         let case = table::compared(call, &arguments, &image, &mut self.random)?;
         let found = (case.number == 7, case.written.which, case.written.wrong);
         if found != (wrong.is_some(), which, wrong) {
@@ -191,11 +197,13 @@ impl Names {
     }
 }
 
-/// A small one with a file of each of the names, every one with a sector.
-fn volume(random: &mut Random) -> Disk {
+/// A small one with a file of each of the names, every one with a sector and marked or not.
+fn volume(mark: u8, random: &mut Random) -> Disk {
     let file = |(place, name): (usize, &&Name)| {
         let runs = vec![Run { start: 6 + place, length: 1 }];
-        File::new(**name, 2 + place, runs, random)
+        let mut file = File::new(**name, 2 + place, runs, random);
+        file.header[12] |= mark;
+        file
     };
     let files = FILES.iter().enumerate().map(file).collect();
     Disk::of_files(12, files, random)

@@ -1,16 +1,51 @@
 //! Images that nobody here built, with what is expected of them where that lies beside them.
 
+use crate::layout::Layout;
+use crate::suites::Numbers;
 use std::path::Path;
 
 pub struct Outside {
     pub name: String,
     pub image: Vec<u8>,
-    /// The lines of the catalogue, or `REFUSED` and the number: `NAME.rows.txt`.
-    pub rows: Option<String>,
-    /// What the catalogue program prints: `NAME.program.txt`.
-    pub program: Option<String>,
-    /// The number: `NAME.number.txt`, or else what the rows say.
-    pub number: Option<u32>,
+    /// The lines of the catalogue, or `REFUSED` and the number: `NAME.rows.txt`, and by the new
+    /// rule `NAME.marks.rows.txt`.
+    pub rows: Texts,
+    /// What the catalogue programs print: `NAME.program.txt` and `NAME.marks.program.txt`.
+    pub programs: Texts,
+    /// The numbers: `NAME.number.txt` by the old rule, or else what the rows say.
+    pub numbers: Numbers,
+}
+
+/// What is expected by each rule.
+pub struct Texts {
+    old: Option<String>,
+    new: Option<String>,
+}
+
+impl Texts {
+    /// Those beside an image under these endings.
+    fn beside(path: &Path, [old, new]: [&str; 2]) -> Self {
+        let read = |ending| std::fs::read_to_string(path.with_extension(ending)).ok();
+        let old = read(old);
+        let new = read(new).or_else(|| old.as_deref().and_then(without_marks));
+        Texts { old, new }
+    }
+
+    pub fn by(&self, layout: Layout) -> Option<&str> {
+        let text = if layout.marks { &self.new } else { &self.old };
+        text.as_deref()
+    }
+}
+
+/// What the new rule gives where the old one gives this text: on a sound volume no file has the
+/// mark, so that every line of a file ends in a hyphen. What the old rule refuses with 4 it may not
+/// refuse.
+fn without_marks(text: &str) -> Option<String> {
+    if text.starts_with("REFUSED") {
+        return (text != "REFUSED 4\n").then(|| text.to_string());
+    }
+    let (volume, files) = text.split_once('\n')?;
+    Some([volume, "\n", &files.replace('\n', " -\n")].concat())
 }
 
 impl Outside {
@@ -18,16 +53,20 @@ impl Outside {
         let name = path.file_name().unwrap_or_default().to_string_lossy().into_owned();
         let image =
             std::fs::read(path).map_err(|error| format!("{}: {}", path.display(), error))?;
-        let beside = |ending| std::fs::read_to_string(path.with_extension(ending)).ok();
-        let (rows, program) = (beside("rows.txt"), beside("program.txt"));
-        let number = beside("number.txt").or_else(|| rows.as_deref().map(number_of_rows));
-        let number = number.map(|number| number.trim().parse());
-        let number =
-            number.transpose().map_err(|error| format!("number of {}: {}", name, error))?;
-        Ok(Outside { name, image, rows, program, number })
+        let rows = Texts::beside(path, ["rows.txt", "marks.rows.txt"]);
+        let programs = Texts::beside(path, ["program.txt", "marks.program.txt"]);
+        let told = std::fs::read_to_string(path.with_extension("number.txt")).ok();
+        let numbers = match told.map(|number| number.trim().parse()) {
+            Some(Ok(number)) => Numbers::by_old(Some(number)),
+            Some(Err(error)) => return Err(format!("number of {}: {}", name, error)),
+            None => Numbers::each(|layout| number_of_rows(rows.by(layout)?)),
+        };
+        Ok(Outside { name, image, rows, programs, numbers })
     }
 }
 
-fn number_of_rows(rows: &str) -> String {
-    rows.strip_prefix("REFUSED ").unwrap_or("0").to_string()
+/// A sound disk may have the word as its name, and more in its line.
+fn number_of_rows(rows: &str) -> Option<u32> {
+    let refused = rows.strip_prefix("REFUSED ").and_then(|number| number.trim().parse().ok());
+    Some(refused.unwrap_or(0))
 }

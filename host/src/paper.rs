@@ -5,6 +5,11 @@ use crate::volumes::SECTOR_BYTES;
 
 /// The listing of case M.
 pub(crate) const CASE_M: &str = "SHELF 64 57\nALPHA PROGRAM 300 2 U\nNOTES DIS/VAR 80 1 U\n";
+/// By the new rule, of files without the mark, and of those that calls by that rule have made.
+pub(crate) const CASE_M_UNMARKED: &str =
+    "SHELF 64 57\nALPHA PROGRAM 300 2 U -\nNOTES DIS/VAR 80 1 U -\n";
+pub(crate) const CASE_M_MARKED: &str =
+    "SHELF 64 57\nALPHA PROGRAM 300 2 U M\nNOTES DIS/VAR 80 1 U M\n";
 
 /// Fails where a case is not shown.
 pub(crate) fn all_shown(cases: &[(&str, bool)]) -> Result<(), String> {

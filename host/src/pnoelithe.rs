@@ -5,9 +5,9 @@
 //! rustc --edition 2021 program.rs -C link-arg=target/staticlib/libpnoelithe.a
 //! ```
 //!
-//! The header says of each call which bytes it reads and writes. A call that is refused has written
-//! nothing. Whatever bytes are lent, and however few, no call reads or writes beside them, keeps
-//! anything of them, or ends the program.
+//! The header says of each call which bytes it reads and writes, and what differs by the layout
+//! that it is asked with. A call that is refused has written nothing. Whatever bytes are lent, and
+//! however few, no call reads or writes beside them, keeps anything of them, or ends the program.
 
 use std::fmt::{self, Display, Formatter};
 
@@ -25,12 +25,32 @@ pub const SECTORS_MOST: usize = 1600;
 pub const IMAGE_MOST: usize = 409_600;
 /// The most files of a volume.
 pub const FILES_MOST: usize = 127;
-/// Room for every listing.
-pub const LISTING_MOST: usize = 4212;
+/// Room for every listing, by any layout.
+pub const LISTING_MOST: usize = 4466;
 /// The most bytes that a store takes.
 pub const PROGRAM_MOST: usize = 32_768;
 /// The most bytes that a load gives: 1,597 full sectors.
 pub const LOADED_MOST: usize = 408_832;
+
+/// By which rules a call reads an image. By the default there is no backup mark.
+#[derive(Clone, Copy, Debug, Default, PartialEq, Eq)]
+pub struct Layout {
+    /// Whether status bit 10 hex is the backup mark: allowed, set by the calls that make or change
+    /// a file, and shown in listings. Else an image on which a file has that bit is refused.
+    pub marks: bool,
+}
+
+impl Layout {
+    /// The old rule: no file has a mark.
+    pub const OLD: Layout = Layout { marks: false };
+    /// The new rule: any file may have one.
+    pub const MARKS: Layout = Layout { marks: true };
+
+    /// As it crosses: the constants of `enum pno_layout`, joined.
+    fn bits(self) -> u32 {
+        u32::from(self.marks)
+    }
+}
 
 /// Why a call is refused, in the order of the tests; each case stands for its number.
 #[derive(Clone, Copy, Debug, PartialEq, Eq)]
@@ -172,6 +192,18 @@ fn named(call: impl FnOnce(&mut usize) -> u32) -> Result<(), Refusal> {
     }
 }
 
+/// A call that changes an image and is asked with the name of a file alone.
+fn on_file(
+    call: unsafe extern "C" fn(*mut u8, usize, u32, *const u8, usize, *mut usize) -> u32,
+    image: &mut [u8],
+    layout: Layout,
+    name: &[u8],
+) -> Result<(), Refusal> {
+    named(|wrong| unsafe {
+        call(image.as_mut_ptr(), image.len(), layout.bits(), name.as_ptr(), name.len(), wrong)
+    })
+}
+
 /// What sector 0 carries of the drive.
 #[derive(Clone, Copy, Debug, PartialEq, Eq)]
 pub struct Geometry {
@@ -269,8 +301,8 @@ pub fn padded(name: &str) -> Name {
 }
 
 /// Done where the image is a sound volume.
-pub fn judge(image: &[u8]) -> Result<(), Refusal> {
-    done(unsafe { imported::pno_judge(image.as_ptr(), image.len()) })
+pub fn judge(image: &[u8], layout: Layout) -> Result<(), Refusal> {
+    done(unsafe { imported::pno_judge(image.as_ptr(), image.len(), layout.bits()) })
 }
 
 /// Makes an empty volume of n sectors of the image, whatever its bytes were.
@@ -293,19 +325,22 @@ pub fn format(image: &mut [u8], n: usize, name: &[u8], geometry: Geometry) -> Re
 }
 
 /// The number of free sectors.
-pub fn free_count(image: &[u8]) -> Result<usize, Refusal> {
+pub fn free_count(image: &[u8], layout: Layout) -> Result<usize, Refusal> {
     let mut free_sectors = 0;
-    done(unsafe { imported::pno_free_count(image.as_ptr(), image.len(), &mut free_sectors) })?;
+    done(unsafe {
+        imported::pno_free_count(image.as_ptr(), image.len(), layout.bits(), &mut free_sectors)
+    })?;
     Ok(free_sectors)
 }
 
 /// The volume's name, and its numbers of sectors, files and free sectors.
-pub fn summary(image: &[u8]) -> Result<Summary, Refusal> {
+pub fn summary(image: &[u8], layout: Layout) -> Result<Summary, Refusal> {
     let mut summary = Summary { disk_name: [0; NAME_BYTES], sectors: 0, files: 0, free_sectors: 0 };
     done(unsafe {
         imported::pno_summary(
             image.as_ptr(),
             image.len(),
+            layout.bits(),
             summary.disk_name.as_mut_ptr(),
             &mut summary.sectors,
             &mut summary.files,
@@ -316,13 +351,19 @@ pub fn summary(image: &[u8]) -> Result<Summary, Refusal> {
 }
 
 /// The file at a place of the catalogue, counted from 0; the first 28 bytes of its descriptor go to
-/// the front of `header`.
-pub fn entry(image: &[u8], place: usize, header: &mut [u8]) -> Result<Entry, Refusal> {
+/// the front of `header`. By `Layout::MARKS` bit 10 hex of byte 12 there is the file's mark.
+pub fn entry(
+    image: &[u8],
+    layout: Layout,
+    place: usize,
+    header: &mut [u8],
+) -> Result<Entry, Refusal> {
     let (mut kind, mut length, mut sectors, mut is_protected) = (0, 0, 0, 0);
     done(unsafe {
         imported::pno_entry(
             image.as_ptr(),
             image.len(),
+            layout.bits(),
             place,
             header.as_mut_ptr(),
             header.len(),
@@ -339,6 +380,7 @@ pub fn entry(image: &[u8], place: usize, header: &mut [u8]) -> Result<Entry, Ref
 /// which are given back.
 pub fn read<'out>(
     image: &[u8],
+    layout: Layout,
     name: &[u8],
     offset: usize,
     out: &'out mut [u8],
@@ -347,6 +389,7 @@ pub fn read<'out>(
         imported::pno_read(
             image.as_ptr(),
             image.len(),
+            layout.bits(),
             name.as_ptr(),
             name.len(),
             offset,
@@ -359,12 +402,18 @@ pub fn read<'out>(
 }
 
 /// Loads a program into the front of `out`; its bytes are given back.
-pub fn load<'out>(image: &[u8], name: &[u8], out: &'out mut [u8]) -> Result<&'out [u8], Refusal> {
+pub fn load<'out>(
+    image: &[u8],
+    layout: Layout,
+    name: &[u8],
+    out: &'out mut [u8],
+) -> Result<&'out [u8], Refusal> {
     let mut length = 0;
     named(|wrong| unsafe {
         imported::pno_load(
             image.as_ptr(),
             image.len(),
+            layout.bits(),
             name.as_ptr(),
             name.len(),
             out.as_mut_ptr(),
@@ -377,24 +426,37 @@ pub fn load<'out>(image: &[u8], name: &[u8], out: &'out mut [u8]) -> Result<&'ou
 }
 
 /// Writes the catalogue into the front of `out`, for which `LISTING_MOST` are always enough; the
-/// text is given back.
-pub fn listing<'out>(image: &[u8], out: &'out mut [u8]) -> Result<&'out str, Refusal> {
+/// text is given back. By `Layout::MARKS` a file's line ends in M where it has the mark, else in a
+/// hyphen.
+pub fn listing<'out>(
+    image: &[u8],
+    layout: Layout,
+    out: &'out mut [u8],
+) -> Result<&'out str, Refusal> {
     let mut length = 0;
     done(unsafe {
-        imported::pno_listing(image.as_ptr(), image.len(), out.as_mut_ptr(), out.len(), &mut length)
+        imported::pno_listing(
+            image.as_ptr(),
+            image.len(),
+            layout.bits(),
+            out.as_mut_ptr(),
+            out.len(),
+            &mut length,
+        )
     })?;
     Ok(std::str::from_utf8(&out[..length]).expect("names have bytes up to 126"))
 }
 
 /// The same text, with no buffer to lend.
-pub fn catalogue(image: &[u8]) -> Result<String, Refusal> {
+pub fn catalogue(image: &[u8], layout: Layout) -> Result<String, Refusal> {
     let mut out = [0; LISTING_MOST];
-    listing(image, &mut out).map(str::to_string)
+    listing(image, layout, &mut out).map(str::to_string)
 }
 
-/// Creates a data file without sectors.
+/// Creates a data file without sectors. The status is one of 00, 02, 80 and 82 hex by any layout.
 pub fn create(
     image: &mut [u8],
+    layout: Layout,
     name: &[u8],
     status: u8,
     record_length: u8,
@@ -404,6 +466,7 @@ pub fn create(
         imported::pno_create(
             image.as_mut_ptr(),
             image.len(),
+            layout.bits(),
             name.as_ptr(),
             name.len(),
             status,
@@ -415,11 +478,12 @@ pub fn create(
 }
 
 /// Appends a sector of 256 bytes to a data file.
-pub fn append(image: &mut [u8], name: &[u8], data: &[u8]) -> Result<(), Refusal> {
+pub fn append(image: &mut [u8], layout: Layout, name: &[u8], data: &[u8]) -> Result<(), Refusal> {
     named(|wrong| unsafe {
         imported::pno_append(
             image.as_mut_ptr(),
             image.len(),
+            layout.bits(),
             name.as_ptr(),
             name.len(),
             data.as_ptr(),
@@ -430,11 +494,18 @@ pub fn append(image: &mut [u8], name: &[u8], data: &[u8]) -> Result<(), Refusal>
 }
 
 /// Overwrites the sector of a data file at an offset, counted from 0, with 256 bytes.
-pub fn overwrite(image: &mut [u8], name: &[u8], offset: usize, data: &[u8]) -> Result<(), Refusal> {
+pub fn overwrite(
+    image: &mut [u8],
+    layout: Layout,
+    name: &[u8],
+    offset: usize,
+    data: &[u8],
+) -> Result<(), Refusal> {
     named(|wrong| unsafe {
         imported::pno_overwrite(
             image.as_mut_ptr(),
             image.len(),
+            layout.bits(),
             name.as_ptr(),
             name.len(),
             offset,
@@ -447,11 +518,12 @@ pub fn overwrite(image: &mut [u8], name: &[u8], offset: usize, data: &[u8]) -> R
 
 /// Stores a program of at most 32,768 bytes as a new file; one of no bytes takes no sector but the
 /// descriptor's.
-pub fn store(image: &mut [u8], name: &[u8], bytes: &[u8]) -> Result<(), Refusal> {
+pub fn store(image: &mut [u8], layout: Layout, name: &[u8], bytes: &[u8]) -> Result<(), Refusal> {
     named(|wrong| unsafe {
         imported::pno_store(
             image.as_mut_ptr(),
             image.len(),
+            layout.bits(),
             name.as_ptr(),
             name.len(),
             bytes.as_ptr(),
@@ -462,19 +534,23 @@ pub fn store(image: &mut [u8], name: &[u8], bytes: &[u8]) -> Result<(), Refusal>
 }
 
 /// Deletes a file.
-pub fn delete(image: &mut [u8], name: &[u8]) -> Result<(), Refusal> {
-    named(|wrong| unsafe {
-        imported::pno_delete(image.as_mut_ptr(), image.len(), name.as_ptr(), name.len(), wrong)
-    })
+pub fn delete(image: &mut [u8], layout: Layout, name: &[u8]) -> Result<(), Refusal> {
+    on_file(imported::pno_delete, image, layout, name)
 }
 
 /// Renames a file.
-pub fn rename(image: &mut [u8], old: &[u8], new: &[u8]) -> Result<(), RenameRefusal> {
+pub fn rename(
+    image: &mut [u8],
+    layout: Layout,
+    old: &[u8],
+    new: &[u8],
+) -> Result<(), RenameRefusal> {
     let mut which = 0;
     let renamed = named(|wrong| unsafe {
         imported::pno_rename(
             image.as_mut_ptr(),
             image.len(),
+            layout.bits(),
             old.as_ptr(),
             old.len(),
             new.as_ptr(),
@@ -491,30 +567,38 @@ pub fn rename(image: &mut [u8], old: &[u8], new: &[u8]) -> Result<(), RenameRefu
 }
 
 /// Protects a file, which may be protected already.
-pub fn protect(image: &mut [u8], name: &[u8]) -> Result<(), Refusal> {
-    named(|wrong| unsafe {
-        imported::pno_protect(image.as_mut_ptr(), image.len(), name.as_ptr(), name.len(), wrong)
-    })
+pub fn protect(image: &mut [u8], layout: Layout, name: &[u8]) -> Result<(), Refusal> {
+    on_file(imported::pno_protect, image, layout, name)
 }
 
 /// Takes the protection of a file away, which may have none.
-pub fn unprotect(image: &mut [u8], name: &[u8]) -> Result<(), Refusal> {
-    named(|wrong| unsafe {
-        imported::pno_unprotect(image.as_mut_ptr(), image.len(), name.as_ptr(), name.len(), wrong)
-    })
+pub fn unprotect(image: &mut [u8], layout: Layout, name: &[u8]) -> Result<(), Refusal> {
+    on_file(imported::pno_unprotect, image, layout, name)
+}
+
+/// Clears the backup mark of a file, which may have none and may be protected. The image is read as
+/// by `Layout::MARKS`, whatever the layout says of marks.
+pub fn clear_mark(image: &mut [u8], layout: Layout, name: &[u8]) -> Result<(), Refusal> {
+    on_file(imported::pno_clear_mark, image, layout, name)
 }
 
 /// Packs a volume into a target of the same length, whatever bytes that had.
-pub fn pack(source: &[u8], target: &mut [u8]) -> Result<(), Refusal> {
+pub fn pack(source: &[u8], layout: Layout, target: &mut [u8]) -> Result<(), Refusal> {
     done(unsafe {
-        imported::pno_pack(source.as_ptr(), source.len(), target.as_mut_ptr(), target.len())
+        imported::pno_pack(
+            source.as_ptr(),
+            source.len(),
+            layout.bits(),
+            target.as_mut_ptr(),
+            target.len(),
+        )
     })
 }
 
 /// The functions of the archive, as include/pnoelithe.h declares them.
 pub(crate) mod imported {
     extern "C" {
-        pub fn pno_judge(image: *const u8, image_len: usize) -> u32;
+        pub fn pno_judge(image: *const u8, image_len: usize, layout: u32) -> u32;
         pub fn pno_format(
             image: *mut u8,
             image_len: usize,
@@ -527,10 +611,16 @@ pub(crate) mod imported {
             density: u8,
             wrong: *mut usize,
         ) -> u32;
-        pub fn pno_free_count(image: *const u8, image_len: usize, free_sectors: *mut usize) -> u32;
+        pub fn pno_free_count(
+            image: *const u8,
+            image_len: usize,
+            layout: u32,
+            free_sectors: *mut usize,
+        ) -> u32;
         pub fn pno_summary(
             image: *const u8,
             image_len: usize,
+            layout: u32,
             name: *mut u8,
             n: *mut usize,
             files: *mut usize,
@@ -539,6 +629,7 @@ pub(crate) mod imported {
         pub fn pno_entry(
             image: *const u8,
             image_len: usize,
+            layout: u32,
             place: usize,
             header: *mut u8,
             header_len: usize,
@@ -550,6 +641,7 @@ pub(crate) mod imported {
         pub fn pno_read(
             image: *const u8,
             image_len: usize,
+            layout: u32,
             name: *const u8,
             name_len: usize,
             offset: usize,
@@ -560,6 +652,7 @@ pub(crate) mod imported {
         pub fn pno_load(
             image: *const u8,
             image_len: usize,
+            layout: u32,
             name: *const u8,
             name_len: usize,
             out: *mut u8,
@@ -570,6 +663,7 @@ pub(crate) mod imported {
         pub fn pno_listing(
             image: *const u8,
             image_len: usize,
+            layout: u32,
             out: *mut u8,
             out_len: usize,
             length: *mut usize,
@@ -577,6 +671,7 @@ pub(crate) mod imported {
         pub fn pno_create(
             image: *mut u8,
             image_len: usize,
+            layout: u32,
             name: *const u8,
             name_len: usize,
             status: u8,
@@ -587,6 +682,7 @@ pub(crate) mod imported {
         pub fn pno_append(
             image: *mut u8,
             image_len: usize,
+            layout: u32,
             name: *const u8,
             name_len: usize,
             data: *const u8,
@@ -596,6 +692,7 @@ pub(crate) mod imported {
         pub fn pno_overwrite(
             image: *mut u8,
             image_len: usize,
+            layout: u32,
             name: *const u8,
             name_len: usize,
             offset: usize,
@@ -606,6 +703,7 @@ pub(crate) mod imported {
         pub fn pno_store(
             image: *mut u8,
             image_len: usize,
+            layout: u32,
             name: *const u8,
             name_len: usize,
             bytes: *const u8,
@@ -615,6 +713,7 @@ pub(crate) mod imported {
         pub fn pno_delete(
             image: *mut u8,
             image_len: usize,
+            layout: u32,
             name: *const u8,
             name_len: usize,
             wrong: *mut usize,
@@ -622,6 +721,7 @@ pub(crate) mod imported {
         pub fn pno_protect(
             image: *mut u8,
             image_len: usize,
+            layout: u32,
             name: *const u8,
             name_len: usize,
             wrong: *mut usize,
@@ -629,6 +729,15 @@ pub(crate) mod imported {
         pub fn pno_unprotect(
             image: *mut u8,
             image_len: usize,
+            layout: u32,
+            name: *const u8,
+            name_len: usize,
+            wrong: *mut usize,
+        ) -> u32;
+        pub fn pno_clear_mark(
+            image: *mut u8,
+            image_len: usize,
+            layout: u32,
             name: *const u8,
             name_len: usize,
             wrong: *mut usize,
@@ -636,6 +745,7 @@ pub(crate) mod imported {
         pub fn pno_rename(
             image: *mut u8,
             image_len: usize,
+            layout: u32,
             old: *const u8,
             old_len: usize,
             new_name: *const u8,
@@ -646,6 +756,7 @@ pub(crate) mod imported {
         pub fn pno_pack(
             source: *const u8,
             source_len: usize,
+            layout: u32,
             target: *mut u8,
             target_len: usize,
         ) -> u32;

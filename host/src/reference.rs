@@ -1,9 +1,10 @@
 //! Document 01 in safe Rust, written from the paper alone and for the reader: what the library is
-//! compared with and measured against. `volume` reads bytes by the layout and refuses nothing;
-//! `judge` holds what was read to the rules, in the order of the paper's numbers; `name` has the
-//! rule of names. The calls stand on these: an answer is a value, and what it has to fit into comes
-//! as a length. The calls that write take sectors by the rules of `choice` and lay bytes down
-//! through a `draft`; packing lays all of a volume down anew.
+//! compared with and measured against. `volume` reads bytes by the paper's places and refuses
+//! nothing; `judge` holds what was read to the rules, in the order of the paper's numbers; `name`
+//! has the rule of names. Which rule of the backup mark holds, every call but formatting is told.
+//! The calls stand on these: an answer is a value, and what it has to fit into comes as a length.
+//! The calls that write take sectors by the rules of `choice` and lay bytes down through a `draft`;
+//! packing lays all of a volume down anew.
 
 mod choice;
 mod draft;

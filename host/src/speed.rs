@@ -10,6 +10,7 @@ mod volume;
 pub use judges::write_times;
 pub(crate) use volume::{volume, Before, Full, Volume, ALL, MANY, ONE, PIECES, SECTORS};
 
+use crate::layout::Layout;
 use crate::table::Arguments;
 
 /// How often a row's call is made in a run whose instructions are counted.
@@ -20,10 +21,10 @@ pub const NOBODY: &str = "nobody";
 const LEAST_HELD: f64 = 1000.0;
 
 /// What is measured of a call: with which arguments on a full volume, and on which volumes, with
-/// what stands behind the call's title and what the call finds of its file.
+/// what stands behind the call's title, by which layout, and what the call finds of its file.
 pub(crate) struct Measured {
     pub arguments: fn(&Full) -> Arguments,
-    pub on: &'static [(&'static str, Before, &'static [Volume])],
+    pub on: &'static [(&'static str, Layout, Before, &'static [Volume])],
 }
 
 pub const TABLES: [Table; 3] = [judges::TABLE, calls::TABLE, growth::TABLE];
@@ -45,6 +46,15 @@ pub struct Table {
 
 fn is_held(reference: f64) -> bool {
     reference >= LEAST_HELD
+}
+
+/// What stands in a row's title besides.
+fn by(layout: Layout) -> &'static str {
+    if layout.marks {
+        ", marks"
+    } else {
+        ""
+    }
 }
 
 /// In brackets where it is not held.

@@ -2,16 +2,61 @@
 //! value of a field once; the others build disks of every size and take changes by chance.
 
 use crate::damage::{Change, Damage};
+use crate::layout::Layout;
 use crate::outside::Outside;
 use crate::random::Random;
-use crate::volumes::{is_name, names, Disk, File, Order, Run, Shape, SECTOR_BYTES};
+use crate::volumes::{is_name, names, Disk, File, Order, Run, Shape, MARK, SECTOR_BYTES};
 use crate::volumes::{MOST_BLOCKS, MOST_FILES, MOST_SECTORS};
 
-/// A disk, the paper's number for it, and changes of it.
+/// A disk, the paper's number for it by the new rule, and changes of it.
 pub struct Batch {
     pub disk: Disk,
     pub number: u32,
     pub changes: Vec<Change>,
+}
+
+/// The paper's number for an image by each rule, where it is settled.
+#[derive(Clone, Copy, Debug)]
+pub struct Numbers {
+    old: Option<u32>,
+    new: Option<u32>,
+}
+
+impl Numbers {
+    pub fn each(number: impl Fn(Layout) -> Option<u32>) -> Self {
+        Numbers { old: number(Layout::OLD), new: number(Layout::MARKS) }
+    }
+
+    /// Of an image whose number by the new rule is known. The rules differ in one thing: by the old
+    /// one a mark is a fault of number 4.
+    pub fn by_new(number: Option<u32>, image: &[u8]) -> Self {
+        let old = number.map(|number| match number {
+            0 | 5 | 6 if is_marked(image) => 4,
+            _ => number,
+        });
+        Numbers { old, new: number }
+    }
+
+    /// Of one whose number by the old rule is known: where that is 4, a mark may be why.
+    pub fn by_old(number: Option<u32>) -> Self {
+        Numbers { old: number, new: number.filter(|number| *number != 4) }
+    }
+
+    pub fn by(self, layout: Layout) -> Option<u32> {
+        if layout.marks {
+            self.new
+        } else {
+            self.old
+        }
+    }
+}
+
+/// Whether a file has the mark, of those that sector 1 lists; each of them has a descriptor.
+fn is_marked(image: &[u8]) -> bool {
+    let numbers = image[SECTOR_BYTES..2 * SECTOR_BYTES].chunks(2);
+    let numbers = numbers.map(|pair| usize::from(pair[0]) * 256 + usize::from(pair[1]));
+    let mut listed = numbers.take_while(|number| *number > 0);
+    listed.any(|number| image[SECTOR_BYTES * number + 12] & MARK != 0)
 }
 
 /// One image of a batch.
@@ -19,21 +64,30 @@ pub struct Image<'batch> {
     /// What was done to the disk, for a report.
     pub what: &'batch str,
     pub bytes: &'batch [u8],
-    /// The paper's number, where it is settled.
-    pub number: Option<u32>,
-    /// The disk, where it is sound and the image is as planned.
+    pub numbers: Numbers,
+    /// The disk, where it is sound by the new rule and the image is as planned.
     pub planned: Option<&'batch Disk>,
 }
 
 impl<'batch> Image<'batch> {
     /// A disk as it was built.
     pub fn as_planned(what: &'batch str, disk: &'batch Disk) -> Self {
-        Image { what, bytes: &disk.image, number: Some(0), planned: Some(disk) }
+        let (bytes, planned) = (&disk.image, Some(disk));
+        Image { what, bytes, numbers: Numbers::by_new(Some(0), bytes), planned }
+    }
+
+    pub fn number(&self, layout: Layout) -> Option<u32> {
+        self.numbers.by(layout)
+    }
+
+    /// The disk, where it is sound by the rule.
+    pub fn planned(&self, layout: Layout) -> Option<&'batch Disk> {
+        self.planned.filter(|_| self.number(layout) == Some(0))
     }
 
     pub fn of_outside(outside: &'batch Outside) -> Self {
-        let Outside { name, image, number, .. } = outside;
-        Image { what: name, bytes: image, number: *number, planned: None }
+        let Outside { name, image, numbers, .. } = outside;
+        Image { what: name, bytes: image, numbers: *numbers, planned: None }
     }
 
     /// Writes the image beside this program and says where.
@@ -59,13 +113,15 @@ impl Batch {
         buffer[..image.len()].copy_from_slice(image);
         let planned = (self.number == 0).then_some(&self.disk);
         let bytes = &buffer[..image.len()];
-        each(&Image { what: "disk as built", bytes, number: Some(self.number), planned })?;
+        let numbers = Numbers::by_new(Some(self.number), bytes);
+        each(&Image { what: "disk as built", bytes, numbers, planned })?;
         for change in &self.changes {
             for edit in &change.edits {
                 buffer[edit.at..][..edit.bytes.len()].copy_from_slice(&edit.bytes);
             }
             let bytes = &buffer[..change.length];
-            each(&Image { what: change.what, bytes, number: change.number, planned: None })?;
+            let numbers = Numbers::by_new(change.number, bytes);
+            each(&Image { what: change.what, bytes, numbers, planned: None })?;
             for edit in &change.edits {
                 let bytes = edit.at..edit.at + edit.bytes.len();
                 buffer[bytes.clone()].copy_from_slice(&image[bytes]);
@@ -81,9 +137,10 @@ impl Batch {
         Batch { disk, number: 0, changes }
     }
 
-    /// A sound disk of any shape, with so many changes out of all sorts of them.
+    /// A sound disk of any shape, with so many changes out of all sorts of them. As with the other
+    /// disks here, some have files with the mark.
     pub fn of_any_shape(sectors: usize, changes: usize, random: &mut Random) -> Self {
-        let disk = Shape::any(sectors, random).build(random);
+        let disk = marked_or_not(Shape::any(sectors, random).build(random), random);
         let mut batch = Batch::of_sound(disk, |damage| damage.of_every_sort(random));
         random.shuffle(&mut batch.changes);
         batch.changes.truncate(changes);
@@ -95,7 +152,7 @@ impl Batch {
         let sectors = random.within(MOST_SECTORS / 2..=MOST_SECTORS);
         let files = random.within(1..=3);
         let disk = Shape::full(sectors, files, MOST_BLOCKS, Order::Shuffled).build(random);
-        Batch { disk, number: 0, changes: Vec::new() }
+        Batch { disk: marked_or_not(disk, random), number: 0, changes: Vec::new() }
     }
 
     /// A small disk whose files lie anywhere, over one another and past the end.
@@ -140,9 +197,17 @@ impl Batch {
     }
 
     fn of_plan(sectors: usize, files: Vec<File>, random: &mut Random) -> Self {
-        let disk = Disk::of_files(sectors, files, random);
+        let disk = marked_or_not(Disk::of_files(sectors, files, random), random);
         Batch { number: number_of_plan(&disk), disk, changes: Vec::new() }
     }
+}
+
+/// Half of the disks have no mark for certain: they are sound by both rules.
+fn marked_or_not(mut disk: Disk, random: &mut Random) -> Disk {
+    if random.once_in(2) {
+        disk.mark_by_chance(random);
+    }
+    disk
 }
 
 /// Runs that mostly lie on the disk. None starts at 0: with offset 0 that would be no block.
@@ -156,14 +221,15 @@ fn any_runs(sectors: usize, random: &mut Random) -> Vec<Run> {
     runs
 }
 
-/// The paper's number for a disk written as planned, whose names and map are therefore right.
+/// The paper's number by the new rule for a disk written as planned, whose names and map are
+/// therefore right.
 fn number_of_plan(disk: &Disk) -> u32 {
     let sound = |file: &File| {
         let placed =
             |run: &Run| run.start >= 2 && run.length >= 1 && run.sectors().end <= disk.sectors;
         file.runs.iter().all(placed)
             && file.count() == file.sectors().count()
-            && file.is_of_a_kind()
+            && file.is_of_a_kind(Layout::MARKS)
     };
     if !disk.files.iter().all(sound) {
         return 4;
@@ -224,8 +290,8 @@ fn every_label_byte(random: &mut Random) -> Batch {
     })
 }
 
-/// A descriptor's header, and every bit of chains of no, one and 76 blocks; a program and another
-/// file have none.
+/// A descriptor's header, and every bit of chains of no, one and 76 blocks; programs and another
+/// file have none, and two files have the mark.
 fn every_descriptor_byte(random: &mut Random) -> Vec<Batch> {
     let blocks = MOST_BLOCKS..=MOST_BLOCKS;
     let order = Order::Ascending;
@@ -235,6 +301,8 @@ fn every_descriptor_byte(random: &mut Random) -> Vec<Batch> {
         one_file(0x00, 0, random),
         one_file(0x01, 0, random),
         one_file(0x01, 3, random),
+        one_file(0x11, 0, random),
+        one_file(0x98, 2, random),
         filled.build(random),
     ];
     let batch = |disk: Disk| {

@@ -27,6 +27,7 @@ pub(crate) use reading::*;
 pub(crate) use sectors::*;
 pub(crate) use wholes::*;
 
+use crate::layout::Layout;
 use crate::pnoelithe;
 use crate::random::Random;
 use crate::reference::Refusal;
@@ -51,6 +52,7 @@ pub(crate) static CALLS: &[&Call] = &[
     &RENAME,
     &PROTECT,
     &UNPROTECT,
+    &CLEAR_MARK,
     &PACK,
 ];
 
@@ -65,6 +67,7 @@ pub(crate) struct Call {
     pub together: &'static [(u32, &'static [u32])],
     /// How many names it takes: none, `name`, or `name` and `other`.
     pub names: usize,
+    pub rules: Rules,
     pub often: Often,
     /// Arguments by chance.
     pub any: fn(&Desk, &mut Random) -> Arguments,
@@ -80,6 +83,15 @@ pub(crate) struct Call {
     /// What the call is meant to meet besides its numbers.
     pub met: &'static [Meeting],
     pub measured: Measured,
+}
+
+/// By which rules a call reads the image.
+pub(crate) enum Rules {
+    /// It does not read it.
+    None,
+    AsAsked,
+    /// Those of the mark, whatever it is asked with.
+    OfMarks,
 }
 
 /// A number, and whether it is due. Of an image that is no sound volume, or not known, a test sees
@@ -136,7 +148,7 @@ pub(crate) fn any(mood: Mood, desk: &Desk, random: &mut Random) -> (&'static Cal
     for call in calls_in(mood) {
         let share = mood(&call.often);
         if rest < share {
-            return (call, (call.any)(desk, random));
+            return (call, (call.any)(desk, random).by(desk.layout, random));
         }
         rest -= share;
     }
@@ -170,7 +182,24 @@ impl Call {
 
     /// Whether the whole image is tested for 1 to 6 before all else.
     pub(crate) fn is_judging(&self) -> bool {
-        !matches!(self.by_plan, Plan::Formats(_))
+        !matches!(self.rules, Rules::None)
+    }
+
+    /// The layout by which it reads the image.
+    pub(crate) fn layout(&self, arguments: &Arguments) -> Layout {
+        match self.rules {
+            Rules::None | Rules::AsAsked => arguments.layout(),
+            Rules::OfMarks => Layout::MARKS,
+        }
+    }
+
+    /// The layouts that it can be asked with.
+    pub(crate) fn layouts(&self) -> &'static [Layout] {
+        if self.is_judging() {
+            &Layout::BOTH
+        } else {
+            &[Layout::OLD]
+        }
     }
 
     fn symbol(&self) -> String {

@@ -1,16 +1,20 @@
-//! How often each call gave each number, alone or with another one due as well, and how often a part
-//! of the comparison met what it is meant to meet. What came up too rarely ends the run: it would be
-//! compared in name only.
+//! How often each call gave each number by each rule, alone or with another one due as well, and
+//! how often a part of the comparison met what it is meant to meet. What came up too rarely ends
+//! the run: it would be compared in name only.
 
+use crate::layout::Layout;
 use crate::table::{Call, Case, Meeting, NUMBERS};
 use crate::volumes::MOST_SECTORS;
 use std::collections::{BTreeMap, BTreeSet};
 
-/// How often everything that can be reached must at least have come up.
+/// How often everything that can be reached must at least have come up, and each number by each
+/// rule.
 pub(crate) const LEAST: u64 = 100;
+const LEAST_BY_RULE: u64 = 50;
 
-/// A row of the report, and the numbers that can be given in it.
-pub(crate) type Reachable = (&'static str, Vec<u32>);
+/// Rows of the report: what they are called, the layouts that have one, and the numbers that can be
+/// given in each.
+pub(crate) type Reachable = (&'static str, &'static [Layout], Vec<u32>);
 
 #[derive(Default)]
 pub struct Tally {
@@ -21,7 +25,7 @@ pub struct Tally {
     meetings: &'static [Meeting],
     /// What is to be met besides the numbers, in the order of the report.
     meant: Vec<&'static str>,
-    given: BTreeMap<(&'static str, u32), u64>,
+    given: BTreeMap<(&'static str, Layout, u32), u64>,
     pairs: BTreeMap<(&'static str, u32, u32), u64>,
     met: BTreeMap<&'static str, u64>,
     /// The sizes of sound volumes.
@@ -29,7 +33,7 @@ pub struct Tally {
 }
 
 impl Tally {
-    /// A row for each of these calls; they are meant to meet what all calls may, and what their own
+    /// Rows for each of these calls; they are meant to meet what all calls may, and what their own
     /// rows of the table say.
     pub(crate) fn of(
         calls: impl Iterator<Item = &'static Call>,
@@ -38,7 +42,7 @@ impl Tally {
         let mut tally = Tally { meetings, ..Tally::default() };
         tally.mean(meetings.iter().map(|(what, _)| *what));
         for call in calls {
-            tally.reachable.push((call.title, call.numbers()));
+            tally.reach((call.title, call.layouts(), call.numbers()));
             tally.mean(call.met.iter().map(|(what, _)| *what));
             if !call.together.is_empty() {
                 tally.together.push((call.title, call.together));
@@ -47,9 +51,9 @@ impl Tally {
         tally
     }
 
-    /// One more row.
-    pub(crate) fn reach(&mut self, row: Reachable) {
-        self.reachable.push(row);
+    /// More rows.
+    pub(crate) fn reach(&mut self, rows: Reachable) {
+        self.reachable.push(rows);
     }
 
     /// More that is to be met.
@@ -64,7 +68,7 @@ impl Tally {
     /// Counts a case in the row of its call.
     pub(crate) fn count(&mut self, case: &Case) {
         let row = case.call.title;
-        self.give(row, case.number);
+        self.give(row, case.asked_by(), case.number);
         for due in &case.due {
             *self.pairs.entry((row, case.number, *due)).or_default() += 1;
         }
@@ -75,8 +79,8 @@ impl Tally {
         }
     }
 
-    pub(crate) fn give(&mut self, row: &'static str, number: u32) {
-        *self.given.entry((row, number)).or_default() += 1;
+    pub(crate) fn give(&mut self, row: &'static str, layout: Layout, number: u32) {
+        *self.given.entry((row, layout, number)).or_default() += 1;
     }
 
     pub(crate) fn meet(&mut self, what: &'static str) {
@@ -112,34 +116,55 @@ impl Tally {
         if self.numbers().iter().map(|(_, count)| count).sum::<u64>() < self.total() {
             return Err("a call gave a number that it cannot give".to_string());
         }
-        hold(LEAST, self.numbers())?;
+        hold(LEAST_BY_RULE, self.numbers())?;
+        hold(LEAST, self.numbers_by_any())?;
         hold(LEAST, self.lines())?;
         self.report_pairs()
     }
 
     fn write_numbers(&self) {
-        let is_given = |number: &u32| self.reachable.iter().any(|(_, own)| own.contains(number));
+        let is_given = |number: &u32| self.reachable.iter().any(|(_, _, own)| own.contains(number));
         let columns: Vec<u32> = NUMBERS.into_iter().filter(is_given).collect();
         write_row("calls that gave", columns.iter().map(|number| number.to_string()));
-        for (row, reachable) in &self.reachable {
+        for (row, layout, reachable) in self.rows() {
             let cell = |number: &u32| match reachable.contains(number) {
-                true => self.given(row, *number).to_string(),
+                true => self.given(row, layout, *number).to_string(),
                 false => "-".to_string(),
             };
-            write_row(row, columns.iter().map(cell));
+            write_row(&title(row, layout), columns.iter().map(cell));
         }
     }
 
-    fn given(&self, row: &'static str, number: u32) -> u64 {
-        self.given.get(&(row, number)).copied().unwrap_or(0)
+    /// Each row with its layout.
+    fn rows(&self) -> impl Iterator<Item = (&'static str, Layout, &[u32])> {
+        let rows = self.reachable.iter();
+        rows.flat_map(|(row, layouts, reachable)| {
+            layouts.iter().map(move |layout| (*row, *layout, &reachable[..]))
+        })
+    }
+
+    fn given(&self, row: &'static str, layout: Layout, number: u32) -> u64 {
+        self.given.get(&(row, layout, number)).copied().unwrap_or(0)
     }
 
     /// Every number that can be given in a row, and how often it was.
     pub(crate) fn numbers(&self) -> Vec<(String, u64)> {
         let mut numbers = Vec::new();
-        for (row, reachable) in &self.reachable {
-            let given = |number: &u32| (format!("{} {}", row, number), self.given(row, *number));
+        for (row, layout, reachable) in self.rows() {
+            let what = |number| format!("{} {}", title(row, layout), number);
+            let given = |number: &u32| (what(*number), self.given(row, layout, *number));
             numbers.extend(reachable.iter().map(given));
+        }
+        numbers
+    }
+
+    /// The same, whatever the rule.
+    fn numbers_by_any(&self) -> Vec<(String, u64)> {
+        let mut numbers = Vec::new();
+        for (row, layouts, reachable) in &self.reachable {
+            let given = |number| layouts.iter().map(move |by| self.given(row, *by, number)).sum();
+            numbers
+                .extend(reachable.iter().map(|each| (format!("{} {}", row, each), given(*each))));
         }
         numbers
     }
@@ -164,15 +189,21 @@ impl Tally {
             let counts: Vec<(String, u64)> = pairs.map(count).collect();
             let cells: Vec<String> =
                 counts.iter().map(|(pair, count)| format!("{}: {}", pair, count)).collect();
-            println!("{:<19}  {}", row, cells.join("  "));
+            println!("{:<20}  {}", row, cells.join("  "));
             hold(LEAST, counts).map_err(|rare| format!("{}: {}", row, rare))?;
         }
         Ok(())
     }
 }
+
+/// A row as it is written: by the new rule it says so.
+fn title(row: &str, layout: Layout) -> String {
+    [row, if layout.marks { ", marks" } else { "" }].concat()
+}
+
 pub(crate) fn write_row(title: &str, cells: impl Iterator<Item = String>) {
     let cells: String = cells.map(|cell| format!("{:>7}", cell)).collect();
-    println!("{:<19}{}", title, cells);
+    println!("{:<20}{}", title, cells);
 }
 
 /// Fails where one of these came up fewer times than so many.

@@ -2,20 +2,22 @@
 //! It goes through the descriptors once for numbers 4 and 5 together, marks whole runs of sectors
 //! as bits, 64 a word, and tests a name's bytes all at once. Safe Rust all the same.
 
+use crate::layout::Layout;
+
 const SECTOR_BYTES: usize = 256;
 const MOST_SECTORS: usize = 1600;
 const WORDS: usize = MOST_SECTORS / 64;
 const ZEROS: [u8; SECTOR_BYTES] = [0; SECTOR_BYTES];
 
 /// The paper's number for an image.
-pub fn number(image: &[u8]) -> u32 {
-    match judge(image) {
+pub fn number(image: &[u8], layout: Layout) -> u32 {
+    match judge(image, layout) {
         Ok(()) => 0,
         Err(number) => number,
     }
 }
 
-fn judge(image: &[u8]) -> Result<(), u32> {
+fn judge(image: &[u8], layout: Layout) -> Result<(), u32> {
     let sectors = image.len() / SECTOR_BYTES;
     if image.len() % SECTOR_BYTES != 0 || !(3..=MOST_SECTORS).contains(&sectors) {
         return Err(1);
@@ -27,7 +29,7 @@ fn judge(image: &[u8]) -> Result<(), u32> {
     let listed = listed(index, sectors).ok_or(3_u32)?;
     let mut marks = Marks { words: [0; WORDS], twice: 0 };
     marks.claim(0, 2);
-    claim_files(image, listed, &mut marks).ok_or(4_u32)?;
+    claim_files(image, layout, listed, &mut marks).ok_or(4_u32)?;
     if marks.twice != 0 {
         return Err(5);
     }
@@ -64,14 +66,16 @@ fn listed(index: &[u8], sectors: usize) -> Option<&[u8]> {
     (!rest.is_empty() && rest == &ZEROS[..rest.len()]).then_some(listed)
 }
 
-fn claim_files(image: &[u8], listed: &[u8], marks: &mut Marks) -> Option<()> {
+fn claim_files(image: &[u8], layout: Layout, listed: &[u8], marks: &mut Marks) -> Option<()> {
+    // Any file may be protected, and marked where there are marks, so these bits are left aside.
+    let aside = if layout.marks { 0x18 } else { 0x08 };
     let mut previous = 0;
     for pair in listed.chunks_exact(2) {
         let number = be_word(pair);
         let descriptor = &image[number * SECTOR_BYTES..][..SECTOR_BYTES];
         let name = name(descriptor);
         let count = be_word(&descriptor[14..16]);
-        if name <= previous || !is_name(name) || !is_kind(descriptor, count) {
+        if name <= previous || !is_name(name) || !is_kind(descriptor, count, aside) {
             return None;
         }
         previous = name;
@@ -127,10 +131,9 @@ impl Marks {
     }
 }
 
-/// Any kind may be protected, so that bit is left aside. A program without sectors has end offset
-/// 0.
-fn is_kind(descriptor: &[u8], count: usize) -> bool {
-    match descriptor[12] & !0x08 {
+/// A program without sectors has end offset 0.
+fn is_kind(descriptor: &[u8], count: usize, aside: u8) -> bool {
+    match descriptor[12] & !aside {
         0x00 | 0x02 | 0x80 | 0x82 => true,
         0x01 => count > 0 || descriptor[16] == 0,
         _ => false,

@@ -1,6 +1,7 @@
 //! Sound volumes built from document 01, with nothing of the judges' reading: a disk is planned
 //! as files that lie in runs of sectors, and then written byte for byte.
 
+use crate::layout::Layout;
 use crate::random::Random;
 use std::ops::RangeInclusive;
 
@@ -10,9 +11,11 @@ pub const MOST_FILES: usize = 127;
 pub const MOST_BLOCKS: usize = 76;
 pub const HEADER_BYTES: usize = 28;
 
-/// The status bytes that the paper allows, program apart from the rest.
+/// The status bytes that the paper allows, program apart from the rest. By the new rule each may
+/// have the mark besides.
 pub const DATA_STATUS: [u8; 8] = [0x00, 0x02, 0x08, 0x0A, 0x80, 0x82, 0x88, 0x8A];
 pub const PROGRAM_STATUS: [u8; 2] = [0x01, 0x09];
+pub const MARK: u8 = 0x10;
 
 const EDGES: [u8; 3] = [0, 1, 255];
 
@@ -71,7 +74,7 @@ impl File {
     /// A program that has no sector gets the end offset that it must have.
     pub fn set_status(&mut self, status: u8) {
         self.header[12] = status;
-        if !self.is_of_a_kind() {
+        if !self.is_of_a_kind(Layout::MARKS) {
             self.header[16] = 0;
         }
     }
@@ -80,11 +83,16 @@ impl File {
         self.status() & 0x01 != 0
     }
 
+    pub fn is_marked(&self) -> bool {
+        self.status() & MARK != 0
+    }
+
     /// Whether the rules of status and kind allow the header: a program without sectors has end
     /// offset 0.
-    pub fn is_of_a_kind(&self) -> bool {
-        DATA_STATUS.contains(&self.status())
-            || PROGRAM_STATUS.contains(&self.status()) && (self.count() > 0 || self.header[16] == 0)
+    pub fn is_of_a_kind(&self, layout: Layout) -> bool {
+        let status = if layout.marks { self.status() & !MARK } else { self.status() };
+        DATA_STATUS.contains(&status)
+            || PROGRAM_STATUS.contains(&status) && (self.count() > 0 || self.header[16] == 0)
     }
 
     /// The bytes of a program: those of its sectors less what is left over of the last one. Of one
@@ -172,6 +180,23 @@ impl Disk {
             let descriptor = &mut self.image[SECTOR_BYTES * file.descriptor..][..SECTOR_BYTES];
             descriptor.copy_from_slice(&file.described());
         }
+    }
+
+    /// Gives the mark to no file, to one, to each by chance or to all. A disk that was sound is so
+    /// by the new rule then.
+    pub fn mark_by_chance(&mut self, random: &mut Random) {
+        let files = self.files.len();
+        match random.below(4) {
+            0 => return,
+            1 if files > 0 => self.files[random.below(files)].header[12] |= MARK,
+            2 => self.files.iter_mut().for_each(|file| file.header[12] |= random.byte() & MARK),
+            _ => self.files.iter_mut().for_each(|file| file.header[12] |= MARK),
+        }
+        self.lay_down();
+    }
+
+    pub fn is_marked(&self) -> bool {
+        self.files.iter().any(File::is_marked)
     }
 
     fn write_label(&mut self, random: &mut Random) {

@@ -2,6 +2,7 @@
 
 use super::{outside, paper};
 use crate::comparison::Part;
+use crate::layout::Layout;
 use crate::outside::Outside;
 use crate::random::Random;
 use crate::suites::{Batch, Image};
@@ -20,6 +21,16 @@ const CHANGES: usize = 60;
 const MET: &[Meeting] = &[
     ("unsound image and bad name", |case| case.is_unsound() && case.due.contains(&7)),
     ("unsound image and short buffer", |case| case.is_unsound() && case.due.contains(&15)),
+    ("volume with a mark by the old rule", |case| {
+        case.number == 4 && case.asked.image.planned.is_some()
+    }),
+    ("volume with a mark by the new rule", |case| {
+        case.is_done() && case.asked.disk().map_or(false, Disk::is_marked)
+    }),
+    ("volume without a mark by the new rule", |case| {
+        let is_unmarked = |disk: &Disk| !disk.files.is_empty() && !disk.is_marked();
+        case.is_done() && case.asked.by.marks && case.asked.disk().map_or(false, is_unmarked)
+    }),
     ("place, offset or n of 2^31 or more", |case| case.asked.at >= 1 << 31),
     ("buffer one byte short", |case| case.number == 15 && case.spare() == Some(-1)),
     ("buffer of just the length", |case| case.is_done() && case.spare() == Some(0)),
@@ -66,8 +77,11 @@ impl Part for Calls {
         self.outside += 1;
         for (call, reading) in CALLS.iter().filter_map(|call| Some((call, call.reading()?))) {
             for arguments in (reading.all)(&files) {
-                self.call(call, &arguments, &image, random)?;
-                *self.on_outside.entry(call.title).or_default() += 1;
+                for layout in Layout::BOTH {
+                    let arguments = arguments.clone().by(layout, random);
+                    self.call(call, &arguments, &image, random)?;
+                    *self.on_outside.entry(call.title).or_default() += 1;
+                }
             }
         }
         outside::texts(outside)
@@ -91,8 +105,10 @@ impl Calls {
     fn batch(&mut self, batch: &Batch, random: &mut Random) -> Result<(), String> {
         let mut buffer = std::mem::take(&mut self.buffer);
         batch.each_image(&mut buffer, |image| {
-            let desk = Desk { disk: &batch.disk, image_bytes: image.bytes.len(), pool: &[] };
+            let (disk, image_bytes) = (&batch.disk, image.bytes.len());
             for _ in 0..image.planned.map_or(1, calls_as_planned) {
+                let layout = any_layout(disk, random);
+                let desk = Desk { disk, layout, image_bytes, pool: &[] };
                 let (call, arguments) = table::any(SINGLE, &desk, random);
                 self.call(call, &arguments, image, random)?;
             }
@@ -111,6 +127,15 @@ impl Calls {
     ) -> Result<(), String> {
         self.tally.count(&compared(call, arguments, image, random)?);
         Ok(())
+    }
+}
+
+/// Mostly one by which the disk is sound.
+fn any_layout(disk: &Disk, random: &mut Random) -> Layout {
+    if disk.is_marked() && !random.once_in(6) {
+        Layout::MARKS
+    } else {
+        random.pick(&Layout::BOTH)
     }
 }
 

@@ -1,26 +1,40 @@
 //! Images from outside: what there is to read on them, and the texts that came with them.
 
+use crate::layout::Layout;
 use crate::outside::Outside;
 use crate::pnoelithe::{self, Refusal};
 use crate::reference;
 use crate::table::Listed;
 
-/// The files of a volume, by the reference: names and numbers of sectors. Of an unsound image, none.
+/// The files of a volume, by the reference: names and numbers of sectors. Of an image that is sound
+/// by neither rule, none.
 pub(super) fn files(image: &[u8]) -> Vec<Listed> {
     let file = |(_, file): (usize, reference::Descriptor)| (*file.name(), file.sectors());
-    reference::judge(image).map_or(Vec::new(), |volume| volume.files().map(file).collect())
+    let volume = reference::judge(image, Layout::MARKS);
+    volume.map_or(Vec::new(), |volume| volume.files().map(file).collect())
 }
 
 /// Holds what the library and the reference make of an image to the texts beside it.
 pub(super) fn texts(outside: &Outside) -> Result<(), String> {
-    let Outside { name, image, rows, program, .. } = outside;
+    Layout::BOTH.into_iter().try_for_each(|layout| texts_by(layout, outside))
+}
+
+fn texts_by(layout: Layout, outside: &Outside) -> Result<(), String> {
+    let Outside { name, image, rows, programs, .. } = outside;
+    let (rows, program) = (rows.by(layout), programs.by(layout));
+    let printed = reference::catalogue(image, layout);
     let texts = [
-        ("listing by the library", rows, text(pnoelithe::catalogue(image))),
-        ("summary and entries by the library", rows, text(summary_and_entries(image))),
-        ("text of the catalogue program by the reference", program, reference::catalogue(image)),
+        ("listing by the library", rows, text(pnoelithe::catalogue(image, layout.for_host()))),
+        (
+            "summary and entries by the library",
+            rows,
+            text(summary_and_entries(image, layout.for_host())),
+        ),
+        ("text of the catalogue program by the reference", program, printed),
     ];
     for (what, expected, found) in texts {
-        if expected.as_ref().map_or(false, |expected| *expected != found) {
+        if expected.map_or(false, |expected| expected != found) {
+            let what = format!("{}, by {:?}", what, layout);
             return Err(format!("{}: other than is expected, {}:\n{}", name, what, found));
         }
     }
@@ -32,17 +46,22 @@ fn text(lines: Result<String, Refusal>) -> String {
 }
 
 /// The same lines, put together from the calls that give their parts.
-fn summary_and_entries(image: &[u8]) -> Result<String, Refusal> {
-    let pnoelithe::Summary { disk_name, sectors, files, .. } = pnoelithe::summary(image)?;
-    let free_sectors = pnoelithe::free_count(image)?;
+fn summary_and_entries(image: &[u8], layout: pnoelithe::Layout) -> Result<String, Refusal> {
+    let pnoelithe::Summary { disk_name, sectors, files, .. } = pnoelithe::summary(image, layout)?;
+    let free_sectors = pnoelithe::free_count(image, layout)?;
     let mut lines = format!("{} {} {}\n", unpadded(&disk_name), sectors, free_sectors);
     for place in 0..files {
         let mut header = [0; pnoelithe::HEADER_BYTES];
         let pnoelithe::Entry { kind, sectors, is_protected } =
-            pnoelithe::entry(image, place, &mut header)?;
+            pnoelithe::entry(image, layout, place, &mut header)?;
         let (name, length) = (unpadded(&header[..10]), kind.length());
         let protection = if is_protected { 'P' } else { 'U' };
-        lines += &format!("{} {} {} {} {}\n", name, kind, length, sectors, protection);
+        let mark = match (layout.marks, header[12] & 0x10) {
+            (false, _) => "",
+            (true, 0) => " -",
+            (true, _) => " M",
+        };
+        lines += &format!("{} {} {} {} {}{}\n", name, kind, length, sectors, protection, mark);
     }
     Ok(lines)
 }

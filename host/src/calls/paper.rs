@@ -1,17 +1,20 @@
 //! What the paper itself prints and the calls so far can show, letter for letter.
 
-use crate::paper::{all_shown, formatted, CASE_M};
-use crate::pnoelithe::{self, Refusal};
+use crate::paper::{all_shown, formatted, CASE_M, CASE_M_UNMARKED};
+use crate::pnoelithe::{self, Layout, Refusal};
 use crate::random::Random;
 use crate::volumes::{Disk, File, Name, Run, HEADER_BYTES, SECTOR_BYTES};
 
 pub(super) fn cases(random: &mut Random) -> Result<(), String> {
-    let listing = pnoelithe::catalogue(&case_m(random).image);
+    let image = case_m(random).image;
+    let lists = |layout, text: &str| pnoelithe::catalogue(&image, layout) == Ok(text.to_string());
     all_shown(&[
-        ("case M", listing == Ok(CASE_M.to_string())),
+        ("case M", lists(Layout::OLD, CASE_M)),
+        ("case M by the new rule", lists(Layout::MARKS, CASE_M_UNMARKED)),
         ("bench case 4", case_4() == Ok(true)),
         ("bench case 5", case_5() == Ok(true)),
-        ("bench case 10", case_10()),
+        ("bench case 10", case_10(Layout::OLD)),
+        ("bench case 10 by the new rule", case_10(Layout::MARKS)),
         ("the paper's numbers in pnoelithe.rs", numbers()),
     ])
 }
@@ -64,7 +67,7 @@ fn header(name: &Name, status: u8, count: u8, end: u8, record_length: u8) -> [u8
 /// "Map of an empty 35-sector volume: byte 56 is 03, byte 60 is F8; free 33."
 fn case_4() -> Result<bool, Refusal> {
     let image = formatted(35)?;
-    Ok((image[56], image[60], pnoelithe::free_count(&image)?) == (0x03, 0xF8, 33))
+    Ok((image[56], image[60], pnoelithe::free_count(&image, Layout::OLD)?) == (0x03, 0xF8, 33))
 }
 
 /// "Empty 360: bytes 57-100 are 00, 101-255 are FF."
@@ -75,9 +78,9 @@ fn case_5() -> Result<bool, Refusal> {
 }
 
 /// "Image of 512 bytes: 1; of 768 bytes, formatted: 0."
-fn case_10() -> bool {
-    let of_512_bytes = pnoelithe::judge(&[0; 2 * SECTOR_BYTES]);
-    let of_768_bytes = formatted(3).and_then(|image| pnoelithe::judge(&image));
+fn case_10(layout: Layout) -> bool {
+    let of_512_bytes = pnoelithe::judge(&[0; 2 * SECTOR_BYTES], layout);
+    let of_768_bytes = formatted(3).and_then(|image| pnoelithe::judge(&image, layout));
     let refused = Err(Refusal::Length);
     formatted(2).map(|_| ()) == refused && of_512_bytes == refused && of_768_bytes == Ok(())
 }

@@ -1,9 +1,9 @@
-//! Number 0: bytes that are carried and not judged, and protection, which any file may have. Of a
-//! program without sectors the end offset is judged all the same.
+//! Number 0: bytes that are carried and not judged, and protection and mark, which any file may
+//! have. Of a program without sectors the end offset is judged all the same.
 
 use super::{in_descriptor, Damage};
 use crate::random::Random;
-use crate::volumes::{File, SECTOR_BYTES};
+use crate::volumes::{File, MARK, SECTOR_BYTES};
 
 impl Damage<'_> {
     pub(super) fn carried(&mut self, random: &mut Random) {
@@ -25,8 +25,10 @@ impl Damage<'_> {
         for (byte, bytes) in [(10, 2), (13, 1), (16, 1), (17, 1), (18, 2), (20, 8), (16, 12)] {
             self.put_in_header("descriptor's carried bytes", file, byte, &random.bytes(bytes));
         }
-        let protection = [file.status() ^ 0x08];
-        self.put("protection", 0, in_descriptor(file, 12), &protection);
+        let status = in_descriptor(file, 12);
+        self.put("protection", 0, status, &[file.status() ^ 0x08]);
+        self.put("mark", 0, status, &[file.status() ^ MARK]);
+        self.put("protection and mark", 0, status, &[file.status() ^ MARK ^ 0x08]);
         if let Some(sector) = file.sectors().next() {
             self.put("data", 0, SECTOR_BYTES * sector, &random.bytes(SECTOR_BYTES));
         }

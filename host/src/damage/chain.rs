@@ -1,6 +1,7 @@
 //! Number 4: the chain.
 
 use super::{edit, in_chain, in_descriptor, Damage};
+use crate::layout::Layout;
 use crate::random::Random;
 use crate::volumes::{block, word, File, MOST_BLOCKS, SECTOR_BYTES};
 
@@ -69,7 +70,7 @@ impl Damage<'_> {
             none.runs.clear();
             none.set_count(0);
             none.header[16] = end_offset;
-            let number = if none.is_of_a_kind() { 6 } else { 4 };
+            let number = if none.is_of_a_kind(Layout::MARKS) { 6 } else { 4 };
             self.put("file without its sectors", number, in_descriptor(file, 0), &none.described());
         }
     }

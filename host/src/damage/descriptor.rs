@@ -3,7 +3,7 @@
 
 use super::{changed_names, edit, in_descriptor, Damage, INDEX};
 use crate::random::Random;
-use crate::volumes::{is_name, word, File, Name, DATA_STATUS};
+use crate::volumes::{is_name, word, File, Name, DATA_STATUS, MARK, PROGRAM_STATUS};
 
 impl Damage<'_> {
     pub(super) fn file_name(&mut self, file: &File, random: &mut Random) {
@@ -20,9 +20,11 @@ impl Damage<'_> {
     }
 
     pub(super) fn status(&mut self, file: &File, random: &mut Random) {
-        let wrong = [0x03, 0x04, 0x0B, 0x10, 0x20, 0x40, 0x81, 0x83, 0x89, 0x8B, 0xFF];
-        for status in wrong.into_iter().chain([random.byte()]).chain(DATA_STATUS).chain([1, 9]) {
+        let wrong = [0x03, 0x04, 0x0B, 0x20, 0x40, 0x81, 0x83, 0x89, 0x8B, 0xEF];
+        let right = DATA_STATUS.into_iter().chain(PROGRAM_STATUS);
+        for status in wrong.into_iter().chain(right).chain([random.byte()]) {
             self.put_in_header("status", file, 12, &[status]);
+            self.put_in_header("status with the mark", file, 12, &[status | MARK]);
         }
     }
 

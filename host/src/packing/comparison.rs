@@ -6,12 +6,12 @@ use super::paper;
 use super::tally::{self, LEFT_BY_CALLS, RELAID};
 use super::twins::{relaid, Difference};
 use crate::comparison::Part;
+use crate::layout::Layout;
 use crate::outside::Outside;
 use crate::random::Random;
-use crate::reference;
 use crate::sequences::{built, damaged, left_by_calls};
 use crate::suites::Image;
-use crate::table::plan::of_image;
+use crate::table::plan::{numbers_of, of_image};
 use crate::tally::Tally;
 use crate::volumes::{Disk, MOST_SECTORS, SECTOR_BYTES};
 
@@ -37,24 +37,31 @@ impl Part for Packs {
     }
 
     fn on_volume_of(&mut self, sectors: usize, random: &mut Random) -> Result<(), String> {
+        let layout = random.pick(&Layout::BOTH);
         if random.once_in(20) {
             let disk = Disk::of_files(sectors, Vec::new(), random);
-            return self.volume("empty disk", &disk, random);
+            return self.volume("empty disk", &disk, layout, random);
         }
         if !random.once_in(6) {
-            return self.volume("disk as built", &built(sectors, random), random);
+            return self.volume("disk as built", &built(sectors, layout, random), layout, random);
         }
         let calls = if random.once_in(12) { CALLS_WORN } else { CALLS };
-        let disk = left_by_calls(sectors, calls, random)?;
+        let disk = left_by_calls(sectors, layout, calls, random)?;
         self.tally.meet(LEFT_BY_CALLS);
-        self.volume("volume left by calls", &disk, random)
+        self.volume("volume left by calls", &disk, layout, random)
     }
 
     fn on_outside(&mut self, outside: &Outside, random: &mut Random) -> Result<(), String> {
-        if let Some(disk) = of_image(&outside.image) {
-            return self.volume(&outside.name, &disk, random);
+        for layout in Layout::BOTH {
+            let (source, length) = (Image::of_outside(outside), outside.image.len());
+            match of_image(&outside.image) {
+                Some(disk) if layout.marks || !disk.is_marked() => {
+                    self.volume(&outside.name, &disk, layout, random)?;
+                }
+                _ => drop(self.pack(&source, length, layout, random)?),
+            }
         }
-        self.pack(&Image::of_outside(outside), outside.image.len(), random).map(|_| ())
+        Ok(())
     }
 
     fn tally(&self) -> &Tally {
@@ -62,43 +69,49 @@ impl Part for Packs {
     }
 }
 
+/// A volume, the layout by which it is sound, and what it packs to.
+struct Source<'packed> {
+    disk: &'packed Disk,
+    layout: Layout,
+    packed: &'packed [u8],
+}
+
 impl Packs {
-    /// A sound volume, and what can be made of it.
-    fn volume(&mut self, what: &str, disk: &Disk, random: &mut Random) -> Result<(), String> {
-        let packed = self.pack_sound(what, disk, random)?;
+    /// A volume that is sound by the layout, and what can be made of it.
+    fn volume(
+        &mut self,
+        what: &str,
+        disk: &Disk,
+        layout: Layout,
+        random: &mut Random,
+    ) -> Result<(), String> {
+        let packed = self.pack_sound(what, disk, layout, random)?;
+        let source = Source { disk, layout, packed: &packed };
         if random.once_in(3) {
-            self.laid_out_otherwise(disk, &packed, random)?;
+            self.laid_out_otherwise(&source, random)?;
         }
-        self.changed(disk, &packed, random)?;
+        self.changed(&source, random)?;
         if random.once_in(2) {
             let length = other_length(disk.image.len(), random);
-            let _ = self.pack(&Image::as_planned(what, disk), length, random)?;
+            let _ = self.pack(&Image::as_planned(what, disk), length, layout, random)?;
         }
-        if !random.once_in(3) {
-            self.unsound(disk, random)?;
-        }
-        Ok(())
+        self.unsound(&source, random)
     }
 
     /// The same catalogue in other sectors packs to the same bytes.
-    fn laid_out_otherwise(
-        &mut self,
-        disk: &Disk,
-        packed: &[u8],
-        random: &mut Random,
-    ) -> Result<(), String> {
-        let other = relaid(disk, random);
+    fn laid_out_otherwise(&mut self, source: &Source, random: &mut Random) -> Result<(), String> {
+        let other = relaid(source.disk, random);
         self.tally.meet(RELAID);
-        if self.pack_sound("laid out otherwise", &other, random)? == packed {
+        if self.pack_sound("laid out otherwise", &other, source.layout, random)? == source.packed {
             return Ok(());
         }
-        Err(wrong_beside(disk, RELAID))
+        Err(wrong_beside(source.disk, RELAID))
     }
 
     /// A catalogue or a label area that differs in one thing packs to other bytes.
-    fn changed(&mut self, disk: &Disk, packed: &[u8], random: &mut Random) -> Result<(), String> {
-        let difference = random.pick(&Difference::ALL);
-        let mut other = match difference.of(disk, random) {
+    fn changed(&mut self, source: &Source, random: &mut Random) -> Result<(), String> {
+        let difference = Difference::any(source.layout, random);
+        let mut other = match difference.of(source.disk, random) {
             Some(other) => other,
             None => return Ok(()),
         };
@@ -106,35 +119,37 @@ impl Packs {
             other = relaid(&other, random);
         }
         self.tally.meet(difference.title());
-        if self.pack_sound(difference.title(), &other, random)? != packed {
+        if self.pack_sound(difference.title(), &other, source.layout, random)? != source.packed {
             return Ok(());
         }
-        Err(wrong_beside(disk, difference.title()))
+        Err(wrong_beside(source.disk, difference.title()))
     }
 
     /// The disk damaged to a number, and often a target of another length besides.
-    fn unsound(&mut self, disk: &Disk, random: &mut Random) -> Result<(), String> {
-        let image = damaged(disk, random)?;
-        let number = Some(reference::number(&image));
+    fn unsound(&mut self, source: &Source, random: &mut Random) -> Result<(), String> {
+        let Source { disk, layout, .. } = *source;
+        let image = damaged(disk, layout, random)?;
+        let numbers = numbers_of(&image);
         let planned = of_image(&image);
         let (what, planned) = ("damaged disk", planned.as_ref());
-        let source = Image { what, bytes: &image, number, planned };
+        let source = Image { what, bytes: &image, numbers, planned };
         let length = match random.below(3) {
             0 => other_length(image.len(), random),
             // What the target of the disk itself would be.
             1 => disk.image.len(),
             _ => image.len(),
         };
-        self.pack(&source, length, random).map(|_| ())
+        self.pack(&source, length, layout, random).map(|_| ())
     }
 
     fn pack_sound(
         &mut self,
         what: &str,
         disk: &Disk,
+        layout: Layout,
         random: &mut Random,
     ) -> Result<Vec<u8>, String> {
-        let packed = self.pack(&Image::as_planned(what, disk), disk.image.len(), random)?;
+        let packed = self.pack(&Image::as_planned(what, disk), disk.image.len(), layout, random)?;
         packed.map_err(|number| format!("{} for sound \"{}\"", number, what))
     }
 
@@ -142,9 +157,10 @@ impl Packs {
         &mut self,
         source: &Image,
         target_bytes: usize,
+        layout: Layout,
         random: &mut Random,
     ) -> Result<Answer, String> {
-        let arguments = into_target(target_bytes);
+        let arguments = into_target(target_bytes).by(layout, random);
         let case = compared(source, &arguments, random)?;
         self.tally.count(&case);
         Ok(answer(case))

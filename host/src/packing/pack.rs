@@ -1,12 +1,12 @@
 //! One pack, and what must be found afterwards.
 
-use crate::pnoelithe::catalogue;
+use crate::layout::Layout;
 use crate::random::Random;
-use crate::reference;
 use crate::sequences::Shelf;
 use crate::suites::Image;
 use crate::table::lent::Memory;
 use crate::table::{self, Arguments, Case, NONE, PACK};
+use crate::{pnoelithe, reference};
 
 /// The bytes of the target, or the number of a refusal.
 pub(super) type Answer = Result<Vec<u8>, u32>;
@@ -33,28 +33,38 @@ pub(super) fn compared<'case>(
     if !case.is_done() {
         return Ok(case);
     }
-    not_kept(source.bytes, &case.written.bytes, random).map_or(Ok(case), |wrong| {
+    let kept = not_kept(source.bytes, &case.written.bytes, case.asked.by, random);
+    kept.map_or(Ok(case), |wrong| {
         let what = format!("\"{}\": the volume that was packed {}", source.what, wrong);
         Err([what, format!("source kept as {}", source.keep())].join("\n  "))
     })
 }
 
 /// What packing must keep and has not, as far as the volume can be read.
-fn not_kept(source: &[u8], packed: &[u8], random: &mut Random) -> Option<&'static str> {
-    let number = reference::number(packed);
+fn not_kept(
+    source: &[u8],
+    packed: &[u8],
+    layout: Layout,
+    random: &mut Random,
+) -> Option<&'static str> {
+    let number = reference::number(packed, layout);
+    let listed = |image| pnoelithe::catalogue(image, layout.for_host());
     let rules = [
         (number == 0, "is not sound"),
         (source[..56] == packed[..56], "has another label area"),
-        (Shelf::of(source).is_on(packed), "has another catalogue"),
-        (catalogue(source) == catalogue(packed), "is listed otherwise"),
-        (number != 0 || is_left_by_packing(packed, random), "is packed to other bytes again"),
+        (Shelf::of(source).is_on(packed, layout), "has another catalogue"),
+        (listed(source) == listed(packed), "is listed otherwise"),
+        (
+            number != 0 || is_left_by_packing(packed, layout, random),
+            "is packed to other bytes again",
+        ),
     ];
     let broken = rules.into_iter().find(|(kept, _)| !kept);
     broken.map(|(_, what)| what)
 }
 
-fn is_left_by_packing(packed: &[u8], random: &mut Random) -> bool {
-    let arguments = into_target(packed.len());
+fn is_left_by_packing(packed: &[u8], layout: Layout, random: &mut Random) -> bool {
+    let arguments = into_target(packed.len()).by(layout, random);
     let mut expected = Memory::of(&arguments, packed, random);
     let mut lent = expected.clone();
     expected.lent().buffer.copy_from_slice(packed);

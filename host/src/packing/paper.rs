@@ -1,28 +1,35 @@
 //! What the paper says of packing in so many words: bench cases 8 and 14, by the library's calls.
 
 use super::pack::{answer, compared, into_target};
+use crate::layout::Layout;
 use crate::paper::{all_shown, formatted};
 use crate::pnoelithe::{append, create, delete, store, Refusal};
 use crate::random::Random;
-use crate::suites::Image;
+use crate::suites::{Image, Numbers};
 use crate::volumes::SECTOR_BYTES;
 
 const ALPHA: &[u8; 10] = b"ALPHA     ";
 const NOTES: &[u8; 10] = b"NOTES     ";
 
 pub(super) fn cases(random: &mut Random) -> Result<(), String> {
-    all_shown(&[("bench case 8", case_8(random)?), ("bench case 14", case_14(random)?)])
+    all_shown(&[
+        ("bench case 8", case_8(Layout::OLD, random)?),
+        ("bench case 8 by the new rule, marks and all", case_8(Layout::MARKS, random)?),
+        ("bench case 14", case_14(random)?),
+    ])
 }
 
 /// "Case M packed: blocks 04 10 00 and 06 00 00; byte 56 is 7F."
-fn case_8(random: &mut Random) -> Result<bool, String> {
+fn case_8(layout: Layout, random: &mut Random) -> Result<bool, String> {
     let (program, data) = (random.bytes(300), random.bytes(SECTOR_BYTES));
-    let packed = packed(&case_m(&program, &data).map_err(told)?, random)?;
+    let packed = packed(&case_m(layout, &program, &data).map_err(told)?, layout, random)?;
     let sector = |number: usize| &packed[SECTOR_BYTES * number..][..SECTOR_BYTES];
     let (alpha, notes) = (sector(2), sector(3));
     let index = sector(1)[..4] == [0, 2, 0, 3] && is_all(&sector(1)[4..], 0);
     let blocks = alpha[28..31] == [0x04, 0x10, 0x00] && notes[28..31] == [0x06, 0x00, 0x00];
     let named = alpha[..10] == ALPHA[..] && notes[..10] == NOTES[..];
+    let statuses = if layout.marks { [0x11, 0x90] } else { [0x01, 0x80] };
+    let named = named && [alpha[12], notes[12]] == statuses;
     let ends = is_all(&alpha[31..], 0) && is_all(&notes[31..], 0);
     let stored = &packed[4 * SECTOR_BYTES..6 * SECTOR_BYTES];
     let program_lies = stored[..300] == program && is_all(&stored[300..], 0);
@@ -31,11 +38,12 @@ fn case_8(random: &mut Random) -> Result<bool, String> {
     Ok(index && named && blocks && ends && lies && map)
 }
 
-fn case_m(program: &[u8], data: &[u8]) -> Result<Vec<u8>, Refusal> {
+fn case_m(layout: Layout, program: &[u8], data: &[u8]) -> Result<Vec<u8>, Refusal> {
+    let layout = layout.for_host();
     let mut image = formatted(64)?;
-    store(&mut image, ALPHA, program)?;
-    create(&mut image, NOTES, 0x80, 80, 3)?;
-    append(&mut image, NOTES, data)?;
+    store(&mut image, layout, ALPHA, program)?;
+    create(&mut image, layout, NOTES, 0x80, 80, 3)?;
+    append(&mut image, layout, NOTES, data)?;
     Ok(image)
 }
 
@@ -46,7 +54,7 @@ fn case_14(random: &mut Random) -> Result<bool, String> {
         let empty = formatted(sectors).map_err(told)?;
         let length = (SECTOR_BYTES * (sectors - 3)).min(32_768);
         let image = with_remains(&empty, &random.bytes(length)).map_err(told)?;
-        let packed = packed(&image, random)?;
+        let packed = packed(&image, Layout::OLD, random)?;
         shown &= image != empty && packed == empty;
         shown &= is_all(&packed[2 * SECTOR_BYTES..], 0xE5);
     }
@@ -56,8 +64,9 @@ fn case_14(random: &mut Random) -> Result<bool, String> {
 /// A volume that had one more file.
 fn with_remains(image: &[u8], program: &[u8]) -> Result<Vec<u8>, Refusal> {
     let mut image = image.to_vec();
-    store(&mut image, ALPHA, program)?;
-    delete(&mut image, ALPHA)?;
+    let layout = Layout::OLD.for_host();
+    store(&mut image, layout, ALPHA, program)?;
+    delete(&mut image, layout, ALPHA)?;
     Ok(image)
 }
 
@@ -65,9 +74,10 @@ fn told(refusal: Refusal) -> String {
     format!("a call of the paper's is refused: {}", refusal)
 }
 
-fn packed(image: &[u8], random: &mut Random) -> Result<Vec<u8>, String> {
-    let source = Image { what: "a case of the paper", bytes: image, number: None, planned: None };
-    let arguments = into_target(image.len());
+fn packed(image: &[u8], layout: Layout, random: &mut Random) -> Result<Vec<u8>, String> {
+    let (what, numbers) = ("a case of the paper", Numbers::each(|_| None));
+    let source = Image { what, bytes: image, numbers, planned: None };
+    let arguments = into_target(image.len()).by(layout, random);
     let case = compared(&source, &arguments, random)?;
     answer(case).map_err(|number| format!("a volume of the paper is refused: {}", number))
 }

@@ -17,6 +17,12 @@ const MET: &[Meeting] = &[
     ("empty volume with remains packed", |case| {
         packs(case, |disk| disk.files.is_empty() && has_remains(disk))
     }),
+    ("volume with and without marks packed", |case| {
+        packs_file(case, File::is_marked) && packs_file(case, |file| !file.is_marked())
+    }),
+    ("volume with a mark by the old rule", |case| {
+        case.number == 4 && case.asked.image.planned.is_some()
+    }),
     ("file of 76 blocks packed", |case| packs_file(case, |file| file.runs.len() == MOST_BLOCKS)),
     ("file of more than 256 sectors packed", |case| packs_file(case, |file| file.count() > 256)),
     ("file without a sector packed", |case| packs_file(case, |file| file.count() == 0)),

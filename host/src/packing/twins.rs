@@ -1,8 +1,9 @@
 //! Volumes beside a given one: with the same label area and catalogue laid out otherwise, which
 //! must pack to the same bytes, and with one thing changed, which must not.
 
+use crate::layout::Layout;
 use crate::random::Random;
-use crate::volumes::{is_name, names, Disk, File, Run, HEADER_BYTES};
+use crate::volumes::{is_name, names, Disk, File, Run, HEADER_BYTES, MARK};
 use crate::volumes::{DATA_STATUS, MOST_BLOCKS, MOST_FILES, PROGRAM_STATUS, SECTOR_BYTES};
 
 /// Bytes 0 to 55 of sector 0.
@@ -86,6 +87,7 @@ fn cut(sectors: usize, random: &mut Random) -> Vec<usize> {
 pub(super) enum Difference {
     Carried,
     Status,
+    Mark,
     Name,
     Sector,
     FileLess,
@@ -95,9 +97,10 @@ pub(super) enum Difference {
 }
 
 impl Difference {
-    pub(super) const ALL: [Difference; 8] = [
+    pub(super) const ALL: [Difference; 9] = [
         Difference::Carried,
         Difference::Status,
+        Difference::Mark,
         Difference::Name,
         Difference::Sector,
         Difference::FileLess,
@@ -106,10 +109,24 @@ impl Difference {
         Difference::DiskName,
     ];
 
+    /// One that leaves a volume sound by the layout. Where there are marks, it is often the mark.
+    pub(super) fn any(layout: Layout, random: &mut Random) -> Self {
+        if layout.marks && random.once_in(6) {
+            return Difference::Mark;
+        }
+        loop {
+            let difference = random.pick(&Difference::ALL);
+            if difference != Difference::Mark || layout.marks {
+                return difference;
+            }
+        }
+    }
+
     pub(super) fn title(self) -> &'static str {
         match self {
             Difference::Carried => "another carried byte of a header: other bytes",
-            Difference::Status => "another status byte: other bytes",
+            Difference::Status => "another kind or protection: other bytes",
+            Difference::Mark => "another mark: other bytes",
             Difference::Name => "another byte of a file's name: other bytes",
             Difference::Sector => "another byte of a file's sector: other bytes",
             Difference::FileLess => "a file less: other bytes",
@@ -126,6 +143,7 @@ impl Difference {
         match self {
             Difference::Carried => change_header(&mut other, any_carried, random)?,
             Difference::Status => change_header(&mut other, any_status, random)?,
+            Difference::Mark => change_header(&mut other, other_mark, random)?,
             Difference::Name => change_header(&mut other, any_letter, random)?,
             Difference::Sector => change_sector(&mut other, random)?,
             Difference::FileLess => drop(other.files.remove(some_place(&other, random)?)),
@@ -154,18 +172,18 @@ fn some_bits(random: &mut Random) -> u8 {
 /// Gives one byte of a file's header another value that the rules allow.
 fn change_header(
     disk: &mut Disk,
-    any: fn(&mut Random) -> (usize, u8),
+    any: fn(&File, &mut Random) -> (usize, u8),
     random: &mut Random,
 ) -> Option<()> {
     let place = some_place(disk, random)?;
     for _ in 0..TRIES {
-        let (at, value) = any(random);
+        let (at, value) = any(&disk.files[place], random);
         let mut file = disk.files[place].clone();
         file.header[at] = value;
         let name = file.name();
         let is_free = disk.files.iter().all(|other| other.name() != name);
         let is_new = value != disk.files[place].header[at];
-        if is_new && is_name(&name) && (at > 9 || is_free) && file.is_of_a_kind() {
+        if is_new && is_name(&name) && (at > 9 || is_free) && file.is_of_a_kind(Layout::MARKS) {
             disk.files[place] = file;
             return Some(());
         }
@@ -173,16 +191,27 @@ fn change_header(
     None
 }
 
-fn any_carried(random: &mut Random) -> (usize, u8) {
+fn any_carried(_: &File, random: &mut Random) -> (usize, u8) {
     let carried: Vec<usize> = [10, 11, 13].into_iter().chain(16..HEADER_BYTES).collect();
     (random.pick(&carried), random.byte())
 }
 
-fn any_status(random: &mut Random) -> (usize, u8) {
-    (12, random.pick(&[&DATA_STATUS[..], &PROGRAM_STATUS].concat()))
+/// With the mark where the file has it.
+fn any_status(file: &File, random: &mut Random) -> (usize, u8) {
+    let status = random.pick(&[&DATA_STATUS[..], &PROGRAM_STATUS].concat());
+    (12, status | file.status() & MARK)
 }
 
-fn any_letter(random: &mut Random) -> (usize, u8) {
+fn other_mark(file: &File, _: &mut Random) -> (usize, u8) {
+    (12, file.status() ^ MARK)
+}
+
+fn any_letter(_: &File, random: &mut Random) -> (usize, u8) {
+    letter_of_a_name(random)
+}
+
+/// A place in a name, and a byte for it.
+fn letter_of_a_name(random: &mut Random) -> (usize, u8) {
     (random.below(10), random.within(32..=126) as u8)
 }
 
@@ -212,7 +241,7 @@ fn add_file(disk: &mut Disk, random: &mut Random) -> Option<()> {
 
 fn change_disk_name(disk: &mut Disk, random: &mut Random) -> Option<()> {
     for _ in 0..TRIES {
-        let (at, value) = any_letter(random);
+        let (at, value) = letter_of_a_name(random);
         let mut name = disk.image[..10].try_into().expect("ten bytes");
         let was: [u8; 10] = name;
         name[at] = value;

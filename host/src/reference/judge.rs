@@ -5,21 +5,22 @@ use super::name::is_name;
 use super::refusal::{holds, Refusal};
 use super::volume::{Block, Chain, Descriptor, Volume};
 use super::volume::{MOST_SECTORS, SECTOR_BYTES};
+use crate::layout::Layout;
 
 /// The sound volume that an image is, or the first refusal in the paper's order.
-pub fn judge(image: &[u8]) -> Result<Volume<'_>, Refusal> {
+pub fn judge(image: &[u8], layout: Layout) -> Result<Volume<'_>, Refusal> {
     let volume = judge_length(image)?;
     judge_label(volume)?;
     judge_index(volume)?;
-    judge_descriptors(volume)?;
+    judge_descriptors(volume, layout)?;
     let marks = judge_holders(volume)?;
     judge_map(volume, marks)?;
     Ok(volume)
 }
 
 /// The paper's number for an image.
-pub fn number(image: &[u8]) -> u32 {
-    match judge(image) {
+pub fn number(image: &[u8], layout: Layout) -> u32 {
+    match judge(image, layout) {
         Ok(_) => 0,
         Err(refusal) => refusal.number(),
     }
@@ -52,29 +53,40 @@ fn judge_index(volume: Volume) -> Result<(), Refusal> {
     holds(in_range && ended, Refusal::Index)
 }
 
-fn judge_descriptors(volume: Volume) -> Result<(), Refusal> {
+fn judge_descriptors(volume: Volume, layout: Layout) -> Result<(), Refusal> {
+    let allowed = allowed_bits(layout);
     // None is below every name.
     let mut previous = None;
     for (_, descriptor) in volume.files() {
         let name = Some(descriptor.name());
-        let rule = previous < name && is_descriptor(descriptor, volume.sectors());
+        let rule = previous < name && is_descriptor(descriptor, volume.sectors(), allowed);
         holds(rule, Refusal::Descriptor)?;
         previous = name;
     }
     Ok(())
 }
 
-fn is_descriptor(descriptor: Descriptor, sectors: usize) -> bool {
+fn is_descriptor(descriptor: Descriptor, sectors: usize, allowed: u8) -> bool {
     is_name(descriptor.name())
-        && is_status(descriptor)
+        && is_status(descriptor, allowed)
         && length_of_chain(descriptor.chain(), sectors) == Some(descriptor.sectors())
         && descriptor.kind().is_some()
 }
 
-fn is_status(descriptor: Descriptor) -> bool {
-    const DATA: u8 = Descriptor::INTERNAL | Descriptor::VARIABLE;
-    const KNOWN: u8 = Descriptor::PROGRAM | Descriptor::PROTECTED | DATA;
-    descriptor.status() & !KNOWN == 0
+const DATA: u8 = Descriptor::INTERNAL | Descriptor::VARIABLE;
+
+/// The bits that a status may have.
+fn allowed_bits(layout: Layout) -> u8 {
+    let old = Descriptor::PROGRAM | Descriptor::PROTECTED | DATA;
+    if layout.marks {
+        old | Descriptor::MARKED
+    } else {
+        old
+    }
+}
+
+fn is_status(descriptor: Descriptor, allowed: u8) -> bool {
+    descriptor.status() & !allowed == 0
         && !(descriptor.has(Descriptor::PROGRAM) && descriptor.has(DATA))
 }
 

@@ -4,31 +4,41 @@ use super::judge::judge;
 use super::reading::{Row, Summary};
 use super::refusal::{holds, Refusal};
 use super::volume::{Form, Kind, Name, Volume};
+use crate::layout::Layout;
 use std::fmt::{self, Display, Formatter};
 
 /// What the catalogue program takes as an image; anything longer is refused unread.
 const MOST_INPUT: usize = 65_536;
 
 /// The lines of a sound volume, for a buffer that has room for them.
-pub fn listing(image: &[u8], room: usize) -> Result<String, Refusal> {
-    let text = lines(judge(image)?);
+pub fn listing(image: &[u8], layout: Layout, room: usize) -> Result<String, Refusal> {
+    let text = lines(judge(image, layout)?, layout);
     holds(room >= text.len(), Refusal::Argument)?;
     Ok(text)
 }
 
-/// All that the catalogue program prints.
-pub fn catalogue(input: &[u8]) -> String {
-    let volume = holds(input.len() <= MOST_INPUT, Refusal::Length).and_then(|()| judge(input));
-    match volume {
-        Ok(volume) => lines(volume),
+/// All that the catalogue program prints, by the old rule, or the second one, by the new rule.
+pub fn catalogue(input: &[u8], layout: Layout) -> String {
+    let is_taken = holds(input.len() <= MOST_INPUT, Refusal::Length);
+    match is_taken.and_then(|()| judge(input, layout)) {
+        Ok(volume) => lines(volume, layout),
         Err(refusal) => format!("REFUSED {}\n", refusal.number()),
     }
 }
 
-fn lines(volume: Volume) -> String {
+fn lines(volume: Volume, layout: Layout) -> String {
     let first = Summary::of(volume).to_string();
-    let files = volume.files().map(|(_, descriptor)| Row::of(descriptor).to_string());
+    let files = volume.files().map(|(_, descriptor)| line(Row::of(descriptor), layout));
     std::iter::once(first).chain(files).map(|line| line + "\n").collect()
+}
+
+/// A file's fields; whether it has the mark comes last where there are marks.
+fn line(row: Row, layout: Layout) -> String {
+    match (layout.marks, row.marked) {
+        (false, _) => row.to_string(),
+        (true, true) => format!("{} M", row),
+        (true, false) => format!("{} -", row),
+    }
 }
 
 impl Display for Summary {
@@ -37,9 +47,10 @@ impl Display for Summary {
     }
 }
 
+/// By the old rule.
 impl Display for Row {
     fn fmt(&self, out: &mut Formatter) -> fmt::Result {
-        let Row { name, kind, sectors, protected } = self;
+        let Row { name, kind, sectors, protected, .. } = self;
         let protection = if *protected { 'P' } else { 'U' };
         write!(out, "{} {} {} {} {}", unpadded(name), kind, kind.length(), sectors, protection)
     }

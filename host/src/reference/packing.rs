@@ -5,6 +5,7 @@ use super::judge::judge;
 use super::refusal::{holds, Refusal};
 use super::volume::{Block, Descriptor, Sector, Volume};
 use super::volume::{HEADER_BYTES, MOST_SECTORS, SECTOR_BYTES};
+use crate::layout::Layout;
 
 /// Where sector 0's map begins; packing keeps the bytes before it.
 const MAP: usize = 56;
@@ -12,8 +13,8 @@ const MAP: usize = 56;
 const FIRST: usize = 2;
 
 /// The bytes of a target that has so many of them, after packing the source into it.
-pub fn pack(source: &[u8], target_bytes: usize) -> Result<Vec<u8>, Refusal> {
-    let volume = judge(source)?;
+pub fn pack(source: &[u8], layout: Layout, target_bytes: usize) -> Result<Vec<u8>, Refusal> {
+    let volume = judge(source, layout)?;
     holds(target_bytes == source.len(), Refusal::Argument)?;
     let files: Vec<Descriptor> = volume.files().map(|(_, descriptor)| descriptor).collect();
     let (mut descriptors, mut data) = (Vec::new(), Vec::new());

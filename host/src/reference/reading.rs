@@ -6,6 +6,7 @@ use super::name::given_name;
 use super::refusal::{holds, Refusal};
 use super::volume::{Descriptor, Kind, Name, Sector, Volume};
 use super::volume::{HEADER_BYTES, SECTOR_BYTES};
+use crate::layout::Layout;
 
 /// What a volume is like as a whole.
 #[derive(Clone, Copy, Debug, PartialEq, Eq)]
@@ -36,6 +37,7 @@ pub struct Row {
     pub kind: Kind,
     pub sectors: usize,
     pub protected: bool,
+    pub marked: bool,
 }
 
 impl Row {
@@ -46,6 +48,7 @@ impl Row {
             kind: descriptor.kind().expect("a file of a sound volume has a kind"),
             sectors: descriptor.sectors(),
             protected: descriptor.has(Descriptor::PROTECTED),
+            marked: descriptor.has(Descriptor::MARKED),
         }
     }
 }
@@ -56,17 +59,17 @@ pub struct Entry {
     pub row: Row,
 }
 
-pub fn free_count(image: &[u8]) -> Result<usize, Refusal> {
-    Ok(judge(image)?.label().free_sectors())
+pub fn free_count(image: &[u8], layout: Layout) -> Result<usize, Refusal> {
+    Ok(judge(image, layout)?.label().free_sectors())
 }
 
-pub fn summary(image: &[u8]) -> Result<Summary, Refusal> {
-    Ok(Summary::of(judge(image)?))
+pub fn summary(image: &[u8], layout: Layout) -> Result<Summary, Refusal> {
+    Ok(Summary::of(judge(image, layout)?))
 }
 
 /// The catalogue entry at a place, counted from 0 in name order.
-pub fn entry(image: &[u8], place: usize, room: usize) -> Result<Entry, Refusal> {
-    let volume = judge(image)?;
+pub fn entry(image: &[u8], layout: Layout, place: usize, room: usize) -> Result<Entry, Refusal> {
+    let volume = judge(image, layout)?;
     let (_, descriptor) = volume.files().nth(place).ok_or(Refusal::Absent)?;
     holds(room >= HEADER_BYTES, Refusal::Argument)?;
     Ok(Entry { header: *descriptor.header(), row: Row::of(descriptor) })
@@ -75,11 +78,12 @@ pub fn entry(image: &[u8], place: usize, room: usize) -> Result<Entry, Refusal> 
 /// The sector of a file at an offset; programs and protected files may be read too.
 pub fn read<'image>(
     image: &'image [u8],
+    layout: Layout,
     name: &[u8],
     offset: usize,
     room: usize,
 ) -> Result<&'image Sector, Refusal> {
-    let volume = judge(image)?;
+    let volume = judge(image, layout)?;
     let (_, descriptor) = find(volume, name)?;
     let mut places = descriptor.chain().places();
     let place = places.nth(offset).ok_or(Refusal::Argument)?;
@@ -88,8 +92,8 @@ pub fn read<'image>(
 }
 
 /// The bytes of a program.
-pub fn load(image: &[u8], name: &[u8], room: usize) -> Result<Vec<u8>, Refusal> {
-    let volume = judge(image)?;
+pub fn load(image: &[u8], layout: Layout, name: &[u8], room: usize) -> Result<Vec<u8>, Refusal> {
+    let volume = judge(image, layout)?;
     let (_, descriptor) = find(volume, name)?;
     let length = match descriptor.kind() {
         Some(Kind::Program { length }) => length,

@@ -100,6 +100,7 @@ impl<'image> Descriptor<'image> {
     pub const PROGRAM: u8 = 0x01;
     pub const INTERNAL: u8 = 0x02;
     pub const PROTECTED: u8 = 0x08;
+    pub const MARKED: u8 = 0x10;
     pub const VARIABLE: u8 = 0x80;
 
     pub fn new(sector: &'image Sector) -> Self {

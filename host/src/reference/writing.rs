@@ -9,24 +9,26 @@ use super::reading::{find, named};
 use super::refusal::{holds, Refusal};
 use super::volume::{Block, Descriptor, Name, Sector, Volume};
 use super::volume::{MOST_BLOCKS, MOST_FILES, SECTOR_BYTES};
+use crate::layout::Layout;
 
 const MOST_PROGRAM_BYTES: usize = 32_768;
 
 /// An empty data file.
 pub fn create(
     image: &mut [u8],
+    layout: Layout,
     name: &[u8],
     status: u8,
     record_length: u8,
     records_per_sector: u8,
 ) -> Result<(), Refusal> {
-    let volume = judge(image)?;
+    let volume = judge(image, layout)?;
     let name = new_name(volume, name)?;
     holds([0x00, 0x02, 0x80, 0x82].contains(&status), Refusal::Argument)?;
     has_a_place(volume)?;
     let number = Free::of(volume).take_for_descriptor().ok_or(Refusal::DiskFull)?;
 
-    let mut descriptor = described(name, status);
+    let mut descriptor = described(name, status | mark(layout));
     descriptor[13] = records_per_sector;
     descriptor[17] = record_length;
     add(Draft::new(image), number, &descriptor);
@@ -34,8 +36,8 @@ pub fn create(
 }
 
 /// A program of the given bytes, the rest of its last sector zero.
-pub fn store(image: &mut [u8], name: &[u8], bytes: &[u8]) -> Result<(), Refusal> {
-    let volume = judge(image)?;
+pub fn store(image: &mut [u8], layout: Layout, name: &[u8], bytes: &[u8]) -> Result<(), Refusal> {
+    let volume = judge(image, layout)?;
     let name = new_name(volume, name)?;
     holds(bytes.len() <= MOST_PROGRAM_BYTES, Refusal::Argument)?;
     has_a_place(volume)?;
@@ -49,7 +51,7 @@ pub fn store(image: &mut [u8], name: &[u8], bytes: &[u8]) -> Result<(), Refusal>
     }
     holds(blocks.len() <= MOST_BLOCKS, Refusal::ChainFull)?;
 
-    let mut descriptor = described(name, Descriptor::PROGRAM);
+    let mut descriptor = described(name, Descriptor::PROGRAM | mark(layout));
     descriptor[16] = (bytes.len() % SECTOR_BYTES) as u8;
     set_chain(&mut descriptor, &blocks);
     let mut draft = Draft::new(image);
@@ -63,8 +65,8 @@ pub fn store(image: &mut [u8], name: &[u8], bytes: &[u8]) -> Result<(), Refusal>
 }
 
 /// One sector more for a data file.
-pub fn append(image: &mut [u8], name: &[u8], data: &[u8]) -> Result<(), Refusal> {
-    let volume = judge(image)?;
+pub fn append(image: &mut [u8], layout: Layout, name: &[u8], data: &[u8]) -> Result<(), Refusal> {
+    let volume = judge(image, layout)?;
     let (number, descriptor) = find(volume, name)?;
     is_writable_data(descriptor)?;
     let data = one_sector(data)?;
@@ -75,26 +77,35 @@ pub fn append(image: &mut [u8], name: &[u8], data: &[u8]) -> Result<(), Refusal>
 
     let mut draft = Draft::new(image);
     set_chain(draft.sector(number), &blocks);
+    draft.sector(number)[12] |= mark(layout);
     *draft.sector(place) = *data;
     draft.take(place);
     Ok(())
 }
 
 /// Other bytes for one sector of a data file.
-pub fn overwrite(image: &mut [u8], name: &[u8], offset: usize, data: &[u8]) -> Result<(), Refusal> {
-    let volume = judge(image)?;
-    let (_, descriptor) = find(volume, name)?;
+pub fn overwrite(
+    image: &mut [u8],
+    layout: Layout,
+    name: &[u8],
+    offset: usize,
+    data: &[u8],
+) -> Result<(), Refusal> {
+    let volume = judge(image, layout)?;
+    let (number, descriptor) = find(volume, name)?;
     is_writable_data(descriptor)?;
     let place = descriptor.chain().places().nth(offset).ok_or(Refusal::Argument)?;
     let data = one_sector(data)?;
 
-    *Draft::new(image).sector(place) = *data;
+    let mut draft = Draft::new(image);
+    draft.sector(number)[12] |= mark(layout);
+    *draft.sector(place) = *data;
     Ok(())
 }
 
 /// The sectors of a deleted file keep their bytes.
-pub fn delete(image: &mut [u8], name: &[u8]) -> Result<(), Refusal> {
-    let volume = judge(image)?;
+pub fn delete(image: &mut [u8], layout: Layout, name: &[u8]) -> Result<(), Refusal> {
+    let volume = judge(image, layout)?;
     let (number, descriptor) = find(volume, name)?;
     is_unprotected(descriptor)?;
     let places: Vec<usize> = descriptor.chain().places().collect();
@@ -106,8 +117,8 @@ pub fn delete(image: &mut [u8], name: &[u8]) -> Result<(), Refusal> {
     Ok(())
 }
 
-pub fn rename(image: &mut [u8], old: &[u8], new: &[u8]) -> Result<(), Refusal> {
-    let volume = judge(image)?;
+pub fn rename(image: &mut [u8], layout: Layout, old: &[u8], new: &[u8]) -> Result<(), Refusal> {
+    let volume = judge(image, layout)?;
     let old = lent_name(old).map_err(|place| Refusal::OldName { place })?;
     let new = lent_name(new).map_err(|place| Refusal::NewName { place })?;
     let (number, descriptor) = named(volume, old).ok_or(Refusal::Absent)?;
@@ -117,20 +128,37 @@ pub fn rename(image: &mut [u8], old: &[u8], new: &[u8]) -> Result<(), Refusal> {
     let mut draft = Draft::new(image);
     draft.unlist(number);
     draft.sector(number)[..10].copy_from_slice(new);
+    draft.sector(number)[12] |= mark(layout);
     draft.list(number);
     Ok(())
 }
 
-pub fn protect(image: &mut [u8], name: &[u8]) -> Result<(), Refusal> {
-    let (number, _) = find(judge(image)?, name)?;
+pub fn protect(image: &mut [u8], layout: Layout, name: &[u8]) -> Result<(), Refusal> {
+    let (number, _) = find(judge(image, layout)?, name)?;
     Draft::new(image).sector(number)[12] |= Descriptor::PROTECTED;
     Ok(())
 }
 
-pub fn unprotect(image: &mut [u8], name: &[u8]) -> Result<(), Refusal> {
-    let (number, _) = find(judge(image)?, name)?;
+pub fn unprotect(image: &mut [u8], layout: Layout, name: &[u8]) -> Result<(), Refusal> {
+    let (number, _) = find(judge(image, layout)?, name)?;
     Draft::new(image).sector(number)[12] &= !Descriptor::PROTECTED;
     Ok(())
+}
+
+/// There is a mark to clear by the new rule alone, so no other is asked for.
+pub fn clear_mark(image: &mut [u8], name: &[u8]) -> Result<(), Refusal> {
+    let (number, _) = find(judge(image, Layout::MARKS)?, name)?;
+    Draft::new(image).sector(number)[12] &= !Descriptor::MARKED;
+    Ok(())
+}
+
+/// The bit that says of a file that was made or changed just now that it was, where one does.
+fn mark(layout: Layout) -> u8 {
+    if layout.marks {
+        Descriptor::MARKED
+    } else {
+        0
+    }
 }
 
 /// A name for a file that is to be made.

@@ -4,6 +4,7 @@ use super::paper;
 use super::sequence::{Sequence, READING};
 use super::starts::{self, Start};
 use crate::comparison::Part;
+use crate::layout::Layout;
 use crate::outside::Outside;
 use crate::random::Random;
 use crate::reference;
@@ -20,7 +21,7 @@ pub type Comparison = crate::comparison::Comparison<Sequences>;
 /// then on an unsound image.
 const CALLS: usize = 44;
 const CALLS_LONG: usize = 1000;
-const CALLS_UNSOUND: usize = 12;
+const CALLS_UNSOUND: usize = 16;
 /// How many names new files have for the most part.
 const POOL: usize = 16;
 
@@ -28,6 +29,9 @@ const POOL: usize = 16;
 const MET: &[Meeting] = &[
     ("unsound image and bad name", |case| case.is_unsound() && case.due.contains(&7)),
     ("unsound image and bad argument", |case| case.is_unsound() && case.due.contains(&15)),
+    ("volume with a mark by the old rule", |case| {
+        case.number == 4 && case.asked.image.planned.is_some()
+    }),
 ];
 const SEQUENCES: &str = "sequences";
 
@@ -47,12 +51,17 @@ impl Part for Sequences {
     }
 
     fn on_volume_of(&mut self, sectors: usize, random: &mut Random) -> Result<(), String> {
-        let start = starts::any(sectors, random);
-        if reference::number(&start.disk.image) != 0 {
+        let layout = random.pick(&Layout::BOTH);
+        let start = starts::any(sectors, layout, random);
+        if reference::number(&start.disk.image, layout) != 0 {
             return Err("a disk that was planned to be sound is not".to_string());
         }
-        let unformatted = random.once_in(10).then(|| random.bytes(SECTOR_BYTES * sectors));
-        self.sequence(start, unformatted.as_deref(), random)
+        let other = match random.below(10) {
+            0 => Some(random.bytes(SECTOR_BYTES * sectors)),
+            1 if !layout.marks => Some(starts::marked(&start.disk, random)),
+            _ => None,
+        };
+        self.sequence(start, other.as_deref(), random)
     }
 
     fn any_size(random: &mut Random) -> usize {
@@ -61,8 +70,11 @@ impl Part for Sequences {
     }
 
     fn on_outside(&mut self, outside: &Outside, random: &mut Random) -> Result<(), String> {
-        let start = starts::any(40, random);
-        self.sequence(start, Some(&outside.image), random)
+        let mut by = |layout| {
+            let start = starts::any(40, layout, random);
+            self.sequence(start, Some(&outside.image), random)
+        };
+        Layout::BOTH.into_iter().try_for_each(&mut by)
     }
 
     fn tally(&self) -> &Tally {
@@ -70,16 +82,16 @@ impl Part for Sequences {
     }
 }
 
-/// A row for each call that writes, one for formatting, and one for all that read.
+/// Rows for each call that writes, for formatting, and for all that read.
 fn new_tally() -> Tally {
     let mut tally = Tally::of(calls_in(EVEN), MET);
     let looks = calls_in(EVEN).filter_map(|call| call.writing()?.look.as_ref());
     tally.mean(looks.map(|(what, _)| *what).chain([SEQUENCES]));
-    tally.reach((FORMAT.title, FORMAT.numbers()));
+    tally.reach((FORMAT.title, FORMAT.layouts(), FORMAT.numbers()));
     let read: Vec<u32> =
         calls_in(SINGLE).filter(|call| call.is_judging()).flat_map(|call| call.numbers()).collect();
     let is_given = |number: &u32| read.contains(number);
-    tally.reach((READING, NUMBERS.into_iter().filter(is_given).collect()));
+    tally.reach((READING, &Layout::BOTH, NUMBERS.into_iter().filter(is_given).collect()));
     tally
 }
 
@@ -92,34 +104,37 @@ impl Sequences {
         random: &mut Random,
     ) -> Result<(), String> {
         self.tally.meet(SEQUENCES);
+        let Start { disk, layout, mood } = start;
         let pool = names(POOL, random);
-        let mut sequence = Sequence::on(start.disk);
+        let mut sequence = Sequence::on(disk);
         other.into_iter().for_each(|image| sequence.goes_on_with(image));
-        Steps { sequence, pool, random, tally: &mut self.tally }.run(start.mood)
+        Steps { sequence, layout, pool, random, tally: &mut self.tally }.run(mood)
     }
 }
 
-/// A sound disk of any sort that sequences begin on.
-pub(crate) fn built(sectors: usize, random: &mut Random) -> Disk {
-    starts::any(sectors, random).disk
+/// A disk of any sort that sequences by a layout begin on.
+pub(crate) fn built(sectors: usize, layout: Layout, random: &mut Random) -> Disk {
+    starts::any(sectors, layout, random).disk
 }
 
 /// The volume that a sequence leaves, after so many calls that come and go.
 pub(crate) fn left_by_calls(
     sectors: usize,
+    layout: Layout,
     calls: usize,
     random: &mut Random,
 ) -> Result<Disk, String> {
-    let sequence = Sequence::on(built(sectors, random));
+    let sequence = Sequence::on(built(sectors, layout, random));
     let pool = names(POOL, random);
-    let mut steps = Steps { sequence, pool, random, tally: &mut new_tally() };
+    let mut steps = Steps { sequence, layout, pool, random, tally: &mut new_tally() };
     steps.steps(WEARING, calls)?;
     Ok(steps.sequence.disk)
 }
 
-/// A sequence that runs.
+/// A sequence that runs, all of it by one layout.
 struct Steps<'comparison> {
     sequence: Sequence,
+    layout: Layout,
     pool: Vec<Name>,
     random: &'comparison mut Random,
     tally: &'comparison mut Tally,
@@ -127,7 +142,7 @@ struct Steps<'comparison> {
 
 impl Steps<'_> {
     fn run(&mut self, mood: Mood) -> Result<(), String> {
-        if self.sequence.number != 0 {
+        if !self.is_sound() {
             self.steps(EVEN, CALLS_UNSOUND / 2)?;
             self.format()?;
         }
@@ -136,7 +151,7 @@ impl Steps<'_> {
         }
         self.steps(mood, CALLS)?;
         if self.random.once_in(2) {
-            let image = starts::damaged(&self.sequence.disk, self.random)?;
+            let image = starts::damaged(&self.sequence.disk, self.layout, self.random)?;
             self.sequence.goes_on_with(&image);
             self.steps(EVEN, CALLS_UNSOUND)?;
         }
@@ -147,11 +162,15 @@ impl Steps<'_> {
         Ok(())
     }
 
+    fn is_sound(&self) -> bool {
+        self.sequence.number(self.layout) == Some(0)
+    }
+
     fn steps(&mut self, mood: Mood, calls: usize) -> Result<(), String> {
         for _ in 0..calls {
             let mood = if self.random.once_in(8) { SINGLE } else { mood };
             let (disk, image_bytes) = (&self.sequence.disk, self.sequence.image().len());
-            let desk = Desk { disk, image_bytes, pool: &self.pool };
+            let desk = Desk { disk, layout: self.layout, image_bytes, pool: &self.pool };
             let (call, arguments) = table::any(mood, &desk, self.random);
             // Too much formatting would leave no disk time to wear.
             if !self.is_wiping(call, &arguments) || self.random.once_in(8) {
@@ -164,7 +183,7 @@ impl Steps<'_> {
     /// Whether the call would wipe a sound volume.
     fn is_wiping(&self, call: &Call, arguments: &Arguments) -> bool {
         !call.is_judging()
-            && self.sequence.number == 0
+            && self.is_sound()
             && arguments.at == self.sequence.disk.sectors
             && is_good(&arguments.name)
     }
@@ -177,6 +196,7 @@ impl Steps<'_> {
             if self.random.once_in(2) {
                 self.tally.meet(what);
                 let (call, arguments) = look(&self.sequence.disk, arguments);
+                let arguments = arguments.by(self.layout, self.random);
                 self.sequence.call(call, &arguments, self.random, self.tally)?;
             }
         }

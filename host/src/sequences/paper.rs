@@ -1,27 +1,38 @@
-//! What the paper says of calls that write in so many words, each shown with a short sequence:
-//! case M and the bench cases 6, 7, 9, 11, 12 and 13; and every status, which chance might leave
-//! out.
+//! What the paper says of calls that write in so many words, each shown with a short sequence by
+//! each rule: case M and the bench cases 6, 7, 9, 11, 12 and 13; every status, which chance might
+//! leave out; and which calls set the backup mark, leave it and clear it.
 
 use super::sequence::Sequence;
-use crate::paper::{all_shown, CASE_M};
+use crate::layout::Layout;
+use crate::paper::{all_shown, CASE_M, CASE_M_MARKED};
 use crate::pnoelithe::{catalogue, padded};
 use crate::random::Random;
-use crate::table::{Arguments, Call, Given, APPEND, CREATE, FORMAT, NONE, STORE};
+use crate::table::{Arguments, Call, Given, Rules, CALLS, NONE};
+use crate::table::{
+    APPEND, CLEAR_MARK, CREATE, FORMAT, OVERWRITE, PROTECT, RENAME, STORE, UNPROTECT,
+};
 use crate::tally::Tally;
 use crate::volumes::{Disk, MOST_FILES, SECTOR_BYTES};
 
 pub(super) fn cases(random: &mut Random, tally: &mut Tally) -> Result<(), String> {
-    let mut bench = Bench { random, tally };
-    all_shown(&[
-        ("case M and bench cases 6, 7 and 9", bench.case_m()?),
-        ("bench case 11", bench.case_11()?),
-        ("bench case 12", bench.case_12()?),
-        ("bench case 13", bench.case_13()?),
-        ("the four statuses of create", bench.statuses()?),
-    ])
+    for layout in Layout::BOTH {
+        let mut bench = Bench { layout, random, tally };
+        all_shown(&[
+            ("case M and bench cases 6, 7 and 9", bench.case_m()?),
+            ("bench case 11", bench.case_11()?),
+            ("bench case 12", bench.case_12()?),
+            ("bench case 13", bench.case_13()?),
+            ("the four statuses of create", bench.statuses()?),
+            ("which calls set the mark, leave it and clear it", bench.marks()?),
+            ("that a mark is 4 by the old rule and not by the new one", bench.marked()?),
+        ])
+        .map_err(|wrong| format!("{}, by {:?}", wrong, layout))?;
+    }
+    Ok(())
 }
 
 struct Bench<'comparison> {
+    layout: Layout,
     random: &'comparison mut Random,
     tally: &'comparison mut Tally,
 }
@@ -44,6 +55,7 @@ impl Bench<'_> {
         call: &'static Call,
         arguments: Arguments,
     ) -> Result<u32, String> {
+        let arguments = arguments.by(self.layout, self.random);
         sequence.call(call, &arguments, self.random, self.tally)
     }
 
@@ -80,7 +92,8 @@ impl Bench<'_> {
         let listed = notes[..5] == *b"NOTES" && notes[28..31] == [0x24, 0x00, 0x00];
         let map = image[56] == 0x0F && image[60] == 0x1C;
         let length = alpha[14..17] == [0, 2, 44];
-        let is_listed = catalogue(image) == Ok(CASE_M.to_string());
+        let listing = if self.layout.marks { CASE_M_MARKED } else { CASE_M };
+        let is_listed = catalogue(image, self.layout.for_host()) == Ok(listing.to_string());
         Ok(numbers == [0; 3] && placed && listed && map && length && is_listed)
     }
 
@@ -128,6 +141,79 @@ impl Bench<'_> {
         }
         Ok(shown)
     }
+
+    /// "create, store, append, overwrite, rename [..] set it; a new call clears it. Protecting
+    /// leaves it." For each step its number and the status then; by the old rule that has no mark.
+    fn marks(&mut self) -> Result<bool, String> {
+        let data = Given::whole(&self.random.bytes(SECTOR_BYTES));
+        let old = Arguments { name: named("OLD"), other: named("NEW"), ..NONE };
+        let new = Arguments { name: named("NEW"), other: data.clone(), ..NONE };
+        let written = Arguments { other: data, ..old.clone() };
+        let created = Arguments { bytes: [0x82, 80, 3, 0], ..old.clone() };
+        let wrongly = Arguments { bytes: [0x12, 80, 3, 0], ..new.clone() };
+        let steps: [(&Call, &Arguments, u32, u8); 23] = [
+            (&CREATE, &created, 0, 0x92),
+            (&CLEAR_MARK, &old, 0, 0x82),
+            (&APPEND, &written, 0, 0x92),
+            (&APPEND, &written, 0, 0x92),
+            (&CLEAR_MARK, &old, 0, 0x82),
+            (&CLEAR_MARK, &old, 0, 0x82),
+            (&PROTECT, &old, 0, 0x8A),
+            (&UNPROTECT, &old, 0, 0x82),
+            (&OVERWRITE, &written, 0, 0x92),
+            (&OVERWRITE, &written, 0, 0x92),
+            (&PROTECT, &old, 0, 0x9A),
+            (&CLEAR_MARK, &old, 0, 0x8A),
+            (&OVERWRITE, &written, 10, 0x8A),
+            (&RENAME, &old, 10, 0x8A),
+            (&UNPROTECT, &old, 0, 0x82),
+            (&RENAME, &old, 0, 0x92),
+            (&UNPROTECT, &new, 0, 0x92),
+            (&PROTECT, &new, 0, 0x9A),
+            (&APPEND, &new, 10, 0x9A),
+            (&CLEAR_MARK, &old, 8, 0x9A),
+            (&STORE, &written, 0, 0x9A),
+            (&CREATE, &wrongly, 9, 0x9A),
+            (&CLEAR_MARK, &new, 0, 0x8A),
+        ];
+        let mut sequence = self.formatted(64)?;
+        let mut shown = true;
+        for (call, arguments, number, status) in steps {
+            let status = if self.layout.marks { status } else { status & 0xEF };
+            shown &= self.call(&mut sequence, call, arguments.clone())? == number;
+            shown &= status_in(&sequence, 2) == status;
+        }
+        // The program has the next descriptor.
+        let stored = if self.layout.marks { 0x11 } else { 0x01 };
+        shown &= status_in(&sequence, 3) == stored;
+        shown &= self.call(&mut sequence, &CLEAR_MARK, old)? == 0;
+        Ok(shown && status_in(&sequence, 3) == 0x01)
+    }
+
+    /// Every call that goes by the rule it is asked with, on a volume with one file, which is
+    /// marked; and the call that clears the mark, which goes by the new one.
+    fn marked(&mut self) -> Result<bool, String> {
+        let mut sequence = self.formatted(64)?;
+        let mut shown = self.create(&mut sequence, "NOTES", 0x80)? == 0;
+        let mut image = sequence.disk.image.clone();
+        image[2 * SECTOR_BYTES + 12] = 0x90;
+        for call in CALLS.iter().filter(|call| matches!(call.rules, Rules::AsAsked)) {
+            sequence.goes_on_with(&image);
+            // Ten bytes are what a summary is lent.
+            let arguments = Arguments { name: named("NOTES"), room: 10, ..NONE };
+            let number = self.call(&mut sequence, call, arguments)?;
+            shown &= self.layout.marks != (number == 4);
+        }
+        sequence.goes_on_with(&image);
+        let arguments = Arguments { name: named("NOTES"), ..NONE };
+        shown &= self.call(&mut sequence, &CLEAR_MARK, arguments)? == 0;
+        Ok(shown && status_in(&sequence, 2) == 0x80)
+    }
+}
+
+/// The status of the descriptor in a sector.
+fn status_in(sequence: &Sequence, sector: usize) -> u8 {
+    sequence.disk.image[SECTOR_BYTES * sector + 12]
 }
 
 fn named(name: &str) -> Given {

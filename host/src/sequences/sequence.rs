@@ -1,10 +1,11 @@
 //! One image and what is known of it, from call to call.
 
 use super::shelf::Shelf;
+use crate::layout::Layout;
 use crate::random::Random;
 use crate::reference;
-use crate::suites::Image;
-use crate::table::plan::of_image;
+use crate::suites::{Image, Numbers};
+use crate::table::plan::{numbers_of, of_image};
 use crate::table::{compared, Arguments, Call};
 use crate::tally::Tally;
 use crate::volumes::Disk;
@@ -16,16 +17,16 @@ pub(super) struct Sequence {
     /// The plan, with the image as it must be.
     pub disk: Disk,
     shelf: Shelf,
-    /// An image that is not sound, and stands in for the plan's until it is formatted.
+    /// An image that is sound by neither rule, and stands in for the plan's until it is formatted.
     unsound: Option<Vec<u8>>,
-    /// The image's own: 0 as long as it is sound.
-    pub number: u32,
+    /// The image's own.
+    numbers: Numbers,
 }
 
 impl Sequence {
     pub(super) fn on(disk: Disk) -> Self {
-        let (shelf, number) = (Shelf::of(&disk.image), reference::number(&disk.image));
-        Sequence { disk, shelf, unsound: None, number }
+        let (shelf, numbers) = (Shelf::of(&disk.image), numbers_of(&disk.image));
+        Sequence { disk, shelf, unsound: None, numbers }
     }
 
     /// Goes on with other bytes, and with the files that they hold where they are sound.
@@ -34,8 +35,13 @@ impl Sequence {
             *self = Sequence::on(disk);
         } else {
             self.unsound = Some(image.to_vec());
-            self.number = reference::number(image);
+            self.numbers = numbers_of(image);
         }
+    }
+
+    /// The image's own by a layout: 0 as long as it is sound by that.
+    pub(super) fn number(&self, layout: Layout) -> Option<u32> {
+        self.numbers.by(layout)
     }
 
     /// The image as it must be.
@@ -52,28 +58,29 @@ impl Sequence {
         random: &mut Random,
         tally: &mut Tally,
     ) -> Result<u32, String> {
-        let planned = (self.number == 0).then_some(&self.disk);
-        let (bytes, number) = (self.image(), Some(self.number));
-        let image = Image { what: "the image of a sequence", bytes, number, planned };
+        let planned = (self.number(Layout::MARKS) == Some(0)).then_some(&self.disk);
+        let (bytes, numbers) = (self.image(), self.numbers);
+        let image = Image { what: "the image of a sequence", bytes, numbers, planned };
         let case = compared(call, arguments, &image, random)?;
-        let number = case.number;
+        let (number, asked_by, by) = (case.number, case.asked_by(), case.asked.by);
         match call.writing() {
             Some(_) => tally.count(&case),
-            None if call.is_judging() => tally.give(READING, number),
-            None => tally.give(call.title, number),
+            None if call.is_judging() => tally.give(READING, asked_by, number),
+            None => tally.give(call.title, asked_by, number),
         }
         match (case.disk, call.writing()) {
             (Some(disk), Some(writing)) => {
                 self.shelf.change(writing, arguments);
-                if !self.shelf.is_on(&disk.image) {
+                if !self.shelf.is_on(&disk.image, by) {
                     let kept = Image::as_planned("", &self.disk).keep();
-                    let now = reference::number(&disk.image);
+                    let now = reference::number(&disk.image, by);
                     return Err(format!(
                         "{} {:?}: number {} now, or other files than there should be\n  \
                          image before the call kept as {}",
                         call.title, arguments, now, kept
                     ));
                 }
+                self.numbers = Numbers::by_new(Some(0), &disk.image);
                 self.disk = disk;
             }
             (Some(disk), None) => *self = Sequence::on(disk),

@@ -2,6 +2,7 @@
 //! many sectors are free. No sector has a number here, so a call that writes over another file, or
 //! loses a sector, is found whatever library, reference and plan agree on.
 
+use crate::layout::Layout;
 use crate::reference;
 use crate::table::{Arguments, Writing};
 use crate::volumes::{word, Name, HEADER_BYTES, SECTOR_BYTES};
@@ -19,10 +20,10 @@ pub(crate) struct Shelf {
 }
 
 impl Shelf {
-    /// Of a sound volume, as the reference reads it; of any other, nothing.
+    /// Of a volume that is sound by the new rule, as the reference reads it; of any other, nothing.
     pub(crate) fn of(image: &[u8]) -> Self {
         let mut shelf = Shelf { files: BTreeMap::new(), free: 0 };
-        if let Ok(volume) = reference::judge(image) {
+        if let Ok(volume) = reference::judge(image, Layout::MARKS) {
             shelf.free = volume.label().free_sectors();
             for (_, file) in volume.files() {
                 let sectors = file.chain().places().map(|place| &volume.sector(place)[..]);
@@ -48,9 +49,9 @@ impl Shelf {
         }
     }
 
-    /// Whether the reference finds just this on an image.
-    pub(crate) fn is_on(&self, image: &[u8]) -> bool {
-        let volume = match reference::judge(image) {
+    /// Whether the reference finds just this on an image, which is sound by the layout.
+    pub(crate) fn is_on(&self, image: &[u8], layout: Layout) -> bool {
+        let volume = match reference::judge(image, layout) {
             Ok(volume) => volume,
             Err(_) => return false,
         };
@@ -77,6 +78,14 @@ impl Shelved {
         let mut header = [0; HEADER_BYTES];
         header[..10].copy_from_slice(name);
         Shelved { header, bytes: Vec::new() }
+    }
+
+    /// After a call that makes or changes a file. By the new rule that shows in its status.
+    pub(crate) fn changed(mut self, arguments: &Arguments) -> Self {
+        if arguments.layout() == Layout::MARKS {
+            self.header[12] |= 0b1_0000;
+        }
+        self
     }
 
     fn sectors(&self) -> usize {

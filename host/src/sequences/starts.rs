@@ -1,6 +1,7 @@
 //! The disks that sequences begin on, so that a few calls reach what a worn disk shows.
 
 use crate::damage::{Change, Damage};
+use crate::layout::Layout;
 use crate::random::Random;
 use crate::reference;
 use crate::table::{Mood, APPENDING, FILLING, STORING, WEARING};
@@ -9,23 +10,26 @@ use crate::volumes::{MOST_BLOCKS, MOST_FILES};
 
 const ORDERS: [Order; 3] = [Order::Ascending, Order::Descending, Order::Shuffled];
 
-/// A sound disk, and which calls are to come on it.
+/// A disk that is sound by a layout, and which calls are to come on it by that.
 pub(super) struct Start {
     pub disk: Disk,
+    pub layout: Layout,
     pub mood: Mood,
 }
 
-pub(super) fn any(sectors: usize, random: &mut Random) -> Start {
+pub(super) fn any(sectors: usize, layout: Layout, random: &mut Random) -> Start {
     let mood = if random.once_in(2) { FILLING } else { WEARING };
-    match random.below(10) {
-        0 | 1 => Start { disk: nearly_full(sectors, random), mood },
-        2 | 3 if sectors >= MOST_FILES + 20 => Start { disk: many_files(sectors, random), mood },
-        4 | 5 if sectors >= 4 * MOST_BLOCKS + 8 => {
-            Start { disk: long_chains(sectors, random), mood: APPENDING }
-        }
-        6..=8 if sectors >= MOST_FILES + 20 => Start { disk: comb(sectors, random), mood: STORING },
-        _ => Start { disk: Shape::any(sectors, random).build(random), mood },
+    let (mut disk, mood) = match random.below(10) {
+        0 | 1 => (nearly_full(sectors, random), mood),
+        2 | 3 if sectors >= MOST_FILES + 20 => (many_files(sectors, random), mood),
+        4 | 5 if sectors >= 4 * MOST_BLOCKS + 8 => (long_chains(sectors, random), APPENDING),
+        6..=8 if sectors >= MOST_FILES + 20 => (comb(sectors, random), STORING),
+        _ => (Shape::any(sectors, random).build(random), mood),
+    };
+    if layout.marks {
+        disk.mark_by_chance(random);
     }
+    Start { disk, layout, mood }
 }
 
 /// A full disk less a few blocks of its files.
@@ -90,8 +94,19 @@ fn comb(sectors: usize, random: &mut Random) -> Disk {
     Disk::of_files(sectors, files, random)
 }
 
-/// The image of a sound disk, damaged to one of the numbers 1 to 6 or, now and then, by chance.
-pub(crate) fn damaged(disk: &Disk, random: &mut Random) -> Result<Vec<u8>, String> {
+/// The image of a disk, most often with marks: of number 4 by the old rule.
+pub(super) fn marked(disk: &Disk, random: &mut Random) -> Vec<u8> {
+    let mut marked = disk.clone();
+    marked.mark_by_chance(random);
+    marked.image
+}
+
+/// The image of a disk that is sound by the layout, damaged to one of the numbers 1 to 6 or, now
+/// and then, by chance. By the old rule it is damage of number 4 that a file gets the mark.
+pub(crate) fn damaged(disk: &Disk, layout: Layout, random: &mut Random) -> Result<Vec<u8>, String> {
+    if !layout.marks && random.once_in(5) {
+        return Ok(marked(disk, random));
+    }
     let mut damage = Damage::new(disk);
     damage.of_every_sort(random);
     let wanted = random.within(1..=6) as u32;
@@ -111,7 +126,7 @@ pub(crate) fn damaged(disk: &Disk, random: &mut Random) -> Result<Vec<u8>, Strin
         image[edit.at..][..edit.bytes.len()].copy_from_slice(&edit.bytes);
     }
     image.truncate(*length);
-    let found = reference::number(&image);
+    let found = reference::number(&image, Layout::MARKS);
     if number.map_or(true, |number| number == found) {
         Ok(image)
     } else {

@@ -20,10 +20,10 @@ pub(super) const TABLE: Table = Table {
 fn rows() -> Vec<Row> {
     let mut rows = Vec::new();
     for call in CALLS {
-        for (what, before, volumes) in call.measured.on {
+        for (what, layout, before, volumes) in call.measured.on {
             rows.extend(volumes.iter().map(|volume| {
                 let volume = Volume { before: *before, ..*volume };
-                Row { call, what, volume }
+                Row { call, what, layout: *layout, volume }
             }));
         }
     }

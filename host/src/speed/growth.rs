@@ -3,6 +3,7 @@
 use super::row::{self, Row};
 use super::volume::{Before, Extent, Volume};
 use super::Table;
+use crate::layout::Layout;
 use crate::table::{Call, DELETE, JUDGE, PACK, STORE, SUMMARY};
 
 pub(super) const TABLE: Table = Table {
@@ -32,8 +33,8 @@ const BLOCKS_A_FILE: usize = 10;
 /// Size by size, the calls in their order.
 fn rows() -> Vec<Row> {
     let on = |sectors| {
-        let volume = volume(sectors);
-        CALLS.map(|(call, before)| Row { call, what: "", volume: Volume { before, ..volume } })
+        let (what, layout, volume) = ("", Layout::OLD, volume(sectors));
+        CALLS.map(|(call, before)| Row { call, what, layout, volume: Volume { before, ..volume } })
     };
     SIZES.into_iter().flat_map(on).collect()
 }

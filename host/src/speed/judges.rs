@@ -1,21 +1,21 @@
-//! The judges on sound and damaged disks of 1,440 sectors: the library's, the reference's and the
-//! tuned one.
+//! The judges on sound and damaged disks of 1,440 sectors, by the old rule and by the new one: the
+//! library's, the reference's and the tuned one.
 
-use super::{is_held, ratio, Table, NOBODY, TIMES};
+use super::{by, is_held, ratio, Table, NOBODY, TIMES};
+use crate::layout::Layout;
 use crate::random::Random;
-use crate::volumes::{
-    block, word, Disk, Order, Shape, HEADER_BYTES, MOST_BLOCKS, MOST_FILES, SECTOR_BYTES,
-};
+use crate::volumes::{block, word, Disk, Order, Shape};
+use crate::volumes::{HEADER_BYTES, MARK, MOST_BLOCKS, MOST_FILES, SECTOR_BYTES};
 use crate::{library, reference, tuned};
 use std::time::Instant;
 
 const SECTORS: usize = 1440;
 /// What the library may take, as a multiple of the reference.
-const BOUND: f64 = 1.0;
+const BOUND: f64 = 1.05;
 const ROUNDS: usize = 300;
 const CALLS_A_ROUND: usize = 20;
 
-type Judge = fn(&[u8]) -> u32;
+type Judge = fn(&[u8], Layout) -> u32;
 
 /// In the order of the table's columns.
 const JUDGES: [(&str, Judge); 3] =
@@ -33,7 +33,8 @@ pub(super) const TABLE: Table = Table {
 struct Row {
     what: &'static str,
     image: Vec<u8>,
-    /// The paper's number for the image.
+    layout: Layout,
+    /// The paper's number for the image by the layout.
     number: u32,
 }
 
@@ -47,21 +48,36 @@ fn rows() -> Vec<Row> {
     };
     let twenty = Shape { runs: 80, blocks: 1..=3, ..shape(20, 3) };
     let fragmented = shape(MOST_FILES, 10).build(random);
-    let mut rows = vec![
-        sound("full, 127 files, a block each", &shape(MOST_FILES, 1).build(random)),
-        sound("full, 127 files of 10 blocks", &fragmented),
-        sound("full, 18 files of 76 blocks", &shape(18, MOST_BLOCKS).build(random)),
-        sound("one file in one block", &shape(1, 1).build(random)),
-        sound("one file of 75 blocks", &shape(1, 75).build(random)),
-        sound("20 files of 1 to 3 blocks", &twenty.build(random)),
-        sound("empty", &shape(0, 0).build(random)),
+    let disks = [
+        ("full, 127 files, a block each", shape(MOST_FILES, 1).build(random)),
+        ("full, 127 files of 10 blocks", fragmented.clone()),
+        ("full, 18 files of 76 blocks", shape(18, MOST_BLOCKS).build(random)),
+        ("one file in one block", shape(1, 1).build(random)),
+        ("one file of 75 blocks", shape(1, 75).build(random)),
+        ("20 files of 1 to 3 blocks", twenty.build(random)),
+        ("empty", shape(0, 0).build(random)),
     ];
+    let sound = |(what, disk): &(&'static str, Disk)| Row::of(what, &disk.image, 0);
+    let mut rows: Vec<Row> = disks.iter().map(sound).collect();
     rows.extend(damaged_rows(&fragmented));
+    rows.extend(disks[..3].iter().map(|(what, disk)| by_marks(sound(&(*what, marked(disk))))));
+    let fragmented = marked(&fragmented);
+    let late = |row: &Row| row.number == 4 || row.number == 6;
+    rows.extend(damaged_rows(&fragmented).into_iter().filter(late).map(by_marks));
+    rows.push(Row::of("4: a mark on every file, old rule", &fragmented.image, 4));
     rows
 }
 
-fn sound(what: &'static str, disk: &Disk) -> Row {
-    Row { what, image: disk.image.clone(), number: 0 }
+/// The disk with the mark on every file.
+fn marked(disk: &Disk) -> Disk {
+    let mut disk = disk.clone();
+    disk.files.iter_mut().for_each(|file| file.header[12] |= MARK);
+    disk.lay_down();
+    disk
+}
+
+fn by_marks(row: Row) -> Row {
+    Row { layout: Layout::MARKS, ..row }
 }
 
 /// The disk with each fault early and late, where that can be told apart.
@@ -69,7 +85,7 @@ fn damaged_rows(disk: &Disk) -> Vec<Row> {
     let damaged = |what, number, at: usize, bytes: &[u8]| {
         let mut image = disk.image.clone();
         image[at..][..bytes.len()].copy_from_slice(bytes);
-        Row { what, image, number }
+        Row::of(what, &image, number)
     };
     let last = disk.files.len() - 1;
     let status = |file: usize| SECTOR_BYTES * disk.files[file].descriptor + 12;
@@ -91,40 +107,49 @@ fn damaged_rows(disk: &Disk) -> Vec<Row> {
 }
 
 impl Row {
+    /// By the old rule.
+    fn of(what: &'static str, image: &[u8], number: u32) -> Self {
+        Row { what, image: image.to_vec(), layout: Layout::OLD, number }
+    }
+
+    fn title(&self) -> String {
+        [self.what, by(self.layout)].concat()
+    }
+
     fn check(&self) -> Result<(), String> {
-        match JUDGES.iter().find(|(_, judge)| judge(&self.image) != self.number) {
-            Some((judge, _)) => Err(format!("{}: wrong number from {}", self.what, judge)),
+        let is_wrong = |judge: Judge| judge(&self.image, self.layout) != self.number;
+        match JUDGES.iter().find(|(_, judge)| is_wrong(*judge)) {
+            Some((judge, _)) => Err(format!("{}: wrong number from {}", self.title(), judge)),
             None => Ok(()),
         }
     }
 }
 
 fn repeat_by_name(row: usize, side: &str) -> Result<(), String> {
-    let nobody: (&str, Judge) = (NOBODY, |_| 0);
+    let nobody: (&str, Judge) = (NOBODY, |_, _| 0);
     let mut judges = JUDGES.into_iter().chain([nobody]);
     let (_, judge) = judges.find(|(name, _)| *name == side).ok_or("no such judge")?;
     let rows = rows();
     let row = rows.get(row).ok_or("no such row")?;
     row.check()?;
-    repeat(judge, &row.image, TIMES);
+    repeat(judge, row, TIMES);
     Ok(())
 }
 
-fn repeat(judge: Judge, image: &[u8], times: usize) {
+fn repeat(judge: Judge, row: &Row, times: usize) {
     for _ in 0..times {
         // The compiler cannot tell which judge this reads, so it leaves no call out.
         let judge = unsafe { std::ptr::read_volatile(&judge) };
-        judge(image);
+        judge(&row.image, row.layout);
     }
 }
 
 fn write(figures: &[Vec<f64>]) -> Vec<String> {
     let rows = rows();
     write_table("instructions", &rows, figures, is_held);
-    let misses = |(_, figures): &(&Row, &Vec<f64>)| {
-        is_held(figures[1]) && figures[0] > BOUND * figures[1]
-    };
-    rows.iter().zip(figures).filter(misses).map(|(row, _)| row.what.to_string()).collect()
+    let misses =
+        |(_, figures): &(&Row, &Vec<f64>)| is_held(figures[1]) && figures[0] > BOUND * figures[1];
+    rows.iter().zip(figures).filter(misses).map(|(row, _)| row.title()).collect()
 }
 
 /// The same table in nanoseconds.
@@ -142,7 +167,7 @@ fn least_times(row: &Row) -> Vec<f64> {
     for _ in 0..ROUNDS {
         for (least, (_, judge)) in least.iter_mut().zip(JUDGES) {
             let start = Instant::now();
-            repeat(judge, &row.image, CALLS_A_ROUND);
+            repeat(judge, row, CALLS_A_ROUND);
             let taken = start.elapsed().as_nanos() as f64 / CALLS_A_ROUND as f64;
             *least = least.min(taken);
         }
@@ -159,7 +184,7 @@ fn write_table(unit: &str, rows: &[Row], figures: &[Vec<f64>], held: fn(f64) -> 
         let to = |other| ratio(library, other, held(reference));
         println!(
             "| {} | {:.0} | {:.0} | {} | {:.0} | {} |",
-            row.what,
+            row.title(),
             library,
             reference,
             to(reference),

@@ -1,7 +1,8 @@
 //! A call on a volume, by the library or by the reference.
 
 use super::volume::Volume;
-use super::{NOBODY, TIMES};
+use super::{by, NOBODY, TIMES};
+use crate::layout::Layout;
 use crate::random::Random;
 use crate::reference;
 use crate::table::lent::{Lent, Memory};
@@ -11,6 +12,7 @@ pub(super) struct Row {
     pub call: &'static Call,
     /// What stands behind the call's title.
     pub what: &'static str,
+    pub layout: Layout,
     pub volume: Volume,
 }
 
@@ -22,7 +24,7 @@ struct Prepared {
 
 impl Row {
     pub(super) fn call_title(&self) -> String {
-        [self.call.title, self.what].concat()
+        [self.call.title, self.what, by(self.layout)].concat()
     }
 
     pub(super) fn title(&self) -> String {
@@ -31,8 +33,12 @@ impl Row {
     }
 
     fn prepared(&self) -> Prepared {
-        let full = self.volume.build();
-        let arguments = (self.call.measured.arguments)(&full);
+        let mut full = self.volume.build();
+        if self.layout.marks {
+            full.mark_others();
+        }
+        let layout_bits = self.layout.bits();
+        let arguments = Arguments { layout_bits, ..(self.call.measured.arguments)(&full) };
         let memory = Memory::of(&arguments, &full.disk.image, &mut Random::new(3));
         Prepared { arguments, memory }
     }
@@ -80,7 +86,7 @@ impl Row {
         if lent != expected {
             return wrong("the library leaves other bytes than the reference");
         }
-        let is_full = |image: &[u8]| reference::free_count(image) == Ok(0);
+        let is_full = |image: &[u8]| reference::free_count(image, self.layout) == Ok(0);
         if is_full(before.image.seen()) || is_full(lent.image.seen()) {
             Ok(())
         } else {

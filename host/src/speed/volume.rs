@@ -2,7 +2,7 @@
 
 use crate::random::Random;
 use crate::table::{Arguments, Given, NONE};
-use crate::volumes::{names, Disk, File, Name, Run, SECTOR_BYTES};
+use crate::volumes::{names, Disk, File, Name, Run, MARK, SECTOR_BYTES};
 
 /// Of the volumes that all calls are measured on.
 pub(crate) const SECTORS: usize = 1440;
@@ -43,8 +43,10 @@ pub(crate) struct Extent {
 /// What the call finds of its file.
 #[derive(Clone, Copy)]
 pub(crate) enum Before {
-    /// A data file that is not protected.
+    /// A data file that is neither protected nor marked.
     Data,
+    /// The same with the mark.
+    Marked,
     /// A program of whole sectors, as the longest is.
     Program,
     Absent,
@@ -66,6 +68,13 @@ pub(crate) struct Full {
 impl Full {
     pub(crate) fn name(&self) -> Given {
         Given::whole(&self.called)
+    }
+
+    /// Gives the mark to every file but the called one.
+    pub(super) fn mark_others(&mut self) {
+        let others = self.disk.files.iter_mut().filter(|file| file.name() != self.called);
+        others.for_each(|file| file.header[12] |= MARK);
+        self.disk.lay_down();
     }
 
     pub(crate) fn new_name(&self) -> Given {
@@ -159,6 +168,7 @@ impl Before {
         let start = |run: &&mut Run| run.start;
         match self {
             Before::Data => {}
+            Before::Marked => file.header[12] = MARK,
             Before::Program => {
                 file.header[12] = 0x01;
                 file.header[16] = 0;

@@ -3,6 +3,8 @@
 
 use super::plan::is_protected;
 use crate::damage::changed_names;
+use crate::layout::Layout;
+use crate::pnoelithe;
 use crate::random::Random;
 use crate::volumes::{names, Disk, File, Name, SECTOR_BYTES};
 use std::fmt::{self, Debug, Formatter};
@@ -10,6 +12,8 @@ use std::fmt::{self, Debug, Formatter};
 /// Each call takes some of these.
 #[derive(Clone, Debug)]
 pub(crate) struct Arguments {
+    /// The layout as it crosses, with bits that are not looked at.
+    pub layout_bits: u32,
     /// Of the disk, or of the file that is read, made or changed.
     pub name: Given,
     /// What else is lent to be read: data, a program's bytes or a new name.
@@ -23,8 +27,30 @@ pub(crate) struct Arguments {
 }
 
 /// What a call has that takes none; others are this but for what they take.
-pub(crate) const NONE: Arguments =
-    Arguments { name: Given::NOTHING, other: Given::NOTHING, at: 0, bytes: [0; 4], room: 0 };
+pub(crate) const NONE: Arguments = Arguments {
+    layout_bits: 0,
+    name: Given::NOTHING,
+    other: Given::NOTHING,
+    at: 0,
+    bytes: [0; 4],
+    room: 0,
+};
+
+impl Arguments {
+    /// The same by a layout, all other bits being by chance.
+    pub(crate) fn by(self, layout: Layout, random: &mut Random) -> Self {
+        let others = random.number() as u32 & !Layout::MARKS.bits();
+        Arguments { layout_bits: layout.bits() | others, ..self }
+    }
+
+    pub(crate) fn layout(&self) -> Layout {
+        Layout::of_bits(self.layout_bits)
+    }
+
+    pub(super) fn layout_for_host(&self) -> pnoelithe::Layout {
+        self.layout().for_host()
+    }
+}
 
 /// A name, or data to write, as it is lent: so many of the bytes, with more behind them that do not
 /// count.
@@ -63,9 +89,11 @@ impl Debug for Given {
     }
 }
 
-/// What arguments are made for: a disk, and an image that may be the disk's and changed since.
+/// What arguments are made for: a disk, an image that may be the disk's and changed since, and the
+/// layout.
 pub(crate) struct Desk<'made> {
     pub disk: &'made Disk,
+    pub layout: Layout,
     pub image_bytes: usize,
     /// Names for new files, so that a name that was deleted comes again.
     pub pool: &'made [Name],

@@ -3,6 +3,7 @@
 use super::lent::Memory;
 use super::plan::{faults, planned, takes, Planned};
 use super::{Arguments, Asked, Call, Written};
+use crate::layout::Layout;
 use crate::pnoelithe::Refusal;
 use crate::random::Random;
 use crate::suites::Image;
@@ -24,6 +25,15 @@ impl Case<'_> {
     /// Whether it gave one of the numbers of the image.
     pub(crate) fn is_unsound(&self) -> bool {
         self.call.is_judging() && (1..=6).contains(&self.number)
+    }
+
+    /// The layout that it was asked with, of a call that takes one.
+    pub(crate) fn asked_by(&self) -> Layout {
+        if self.call.is_judging() {
+            self.asked.arguments.layout()
+        } else {
+            Layout::OLD
+        }
     }
 
     pub(crate) fn is_done(&self) -> bool {
@@ -50,7 +60,7 @@ pub(crate) fn compared<'case>(
     image: &'case Image<'case>,
     random: &mut Random,
 ) -> Result<Case<'case>, String> {
-    let asked = Asked { arguments, image };
+    let asked = Asked { arguments, image, by: call.layout(arguments) };
     let faults = faults(call, &asked);
     let planned = planned(call, &asked, &faults);
     let mut lent = Memory::of(arguments, image.bytes, random);

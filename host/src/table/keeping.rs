@@ -1,10 +1,13 @@
-//! Calls that leave the sectors of files alone: delete, rename, protect and unprotect.
+//! Calls that leave the sectors of files alone: delete, rename, protect, unprotect and clear mark.
 
 use super::arguments::malformed;
-use super::plan::{absent, bad_name, called, find, is_good, is_protected, protected};
-use super::{Answer, Arguments, Call, Case, Often, Plan, Writing, NONE};
+use super::plan::{absent, bad_name, called, find, is_good, is_protected, mark, protected};
+use super::sectors::is_on_marked;
+use super::{Answer, Arguments, Call, Case, Often, Plan, Rules, Writing, NONE};
+use crate::layout::Layout;
 use crate::library::ask;
 use crate::speed::{volume, Before, Measured, Volume, ALL, MANY, ONE, PIECES};
+use crate::volumes::{File, MARK};
 use crate::{pnoelithe, reference};
 
 pub(crate) static DELETE: Call = Call {
@@ -12,14 +15,19 @@ pub(crate) static DELETE: Call = Call {
     tests: &[(7, bad_name), (8, absent), (10, protected)],
     together: &[],
     names: 1,
+    rules: Rules::AsAsked,
     often: Often::writing(2, 19, 8, 8),
     any: |desk, random| {
         let name = desk.present(|file| !is_protected(file), random);
         Arguments { name, ..NONE }
     },
-    by_library: |lent, _| ask!(pno_delete, [lent.image], [lent.name], lent.wrong),
-    by_host: |lent, _| pnoelithe::delete(lent.image, lent.name),
-    by_reference: |image, asked| reference::delete(image, asked.name.lent()).map(|()| Answer::Done),
+    by_library: |lent, asked| {
+        ask!(pno_delete, [lent.image], asked.layout_bits, [lent.name], lent.wrong)
+    },
+    by_host: |lent, asked| pnoelithe::delete(lent.image, asked.layout_for_host(), lent.name),
+    by_reference: |image, asked| {
+        reference::delete(image, asked.layout(), asked.name.lent()).map(|()| Answer::Done)
+    },
     by_plan: Plan::Writes(Writing {
         on_disk: |disk, asked| {
             let name = asked.name.name();
@@ -28,12 +36,15 @@ pub(crate) static DELETE: Call = Call {
         on_shelf: |_, _| None,
         look: None,
     }),
-    met: &[("file of several blocks deleted", |case| {
-        case.is_done() && case.asked.on_file(|file| file.runs.len() > 1)
-    })],
+    met: &[
+        ("file of several blocks deleted", |case| {
+            case.is_done() && case.asked.on_file(|file| file.runs.len() > 1)
+        }),
+        ("file with the mark deleted", |case| is_on_marked(case, true)),
+    ],
     measured: Measured {
         arguments: |full| Arguments { name: full.name(), ..NONE },
-        on: &[("", Before::Data, &[MANY, PIECES, LARGE, ONE])],
+        on: &[("", Layout::OLD, Before::Data, &[MANY, PIECES, LARGE, ONE])],
     },
 };
 
@@ -49,6 +60,7 @@ pub(crate) static RENAME: Call = Call {
     ],
     together: &[(7, &[8, 9, 10]), (8, &[9]), (9, &[10])],
     names: 2,
+    rules: Rules::AsAsked,
     often: Often::writing(10, 11, 4, 4),
     any: |desk, random| {
         let name = match random.below(8) {
@@ -63,11 +75,13 @@ pub(crate) static RENAME: Call = Call {
         };
         Arguments { name, other, ..NONE }
     },
-    by_library: |lent, _| {
-        ask!(pno_rename, [lent.image], [lent.name], [lent.other], lent.which, lent.wrong)
+    by_library: |lent, asked| {
+        let layout = asked.layout_bits;
+        ask!(pno_rename, [lent.image], layout, [lent.name], [lent.other], lent.which, lent.wrong)
     },
-    by_host: |lent, _| {
-        let renamed = pnoelithe::rename(lent.image, lent.name, lent.other);
+    by_host: |lent, asked| {
+        let layout = asked.layout_for_host();
+        let renamed = pnoelithe::rename(lent.image, layout, lent.name, lent.other);
         renamed.map_err(|pnoelithe::RenameRefusal { refusal, which }| {
             if let Some(which) = which {
                 *lent.which = which as usize;
@@ -76,23 +90,32 @@ pub(crate) static RENAME: Call = Call {
         })
     },
     by_reference: |image, asked| {
-        reference::rename(image, asked.name.lent(), asked.other.lent()).map(|()| Answer::Done)
+        let (old, new) = (asked.name.lent(), asked.other.lent());
+        reference::rename(image, asked.layout(), old, new).map(|()| Answer::Done)
     },
     by_plan: Plan::Writes(Writing {
-        on_disk: |disk, asked| called(disk, asked).header[..10].copy_from_slice(asked.other.lent()),
+        on_disk: |disk, asked| {
+            let file = called(disk, asked);
+            file.header[..10].copy_from_slice(asked.other.lent());
+            mark(file, asked);
+        },
         on_shelf: |mut file, asked| {
             file.header[..10].copy_from_slice(asked.other.lent());
-            Some(file)
+            Some(file.changed(asked))
         },
         look: None,
     }),
-    met: &[("rename to its own name", |case| {
-        let Arguments { name, other, .. } = case.asked.arguments;
-        case.number == 9 && name.lent() == other.lent()
-    })],
+    met: &[
+        ("rename to its own name", |case| {
+            let Arguments { name, other, .. } = case.asked.arguments;
+            case.number == 9 && name.lent() == other.lent()
+        }),
+        ("rename of a file with the mark", |case| is_on_marked(case, true)),
+        ("rename of a file without the mark, which it gets", |case| is_on_marked(case, false)),
+    ],
     measured: Measured {
         arguments: |full| Arguments { name: full.name(), other: full.new_name(), ..NONE },
-        on: &[("", Before::Data, &ALL)],
+        on: &[("", Layout::OLD, Before::Data, &ALL), ("", Layout::MARKS, Before::Data, &ALL)],
     },
 };
 
@@ -101,12 +124,15 @@ pub(crate) static PROTECT: Call = Call {
     tests: &[(7, bad_name), (8, absent)],
     together: &[],
     names: 1,
+    rules: Rules::AsAsked,
     often: Often::writing(3, 4, 2, 2),
     any: |desk, random| Arguments { name: desk.present(|_| true, random), ..NONE },
-    by_library: |lent, _| ask!(pno_protect, [lent.image], [lent.name], lent.wrong),
-    by_host: |lent, _| pnoelithe::protect(lent.image, lent.name),
+    by_library: |lent, asked| {
+        ask!(pno_protect, [lent.image], asked.layout_bits, [lent.name], lent.wrong)
+    },
+    by_host: |lent, asked| pnoelithe::protect(lent.image, asked.layout_for_host(), lent.name),
     by_reference: |image, asked| {
-        reference::protect(image, asked.name.lent()).map(|()| Answer::Done)
+        reference::protect(image, asked.layout(), asked.name.lent()).map(|()| Answer::Done)
     },
     by_plan: Plan::Writes(Writing {
         on_disk: |disk, asked| called(disk, asked).header[12] |= 0x08,
@@ -116,10 +142,14 @@ pub(crate) static PROTECT: Call = Call {
         },
         look: None,
     }),
-    met: &[("protected file protected", |case| is_on_protected(case, true))],
+    met: &[
+        ("protected file protected", |case| is_on_protected(case, true)),
+        ("file with the mark protected", |case| is_on_marked(case, true)),
+        ("file without the mark protected by the new rule", |case| is_on_marked(case, false)),
+    ],
     measured: Measured {
         arguments: |full| Arguments { name: full.name(), ..NONE },
-        on: &[("", Before::Data, &ALL)],
+        on: &[("", Layout::OLD, Before::Data, &ALL)],
     },
 };
 
@@ -128,12 +158,15 @@ pub(crate) static UNPROTECT: Call = Call {
     tests: &[(7, bad_name), (8, absent)],
     together: &[],
     names: 1,
+    rules: Rules::AsAsked,
     often: Often::writing(5, 6, 4, 8),
     any: |desk, random| Arguments { name: desk.present(is_protected, random), ..NONE },
-    by_library: |lent, _| ask!(pno_unprotect, [lent.image], [lent.name], lent.wrong),
-    by_host: |lent, _| pnoelithe::unprotect(lent.image, lent.name),
+    by_library: |lent, asked| {
+        ask!(pno_unprotect, [lent.image], asked.layout_bits, [lent.name], lent.wrong)
+    },
+    by_host: |lent, asked| pnoelithe::unprotect(lent.image, asked.layout_for_host(), lent.name),
     by_reference: |image, asked| {
-        reference::unprotect(image, asked.name.lent()).map(|()| Answer::Done)
+        reference::unprotect(image, asked.layout(), asked.name.lent()).map(|()| Answer::Done)
     },
     by_plan: Plan::Writes(Writing {
         on_disk: |disk, asked| called(disk, asked).header[12] &= !0x08,
@@ -143,9 +176,57 @@ pub(crate) static UNPROTECT: Call = Call {
         },
         look: None,
     }),
-    met: &[("unprotected file unprotected", |case| is_on_protected(case, false))],
+    met: &[
+        ("unprotected file unprotected", |case| is_on_protected(case, false)),
+        ("file with the mark unprotected", |case| is_on_marked(case, true)),
+        ("file without the mark unprotected by the new rule", |case| is_on_marked(case, false)),
+    ],
     measured: Measured { arguments: |full| Arguments { name: full.name(), ..NONE }, on: &[] },
 };
+
+pub(crate) static CLEAR_MARK: Call = Call {
+    title: "clear mark",
+    tests: &[(7, bad_name), (8, absent)],
+    together: &[],
+    names: 1,
+    rules: Rules::OfMarks,
+    often: Often::writing(6, 8, 4, 8),
+    any: |desk, random| Arguments { name: desk.present(File::is_marked, random), ..NONE },
+    by_library: |lent, asked| {
+        ask!(pno_clear_mark, [lent.image], asked.layout_bits, [lent.name], lent.wrong)
+    },
+    by_host: |lent, asked| pnoelithe::clear_mark(lent.image, asked.layout_for_host(), lent.name),
+    by_reference: |image, asked| {
+        reference::clear_mark(image, asked.name.lent()).map(|()| Answer::Done)
+    },
+    by_plan: Plan::Writes(Writing {
+        on_disk: |disk, asked| called(disk, asked).header[12] &= !MARK,
+        on_shelf: |mut file, _| {
+            file.header[12] &= 0xEF;
+            Some(file)
+        },
+        look: None,
+    }),
+    met: &[
+        ("mark of an unprotected file cleared", |case| clears(case, |file| !is_protected(file))),
+        ("mark of a protected file cleared", |case| clears(case, is_protected)),
+        ("mark of a program cleared", |case| clears(case, File::is_program)),
+        ("mark cleared that there was not", |case| is_on_marked(case, false)),
+        ("mark cleared on an image that the old rule refuses, asked by that", |case| {
+            let is_old = !case.asked.arguments.layout().marks;
+            is_old && clears(case, |_| true)
+        }),
+    ],
+    measured: Measured {
+        arguments: |full| Arguments { name: full.name(), ..NONE },
+        on: &[("", Layout::MARKS, Before::Marked, &ALL)],
+    },
+};
+
+/// Whether a mark was cleared, of a file that keeps a rule.
+fn clears(case: &Case, rule: fn(&File) -> bool) -> bool {
+    is_on_marked(case, true) && case.asked.on_file(rule)
+}
 
 fn is_on_protected(case: &Case, protected: bool) -> bool {
     case.is_done() && case.asked.on_file(|file| is_protected(file) == protected)

@@ -3,10 +3,11 @@
 use super::answer::number_of_kind;
 use super::arguments::{around, room_for};
 use super::plan::{is_protected, length_of};
-use super::{Answer, Arguments, Call, Often, Plan, Reading, Written, NONE};
+use super::{Answer, Arguments, Call, Often, Plan, Reading, Rules, Written, NONE};
+use crate::layout::Layout;
 use crate::library::ask;
 use crate::speed::{Before, Measured, ALL};
-use crate::volumes::{Disk, File, HEADER_BYTES, MOST_SECTORS, SECTOR_BYTES};
+use crate::volumes::{Disk, File, HEADER_BYTES, MARK, MOST_SECTORS, SECTOR_BYTES};
 use crate::{pnoelithe, reference};
 
 pub(crate) static JUDGE: Call = Call {
@@ -14,11 +15,12 @@ pub(crate) static JUDGE: Call = Call {
     tests: &[],
     together: &[],
     names: 0,
+    rules: Rules::AsAsked,
     often: Often::single(1),
     any: |_, _| NONE,
-    by_library: |lent, _| ask!(pno_judge, [lent.image]),
-    by_host: |lent, _| pnoelithe::judge(lent.image),
-    by_reference: |image, _| reference::judge(image).map(|_| Answer::Done),
+    by_library: |lent, asked| ask!(pno_judge, [lent.image], asked.layout_bits),
+    by_host: |lent, asked| pnoelithe::judge(lent.image, asked.layout_for_host()),
+    by_reference: |image, asked| reference::judge(image, asked.layout()).map(|_| Answer::Done),
     by_plan: Plan::Reads(Reading { of_disk: |_, _| Some(Written::default()), all: |_| vec![NONE] }),
     met: &[],
     measured: Measured { arguments: |_| NONE, on: &[] },
@@ -29,20 +31,23 @@ pub(crate) static FREE_COUNT: Call = Call {
     tests: &[],
     together: &[],
     names: 0,
+    rules: Rules::AsAsked,
     often: Often::single(1),
     any: |_, _| NONE,
-    by_library: |lent, _| ask!(pno_free_count, [lent.image], &mut lent.numbers[0]),
-    by_host: |lent, _| {
-        lent.numbers[0] = pnoelithe::free_count(lent.image)?;
+    by_library: |lent, asked| {
+        ask!(pno_free_count, [lent.image], asked.layout_bits, &mut lent.numbers[0])
+    },
+    by_host: |lent, asked| {
+        lent.numbers[0] = pnoelithe::free_count(lent.image, asked.layout_for_host())?;
         Ok(())
     },
-    by_reference: |image, _| reference::free_count(image).map(Answer::Number),
+    by_reference: |image, asked| reference::free_count(image, asked.layout()).map(Answer::Number),
     by_plan: Plan::Reads(Reading {
         of_disk: |disk, _| Some(Written::new(&[], &[disk.free().len()])),
         all: |_| vec![NONE],
     }),
     met: &[],
-    measured: Measured { arguments: |_| NONE, on: &[("", Before::Data, &ALL)] },
+    measured: Measured { arguments: |_| NONE, on: &[("", Layout::OLD, Before::Data, &ALL)] },
 };
 
 /// The buffer has the ten bytes of the disk name.
@@ -51,21 +56,22 @@ pub(crate) static SUMMARY: Call = Call {
     tests: &[],
     together: &[],
     names: 0,
+    rules: Rules::AsAsked,
     often: Often::single(1),
     any: |_, _| for_a_name(),
-    by_library: |lent, _| {
+    by_library: |lent, asked| {
         let [n, files, free_sectors, _] = lent.numbers;
         let disk_name = lent.buffer.as_mut_ptr();
-        ask!(pno_summary, [lent.image], disk_name, n, files, free_sectors)
+        ask!(pno_summary, [lent.image], asked.layout_bits, disk_name, n, files, free_sectors)
     },
-    by_host: |lent, _| {
-        let summary = pnoelithe::summary(lent.image)?;
+    by_host: |lent, asked| {
+        let summary = pnoelithe::summary(lent.image, asked.layout_for_host())?;
         lent.buffer.copy_from_slice(&summary.disk_name);
         let numbers = [summary.sectors, summary.files, summary.free_sectors];
         lent.numbers[..3].copy_from_slice(&numbers);
         Ok(())
     },
-    by_reference: |image, _| reference::summary(image).map(Answer::Summary),
+    by_reference: |image, asked| reference::summary(image, asked.layout()).map(Answer::Summary),
     by_plan: Plan::Reads(Reading {
         of_disk: |disk, _| {
             let numbers = [disk.sectors, disk.files.len(), disk.free().len()];
@@ -74,7 +80,10 @@ pub(crate) static SUMMARY: Call = Call {
         all: |_| vec![for_a_name()],
     }),
     met: &[],
-    measured: Measured { arguments: |_| for_a_name(), on: &[("", Before::Data, &ALL)] },
+    measured: Measured {
+        arguments: |_| for_a_name(),
+        on: &[("", Layout::OLD, Before::Data, &ALL)],
+    },
 };
 
 fn for_a_name() -> Arguments {
@@ -89,6 +98,7 @@ pub(crate) static ENTRY: Call = Call {
     ],
     together: &[(8, &[15])],
     names: 0,
+    rules: Rules::AsAsked,
     often: Often::single(3),
     any: |desk, random| {
         let room = match random.below(3) {
@@ -100,15 +110,27 @@ pub(crate) static ENTRY: Call = Call {
     },
     by_library: |lent, asked| {
         let [kind, length, sectors, is_protected] = lent.numbers;
-        ask!(pno_entry, [lent.image], asked.at, [lent.buffer], kind, length, sectors, is_protected)
+        ask!(
+            pno_entry,
+            [lent.image],
+            asked.layout_bits,
+            asked.at,
+            [lent.buffer],
+            kind,
+            length,
+            sectors,
+            is_protected
+        )
     },
     by_host: |lent, asked| {
         let pnoelithe::Entry { kind, sectors, is_protected } =
-            pnoelithe::entry(lent.image, asked.at, lent.buffer)?;
+            pnoelithe::entry(lent.image, asked.layout_for_host(), asked.at, lent.buffer)?;
         *lent.numbers = [number_of_kind(kind), kind.length(), sectors, is_protected.into()];
         Ok(())
     },
-    by_reference: |image, asked| reference::entry(image, asked.at, asked.room).map(Answer::Entry),
+    by_reference: |image, asked| {
+        reference::entry(image, asked.layout(), asked.at, asked.room).map(Answer::Entry)
+    },
     by_plan: Plan::Reads(Reading {
         of_disk: |disk, asked| {
             let file = disk.files.get(asked.at)?;
@@ -121,13 +143,19 @@ pub(crate) static ENTRY: Call = Call {
             (0..=files.len()).flat_map(at_place).collect()
         },
     }),
-    met: &[("place one past the last", |case| {
-        let places = case.asked.disk().map(|disk| disk.files.len());
-        case.number == 8 && places == Some(case.asked.at)
-    })],
+    met: &[
+        ("place one past the last", |case| {
+            let places = case.asked.disk().map(|disk| disk.files.len());
+            case.number == 8 && places == Some(case.asked.at)
+        }),
+        ("entry of a file with the mark", |case| {
+            let file = case.asked.disk().and_then(|disk| disk.files.get(case.asked.at));
+            case.is_done() && file.map_or(false, File::is_marked)
+        }),
+    ],
     measured: Measured {
         arguments: |full| Arguments { at: full.place(), ..full.for_buffer() },
-        on: &[("", Before::Data, &ALL)],
+        on: &[("", Layout::OLD, Before::Data, &ALL)],
     },
 };
 
@@ -136,32 +164,57 @@ pub(crate) static LISTING: Call = Call {
     title: "listing",
     tests: &[(15, |asked| {
         let room = asked.room;
-        asked.disk().map_or(room == 0, |disk| room < lines(disk).len())
+        asked.disk().map_or(room == 0, |disk| room < lines(disk, asked.by).len())
     })],
     together: &[],
     names: 0,
+    rules: Rules::AsAsked,
     often: Often::single(2),
-    any: |desk, random| Arguments { room: room_for(lines(desk.disk).len(), random), ..NONE },
-    by_library: |lent, _| ask!(pno_listing, [lent.image], [lent.buffer], &mut lent.numbers[0]),
-    by_host: |lent, _| {
-        lent.numbers[0] = pnoelithe::listing(lent.image, lent.buffer)?.len();
+    any: |desk, random| {
+        // Now and then the length that the text has by the other rule.
+        let layout = if random.once_in(8) { random.pick(&Layout::BOTH) } else { desk.layout };
+        Arguments { room: room_for(lines(desk.disk, layout).len(), random), ..NONE }
+    },
+    by_library: |lent, asked| {
+        let length = &mut lent.numbers[0];
+        ask!(pno_listing, [lent.image], asked.layout_bits, [lent.buffer], length)
+    },
+    by_host: |lent, asked| {
+        let text = pnoelithe::listing(lent.image, asked.layout_for_host(), lent.buffer)?;
+        lent.numbers[0] = text.len();
         Ok(())
     },
-    by_reference: |image, asked| reference::listing(image, asked.room).map(Answer::Text),
+    by_reference: |image, asked| {
+        reference::listing(image, asked.layout(), asked.room).map(Answer::Text)
+    },
     by_plan: Plan::Reads(Reading {
-        of_disk: |disk, _| Some(Written::counted(lines(disk).as_bytes())),
+        of_disk: |disk, asked| Some(Written::counted(lines(disk, asked.layout()).as_bytes())),
         all: |_| {
             let rooms = [0, SECTOR_BYTES * MOST_SECTORS];
             rooms.map(|room| Arguments { room, ..NONE }).into()
         },
     }),
-    met: &[],
-    measured: Measured { arguments: |full| full.for_buffer(), on: &[("", Before::Data, &ALL)] },
+    met: &[
+        ("listing of files with and without the mark", |case| {
+            let is_of = |rule: fn(&File) -> bool| {
+                case.asked.disk().map_or(false, |disk| disk.files.iter().any(rule))
+            };
+            case.is_done() && is_of(File::is_marked) && is_of(|file| !file.is_marked())
+        }),
+        ("buffer that the old rule's text would fit into", |case| {
+            let is_enough = |disk: &Disk| lines(disk, Layout::OLD).len() <= case.asked.room;
+            case.number == 15 && case.asked.disk().map_or(false, is_enough)
+        }),
+    ],
+    measured: Measured {
+        arguments: |full| full.for_buffer(),
+        on: &[("", Layout::OLD, Before::Data, &ALL)],
+    },
 };
 
-/// The number and the word for the kind of a file of a sound disk.
+/// The number and the word for the kind of a file of a sound disk, marked or not.
 fn kind(file: &File) -> (usize, &'static str) {
-    match file.status() {
+    match file.status() & !MARK {
         0x00 | 0x08 => (1, "DIS/FIX"),
         0x80 | 0x88 => (2, "DIS/VAR"),
         0x02 | 0x0A => (3, "INT/FIX"),
@@ -170,15 +223,17 @@ fn kind(file: &File) -> (usize, &'static str) {
     }
 }
 
-/// The listing of a sound disk.
-pub fn lines(disk: &Disk) -> String {
+/// The listing of a disk that is sound by the layout.
+pub fn lines(disk: &Disk, layout: Layout) -> String {
     let free = disk.free().len();
     let mut lines = line(&[&unpadded(&disk.image[..10]), &disk.sectors, &free]);
     for file in &disk.files {
         let protection = if is_protected(file) { "P" } else { "U" };
+        let mark = if file.is_marked() { "M" } else { "-" };
         let (_, kind) = kind(file);
-        let name = unpadded(&file.name());
-        lines += &line(&[&name, &kind, &length_of(file), &file.count(), &protection]);
+        let (name, length, count) = (unpadded(&file.name()), length_of(file), file.count());
+        let fields: [&dyn ToString; 6] = [&name, &kind, &length, &count, &protection, &mark];
+        lines += &line(if layout.marks { &fields } else { &fields[..5] });
     }
     lines
 }

@@ -1,10 +1,13 @@
 //! Calls that make a file: create and store.
 
-use super::plan::{bad_name, fill, full_index, grown, is_too_long, present};
-use super::{Answer, Arguments, Asked, Call, Case, Given, Often, Plan, Writing, LOAD, NONE};
+use super::plan::{bad_name, fill, full_index, grown, is_too_long, mark, present};
+use super::{Answer, Arguments, Asked, Call, Case, Given, Often, Plan, Rules, Writing};
+use super::{LOAD, NONE};
+use crate::layout::Layout;
 use crate::library::ask;
 use crate::speed::{volume, Before, Measured, Volume};
-use crate::volumes::{Disk, File, Run, HEADER_BYTES, MOST_BLOCKS, MOST_FILES, SECTOR_BYTES};
+use crate::volumes::{Disk, File, Run, HEADER_BYTES, MARK, SECTOR_BYTES};
+use crate::volumes::{MOST_BLOCKS, MOST_FILES};
 use crate::{pnoelithe, reference};
 
 /// The statuses that create takes.
@@ -23,11 +26,13 @@ pub(crate) static CREATE: Call = Call {
     ],
     together: &[(7, &[15, 11, 12]), (9, &[15, 11, 12]), (15, &[11, 12]), (11, &[12])],
     names: 1,
+    rules: Rules::AsAsked,
     often: Often::writing(18, 12, 6, 4),
     any: |desk, random| {
         let status = match random.below(6) {
             0 => random.byte(),
             1 => random.pick(&[0x01, 0x08, 0x09, 0x0A, 0x88, 0x8A, 0x03, 0x81, 0x83, 0x04, 0xFF]),
+            2 if random.once_in(4) => random.pick(&CREATED) | MARK,
             _ => random.pick(&CREATED),
         };
         let bytes = [status, random.byte(), random.byte(), 0];
@@ -39,6 +44,7 @@ pub(crate) static CREATE: Call = Call {
         ask!(
             pno_create,
             [lent.image],
+            asked.layout_bits,
             [lent.name],
             status,
             record_length,
@@ -48,18 +54,20 @@ pub(crate) static CREATE: Call = Call {
     },
     by_host: |lent, asked| {
         let [status, record_length, records_per_sector, _] = asked.bytes;
-        pnoelithe::create(lent.image, lent.name, status, record_length, records_per_sector)
+        let layout = asked.layout_for_host();
+        pnoelithe::create(lent.image, layout, lent.name, status, record_length, records_per_sector)
     },
     by_reference: |image, asked| {
         let [status, record_length, records_per_sector, _] = asked.bytes;
-        let name = asked.name.lent();
-        reference::create(image, name, status, record_length, records_per_sector)?;
+        let (layout, name) = (asked.layout(), asked.name.lent());
+        reference::create(image, layout, name, status, record_length, records_per_sector)?;
         Ok(Answer::Done)
     },
     by_plan: Plan::Writes(Writing {
         on_disk: |disk, asked| {
             let mut file = made(disk, asked, Vec::new());
             [file.header[12], file.header[17], file.header[13], _] = asked.bytes;
+            mark(&mut file, asked);
             disk.files.push(file);
         },
         on_shelf: |mut file, asked| {
@@ -67,11 +75,15 @@ pub(crate) static CREATE: Call = Call {
             file.header[12] = status;
             file.header[13] = records_per_sector;
             file.header[17] = record_length;
-            Some(file)
+            Some(file.changed(asked))
         },
         look: None,
     }),
     met: &[
+        ("file with the mark created", makes_marked),
+        ("status of create with the mark", |case| {
+            case.number == 15 && CREATED.map(|status| status | MARK).contains(&case.asked.bytes[0])
+        }),
         ("create that takes the last free sector", |case| fills(case, 1)),
         ("127th file made", is_last_place),
         ("128th file asked for on a full disk", is_out_of_both),
@@ -79,7 +91,10 @@ pub(crate) static CREATE: Call = Call {
     measured: Measured {
         // Display, variable, with records of 80 bytes.
         arguments: |full| Arguments { name: full.name(), bytes: [0x80, 80, 3, 0], ..NONE },
-        on: &[("", Before::Absent, &FOR_A_DESCRIPTOR)],
+        on: &[
+            ("", Layout::OLD, Before::Absent, &FOR_A_DESCRIPTOR),
+            ("", Layout::MARKS, Before::Absent, &FOR_A_DESCRIPTOR),
+        ],
     },
 };
 
@@ -106,6 +121,7 @@ pub(crate) static STORE: Call = Call {
         (11, &[12, 13]),
     ],
     names: 1,
+    rules: Rules::AsAsked,
     often: Often::writing(20, 18, 50, 6),
     any: |desk, random| {
         let free = desk.disk.free();
@@ -131,10 +147,16 @@ pub(crate) static STORE: Call = Call {
         let name = desk.name_where(is_in_pieces, random);
         Arguments { name, other: Given::whole(&random.bytes(length)), ..NONE }
     },
-    by_library: |lent, _| ask!(pno_store, [lent.image], [lent.name], [lent.other], lent.wrong),
-    by_host: |lent, _| pnoelithe::store(lent.image, lent.name, lent.other),
+    by_library: |lent, asked| {
+        let layout = asked.layout_bits;
+        ask!(pno_store, [lent.image], layout, [lent.name], [lent.other], lent.wrong)
+    },
+    by_host: |lent, asked| {
+        pnoelithe::store(lent.image, asked.layout_for_host(), lent.name, lent.other)
+    },
     by_reference: |image, asked| {
-        reference::store(image, asked.name.lent(), asked.other.lent()).map(|()| Answer::Done)
+        let (name, bytes) = (asked.name.lent(), asked.other.lent());
+        reference::store(image, asked.layout(), name, bytes).map(|()| Answer::Done)
     },
     by_plan: Plan::Writes(Writing {
         on_disk: |disk, asked| {
@@ -142,6 +164,7 @@ pub(crate) static STORE: Call = Call {
             let mut file = made(disk, asked, runs);
             file.header[12] = 0x01;
             file.header[16] = (asked.other.lent().len() % SECTOR_BYTES) as u8;
+            mark(&mut file, asked);
             fill(disk, file.sectors(), asked.other.lent());
             disk.files.push(file);
         },
@@ -152,7 +175,7 @@ pub(crate) static STORE: Call = Call {
             while file.bytes.len() % SECTOR_BYTES != 0 {
                 file.bytes.push(0);
             }
-            Some(file)
+            Some(file.changed(asked))
         },
         look: Some(("program loaded that was just stored", |_, asked| {
             let (name, room) = (asked.name.clone(), asked.other.lent().len());
@@ -160,6 +183,7 @@ pub(crate) static STORE: Call = Call {
         })),
     }),
     met: &[
+        ("program with the mark stored", makes_marked),
         ("store that takes the last free sector", |case| {
             fills(case, 1 + sectors(case.asked.arguments))
         }),
@@ -178,9 +202,10 @@ pub(crate) static STORE: Call = Call {
     measured: Measured {
         arguments: |full| Arguments { name: full.name(), other: full.program(), ..NONE },
         on: &[
-            (" of 32,768 bytes", Before::Absent, &FOR_A_PROGRAM),
-            (" of 256 bytes", Before::Absent, &FOR_BOTH),
-            (" of no byte", Before::Absent, &FOR_A_DESCRIPTOR),
+            (" of 32,768 bytes", Layout::OLD, Before::Absent, &FOR_A_PROGRAM),
+            (" of 256 bytes", Layout::OLD, Before::Absent, &FOR_BOTH),
+            (" of no byte", Layout::OLD, Before::Absent, &FOR_A_DESCRIPTOR),
+            (" of 256 bytes", Layout::MARKS, Before::Absent, &FOR_BOTH),
         ],
     },
 };
@@ -234,6 +259,10 @@ fn is_of(case: &Case, lengths: &[usize]) -> bool {
 /// Whether the call is done and took so many sectors, and there were no more.
 pub(super) fn fills(case: &Case, sectors: usize) -> bool {
     case.is_done() && case.asked.on_disk(|disk| disk.free().len() == sectors)
+}
+
+fn makes_marked(case: &Case) -> bool {
+    case.is_done() && case.asked.by.marks
 }
 
 fn is_last_place(case: &Case) -> bool {

@@ -4,10 +4,11 @@
 //! changes the plan's files, and map, sector 1 and descriptors are laid down from these anew.
 
 use super::{Arguments, Call, Given, Written};
+use crate::layout::Layout;
 use crate::reference;
 use crate::sequences::Shelved;
-use crate::suites::Image;
-use crate::volumes::{is_letter, is_name, Disk, File, Name, Run};
+use crate::suites::{Image, Numbers};
+use crate::volumes::{is_letter, is_name, Disk, File, Name, Run, MARK};
 use crate::volumes::{MOST_BLOCKS, MOST_FILES, SECTOR_BYTES};
 use std::ops::Deref;
 
@@ -45,11 +46,12 @@ pub(crate) struct Writing {
 /// afterwards, by the arguments of the call that wrote.
 pub(crate) type Look = (&'static str, fn(&Disk, &Arguments) -> (&'static Call, Arguments));
 
-/// A call's arguments, and the image that they are for.
+/// A call's arguments, the image that they are for, and the layout by which the call reads it.
 #[derive(Clone, Copy)]
 pub(crate) struct Asked<'case> {
     pub arguments: &'case Arguments,
     pub image: &'case Image<'case>,
+    pub by: Layout,
 }
 
 impl Deref for Asked<'_> {
@@ -61,8 +63,13 @@ impl Deref for Asked<'_> {
 }
 
 impl<'case> Asked<'case> {
+    /// The image's own, where it is settled.
+    pub(crate) fn number(&self) -> Option<u32> {
+        self.image.number(self.by)
+    }
+
     pub(crate) fn disk(&self) -> Option<&'case Disk> {
-        self.image.planned
+        self.image.planned(self.by)
     }
 
     pub(crate) fn file(&self) -> Option<&'case File> {
@@ -158,6 +165,13 @@ fn misnamed(call: &Call, arguments: &Arguments) -> Written {
     }
 }
 
+/// Marks the file that a call has made or changed, where there are marks.
+pub(super) fn mark(file: &mut File, arguments: &Arguments) {
+    if arguments.layout().marks {
+        file.header[12] |= MARK;
+    }
+}
+
 pub(crate) fn is_protected(file: &File) -> bool {
     file.status() & 0x08 != 0
 }
@@ -207,7 +221,7 @@ pub(super) fn fill(disk: &mut Disk, places: impl Iterator<Item = usize>, bytes: 
 
 /// All that is known to be wrong with a call, in the order in which it is tested.
 pub(super) fn faults(call: &Call, asked: &Asked) -> Vec<u32> {
-    let of_image = asked.image.number.filter(|number| call.is_judging() && *number != 0);
+    let of_image = asked.number().filter(|number| call.is_judging() && *number != 0);
     let due = call.tests.iter().filter(|(_, is_due)| is_due(asked));
     of_image.into_iter().chain(due.map(|(number, _)| *number)).collect()
 }
@@ -222,14 +236,14 @@ pub(super) struct Planned {
 
 /// None where it is not settled what the image holds.
 pub(super) fn planned(call: &Call, asked: &Asked, faults: &[u32]) -> Option<Planned> {
-    let Asked { arguments, image } = asked;
+    let Asked { arguments, image, .. } = asked;
     let number = faults.first().copied().unwrap_or(0);
     let (mut written, mut disk) = (Written::default(), None);
-    let is_known = image.planned.is_some() || image.number.map_or(false, |number| number != 0);
+    let is_known = asked.disk().is_some() || asked.number().map_or(false, |number| number != 0);
     if call.is_judging() && !is_known {
         return None;
     }
-    match (number, &call.by_plan, image.planned) {
+    match (number, &call.by_plan, asked.disk()) {
         (7, _, _) => written = misnamed(call, arguments),
         (0, Plan::Reads(reading), Some(disk)) => {
             written = (reading.of_disk)(disk, arguments).unwrap_or_default();
@@ -257,9 +271,10 @@ pub(super) fn takes(call: &Call, asked: &Asked) -> Option<usize> {
     }
 }
 
-/// The plan of an image that was not built from one, as the reference reads it.
+/// The plan of an image that was not built from one, as the reference reads it; none where it is
+/// sound by neither rule.
 pub(crate) fn of_image(image: &[u8]) -> Option<Disk> {
-    let volume = reference::judge(image).ok()?;
+    let volume = reference::judge(image, Layout::MARKS).ok()?;
     let file = |(descriptor, described): (usize, reference::Descriptor)| File {
         descriptor,
         header: *described.header(),
@@ -267,6 +282,11 @@ pub(crate) fn of_image(image: &[u8]) -> Option<Disk> {
     };
     let files = volume.files().map(file).collect();
     Some(Disk { sectors: volume.sectors(), files, image: image.to_vec() })
+}
+
+/// The numbers of such an image.
+pub(crate) fn numbers_of(image: &[u8]) -> Numbers {
+    Numbers::each(|layout| Some(reference::number(image, layout)))
 }
 
 fn run(block: reference::Block) -> Run {

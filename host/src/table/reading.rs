@@ -2,7 +2,9 @@
 
 use super::arguments::{around, name_for, room_for, some_file};
 use super::plan::{absent, bad_name, find, is_protected, length_of};
-use super::{Answer, Arguments, Call, Case, Given, Listed, Often, Plan, Reading, Written, NONE};
+use super::{Answer, Arguments, Call, Case, Given, Listed, Often, Plan, Reading, Rules};
+use super::{Written, NONE};
+use crate::layout::Layout;
 use crate::library::ask;
 use crate::speed::{volume, Before, Measured, Volume, ALL, SECTORS};
 use crate::volumes::{Disk, File, HEADER_BYTES, MOST_SECTORS, SECTOR_BYTES};
@@ -17,6 +19,7 @@ pub(crate) static READ: Call = Call {
     ],
     together: &[(7, &[15]), (8, &[15])],
     names: 1,
+    rules: Rules::AsAsked,
     often: Often::single(3),
     any: |desk, random| {
         let any = random.once_in(4);
@@ -31,11 +34,16 @@ pub(crate) static READ: Call = Call {
         Arguments { name, at, room, ..NONE }
     },
     by_library: |lent, asked| {
-        ask!(pno_read, [lent.image], [lent.name], asked.at, [lent.buffer], lent.wrong)
+        let (layout, at) = (asked.layout_bits, asked.at);
+        ask!(pno_read, [lent.image], layout, [lent.name], at, [lent.buffer], lent.wrong)
     },
-    by_host: |lent, asked| pnoelithe::read(lent.image, lent.name, asked.at, lent.buffer).map(drop),
+    by_host: |lent, asked| {
+        let layout = asked.layout_for_host();
+        pnoelithe::read(lent.image, layout, lent.name, asked.at, lent.buffer).map(drop)
+    },
     by_reference: |image, asked| {
-        reference::read(image, asked.name.lent(), asked.at, asked.room).map(Answer::Sector)
+        let (name, at) = (asked.name.lent(), asked.at);
+        reference::read(image, asked.layout(), name, at, asked.room).map(Answer::Sector)
     },
     by_plan: Plan::Reads(Reading {
         of_disk: |disk, asked| {
@@ -60,6 +68,9 @@ pub(crate) static READ: Call = Call {
         }),
         ("sector of a program", |case| case.is_done() && case.asked.on_file(File::is_program)),
         ("sector of a protected file", |case| case.is_done() && case.asked.on_file(is_protected)),
+        ("sector of a file with the mark", |case| {
+            case.is_done() && case.asked.on_file(File::is_marked)
+        }),
         ("sector not in the first block", |case| {
             let at = case.asked.at;
             case.is_done() && case.asked.on_file(|file| at > file.last_offset(0))
@@ -67,7 +78,7 @@ pub(crate) static READ: Call = Call {
     ],
     measured: Measured {
         arguments: |full| Arguments { name: full.name(), at: full.offset(), ..full.for_buffer() },
-        on: &[("", Before::Data, &ALL)],
+        on: &[("", Layout::OLD, Before::Data, &ALL)],
     },
 };
 
@@ -81,6 +92,7 @@ pub(crate) static LOAD: Call = Call {
     ],
     together: &[],
     names: 1,
+    rules: Rules::AsAsked,
     often: Often::single(4),
     any: |desk, random| {
         let any = random.once_in(4);
@@ -91,16 +103,17 @@ pub(crate) static LOAD: Call = Call {
         let room = if is_whole { SECTOR_BYTES * sectors } else { room_for(length, random) };
         Arguments { name, room, ..NONE }
     },
-    by_library: |lent, _| {
-        let length = &mut lent.numbers[0];
-        ask!(pno_load, [lent.image], [lent.name], [lent.buffer], length, lent.wrong)
+    by_library: |lent, asked| {
+        let (layout, length) = (asked.layout_bits, &mut lent.numbers[0]);
+        ask!(pno_load, [lent.image], layout, [lent.name], [lent.buffer], length, lent.wrong)
     },
-    by_host: |lent, _| {
-        lent.numbers[0] = pnoelithe::load(lent.image, lent.name, lent.buffer)?.len();
+    by_host: |lent, asked| {
+        let layout = asked.layout_for_host();
+        lent.numbers[0] = pnoelithe::load(lent.image, layout, lent.name, lent.buffer)?.len();
         Ok(())
     },
     by_reference: |image, asked| {
-        reference::load(image, asked.name.lent(), asked.room).map(Answer::Counted)
+        reference::load(image, asked.layout(), asked.name.lent(), asked.room).map(Answer::Counted)
     },
     by_plan: Plan::Reads(Reading {
         of_disk: |disk, asked| {
@@ -120,6 +133,7 @@ pub(crate) static LOAD: Call = Call {
     }),
     met: &[
         ("not a program and no buffer", |case| case.number == 14 && case.asked.room == 0),
+        ("program with the mark", |case| case.is_done() && case.asked.on_file(File::is_marked)),
         ("program of no bytes", |case| loads(case, |length| length == 0)),
         ("program that ends on a full sector", |case| {
             loads(case, |length| length > 0 && length % SECTOR_BYTES == 0)
@@ -128,7 +142,7 @@ pub(crate) static LOAD: Call = Call {
     ],
     measured: Measured {
         arguments: |full| Arguments { name: full.name(), ..full.for_buffer() },
-        on: &[("", Before::Program, &PROGRAMS)],
+        on: &[("", Layout::OLD, Before::Program, &PROGRAMS)],
     },
 };
 

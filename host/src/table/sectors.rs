@@ -3,8 +3,9 @@
 use super::arguments::{around, data, given_name, is_open_data, some_file};
 use super::making::fills;
 use super::plan::{absent, bad_name, called, fill, find, grown, is_protected};
-use super::plan::{is_too_long, not_a_sector, program, protected};
-use super::{Answer, Arguments, Asked, Call, Case, Often, Plan, Writing, NONE, READ};
+use super::plan::{is_too_long, mark, not_a_sector, program, protected};
+use super::{Answer, Arguments, Asked, Call, Case, Often, Plan, Rules, Writing, NONE, READ};
+use crate::layout::Layout;
 use crate::library::ask;
 use crate::speed::{volume, Before, Measured, Volume, ALL, SECTORS};
 use crate::volumes::{names, Disk, File, Run, MOST_BLOCKS, SECTOR_BYTES};
@@ -29,6 +30,7 @@ pub(crate) static APPEND: Call = Call {
         (15, &[12, 13]),
     ],
     names: 1,
+    rules: Rules::AsAsked,
     often: Often::writing(36, 24, 8, 50),
     any: |desk, random| {
         let is_long = |file: &File| file.runs.len() >= MOST_BLOCKS - 2;
@@ -39,10 +41,16 @@ pub(crate) static APPEND: Call = Call {
         };
         Arguments { name, other: data(random), ..NONE }
     },
-    by_library: |lent, _| ask!(pno_append, [lent.image], [lent.name], [lent.other], lent.wrong),
-    by_host: |lent, _| pnoelithe::append(lent.image, lent.name, lent.other),
+    by_library: |lent, asked| {
+        let layout = asked.layout_bits;
+        ask!(pno_append, [lent.image], layout, [lent.name], [lent.other], lent.wrong)
+    },
+    by_host: |lent, asked| {
+        pnoelithe::append(lent.image, asked.layout_for_host(), lent.name, lent.other)
+    },
     by_reference: |image, asked| {
-        reference::append(image, asked.name.lent(), asked.other.lent()).map(|()| Answer::Done)
+        let (name, data) = (asked.name.lent(), asked.other.lent());
+        reference::append(image, asked.layout(), name, data).map(|()| Answer::Done)
     },
     by_plan: Plan::Writes(Writing {
         on_disk: |disk, asked| {
@@ -50,12 +58,13 @@ pub(crate) static APPEND: Call = Call {
             let file = called(disk, asked);
             file.runs = runs;
             file.set_count(file.count() + 1);
+            mark(file, asked);
             let place = file.sectors().last();
             fill(disk, place.into_iter(), asked.other.lent());
         },
         on_shelf: |mut file, asked| {
             file.bytes.extend(asked.other.lent());
-            Some(file)
+            Some(file.changed(asked))
         },
         look: Some((READ_BACK, |disk, asked| {
             let at = find(disk, &asked.name).map_or(0, |file| file.count() - 1);
@@ -63,6 +72,8 @@ pub(crate) static APPEND: Call = Call {
         })),
     }),
     met: &[
+        ("append to a file with the mark", |case| is_on_marked(case, true)),
+        ("append to a file without the mark, which it gets", |case| is_on_marked(case, false)),
         ("append that extends the last block", |case| {
             appends(case, |was, now| was.len() == now.len())
         }),
@@ -80,7 +91,11 @@ pub(crate) static APPEND: Call = Call {
     ],
     measured: Measured {
         arguments: |full| Arguments { name: full.name(), other: full.sector(), ..NONE },
-        on: &[("", Before::LacksHighest, &FOR_A_SECTOR), ("", Before::LacksLowest, &[LOW])],
+        on: &[
+            ("", Layout::OLD, Before::LacksHighest, &FOR_A_SECTOR),
+            ("", Layout::OLD, Before::LacksLowest, &[LOW]),
+            ("", Layout::MARKS, Before::LacksHighest, &FOR_A_SECTOR),
+        ],
     },
 };
 
@@ -102,6 +117,7 @@ pub(crate) static OVERWRITE: Call = Call {
     ],
     together: &[(7, &[15]), (8, &[15]), (10, &[14, 15]), (14, &[15])],
     names: 1,
+    rules: Rules::AsAsked,
     often: Often::writing(6, 6, 2, 4),
     any: |desk, random| {
         let any = random.once_in(3);
@@ -112,26 +128,35 @@ pub(crate) static OVERWRITE: Call = Call {
         Arguments { name, at, other: data(random), ..NONE }
     },
     by_library: |lent, asked| {
-        ask!(pno_overwrite, [lent.image], [lent.name], asked.at, [lent.other], lent.wrong)
+        let (layout, at) = (asked.layout_bits, asked.at);
+        ask!(pno_overwrite, [lent.image], layout, [lent.name], at, [lent.other], lent.wrong)
     },
-    by_host: |lent, asked| pnoelithe::overwrite(lent.image, lent.name, asked.at, lent.other),
+    by_host: |lent, asked| {
+        let layout = asked.layout_for_host();
+        pnoelithe::overwrite(lent.image, layout, lent.name, asked.at, lent.other)
+    },
     by_reference: |image, asked| {
-        reference::overwrite(image, asked.name.lent(), asked.at, asked.other.lent())?;
+        let (name, data) = (asked.name.lent(), asked.other.lent());
+        reference::overwrite(image, asked.layout(), name, asked.at, data)?;
         Ok(Answer::Done)
     },
     by_plan: Plan::Writes(Writing {
         on_disk: |disk, asked| {
-            let place = called(disk, asked).sectors().nth(asked.at);
+            let file = called(disk, asked);
+            mark(file, asked);
+            let place = file.sectors().nth(asked.at);
             fill(disk, place.into_iter(), asked.other.lent());
         },
         on_shelf: |mut file, asked| {
             let sector = &mut file.bytes[SECTOR_BYTES * asked.at..][..SECTOR_BYTES];
             sector.copy_from_slice(asked.other.lent());
-            Some(file)
+            Some(file.changed(asked))
         },
         look: Some((READ_BACK, |_, asked| (&READ, read_back(asked, asked.at)))),
     }),
     met: &[
+        ("overwrite in a file with the mark", |case| is_on_marked(case, true)),
+        ("overwrite in a file without the mark, which it gets", |case| is_on_marked(case, false)),
         ("offset one past the last", |case| case.number == 15 && case.asked.past() == Some(0)),
         ("offset of 2^31 or more", |case| case.number == 15 && case.asked.past() >= Some(1 << 31)),
     ],
@@ -142,9 +167,14 @@ pub(crate) static OVERWRITE: Call = Call {
             at: full.offset(),
             ..NONE
         },
-        on: &[("", Before::Data, &ALL)],
+        on: &[("", Layout::OLD, Before::Data, &ALL), ("", Layout::MARKS, Before::Data, &ALL)],
     },
 };
+
+/// Whether it is done by the new rule, and the file had the mark before.
+pub(super) fn is_on_marked(case: &Case, marked: bool) -> bool {
+    case.is_done() && case.asked.by.marks && case.asked.on_file(|file| file.is_marked() == marked)
+}
 
 const READ_BACK: &str = "sector read that was just written";
 

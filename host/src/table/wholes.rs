@@ -2,7 +2,8 @@
 
 use super::arguments::{beyond, four_bytes, given_name};
 use super::plan::bad_name;
-use super::{Answer, Arguments, Call, Often, Plan, Reading, Written, NONE};
+use super::{Answer, Arguments, Call, Case, Often, Plan, Reading, Rules, Written, NONE};
+use crate::layout::Layout;
 use crate::library::ask;
 use crate::packing::moved;
 use crate::reference::Geometry;
@@ -23,6 +24,7 @@ pub(crate) static FORMAT: Call = Call {
     ],
     together: &[(1, &[7])],
     names: 1,
+    rules: Rules::None,
     often: Often::single(3),
     any: |desk, random| {
         let sectors = desk.image_bytes / SECTOR_BYTES;
@@ -63,16 +65,21 @@ pub(crate) static FORMAT: Call = Call {
     },
     by_plan: Plan::Formats(formatted),
     met: &[
-        ("format on an image of number 0", |case| case.asked.image.number == Some(0)),
-        ("format on an image of number 1", |case| case.asked.image.number == Some(1)),
-        ("format on an image of number 2", |case| case.asked.image.number == Some(2)),
-        ("format on an image of number 3", |case| case.asked.image.number == Some(3)),
-        ("format on an image of number 4", |case| case.asked.image.number == Some(4)),
-        ("format on an image of number 5", |case| case.asked.image.number == Some(5)),
-        ("format on an image of number 6", |case| case.asked.image.number == Some(6)),
+        ("format on an image of number 0", |case| is_on(case, 0)),
+        ("format on an image of number 1", |case| is_on(case, 1)),
+        ("format on an image of number 2", |case| is_on(case, 2)),
+        ("format on an image of number 3", |case| is_on(case, 3)),
+        ("format on an image of number 4", |case| is_on(case, 4)),
+        ("format on an image of number 5", |case| is_on(case, 5)),
+        ("format on an image of number 6", |case| is_on(case, 6)),
     ],
     measured: Measured { arguments: |_| NONE, on: &[] },
 };
+
+/// By the old rule: it is all one to formatting.
+fn is_on(case: &Case, number: u32) -> bool {
+    case.asked.image.number(Layout::OLD) == Some(number)
+}
 
 fn formatted(length: usize, asked: &Arguments) -> Disk {
     let [sectors_per_track, tracks, sides, density] = asked.bytes;
@@ -95,17 +102,23 @@ pub(crate) static PACK: Call = Call {
     tests: &[(15, |asked| asked.room != asked.image.bytes.len())],
     together: &[],
     names: 0,
+    rules: Rules::AsAsked,
     often: Often::NEVER,
     any: |desk, _| Arguments { room: desk.image_bytes, ..NONE },
-    by_library: |lent, _| ask!(pno_pack, [lent.image], [lent.buffer]),
-    by_host: |lent, _| pnoelithe::pack(lent.image, lent.buffer),
-    by_reference: |image, asked| reference::pack(image, asked.room).map(Answer::Bytes),
+    by_library: |lent, asked| ask!(pno_pack, [lent.image], asked.layout_bits, [lent.buffer]),
+    by_host: |lent, asked| pnoelithe::pack(lent.image, asked.layout_for_host(), lent.buffer),
+    by_reference: |image, asked| {
+        reference::pack(image, asked.layout(), asked.room).map(Answer::Bytes)
+    },
     by_plan: Plan::Reads(Reading {
         of_disk: |disk, _| Some(Written::new(&packed(disk).image, &[])),
         all: |_| Vec::new(),
     }),
     met: &[],
-    measured: Measured { arguments: |full| full.for_buffer(), on: &[("", Before::Data, &ALL)] },
+    measured: Measured {
+        arguments: |full| full.for_buffer(),
+        on: &[("", Layout::OLD, Before::Data, &ALL)],
+    },
 };
 
 /// The files moved to where the paper wants them, on a disk that held nothing.
