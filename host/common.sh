@@ -69,3 +69,18 @@ find_archive() {
         (cd "$top" && rt staticlib pnoelithe >&2)
     fi
 }
+
+# IMAGE OFFSET ESCAPES: puts bytes there.
+put_at() {
+    printf '%b' "$3" | dd of="$1" bs=1 seek="$2" conv=notrunc status=none
+}
+
+# IMAGE: puts two directories on case M's volume by hand, as no call does: GAMES is the first entry, with its
+# index in sector 4, and TEXTS the third, with its index in sector 6; both are empty.
+put_directories() {
+    put_at "$1" 20 'GAMES     \x00\x04'
+    put_at "$1" 44 'TEXTS     \x00\x06'
+    put_at "$1" 56 '\x5f'
+    dd if=/dev/zero of="$1" bs=256 seek=4 count=1 conv=notrunc status=none
+    dd if=/dev/zero of="$1" bs=256 seek=6 count=1 conv=notrunc status=none
+}

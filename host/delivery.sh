@@ -8,12 +8,12 @@ texts() {
     cat <<'END'
 1 the image's length is not that of a volume
 2 sector 0 is no label
-3 sector 1 is no list of files
+3 a directory is no list of files
 4 a file's descriptor breaks a rule
 5 a sector has two holders
 6 the map is not that of the files
 7 a name breaks its rule
-8 there is no such file
+8 there is no such file or directory
 9 there is a file of that name already
 10 the file is protected
 11 there are 127 files already
@@ -90,6 +90,7 @@ int main(void) {
     SHOW(ARGUMENT);
     SHOW(SIZE);
     SHOW(MARKS);
+    SHOW(DIRECTORIES);
 END
         sizes | sed 's/ .*/);/; s/^/    SHOW(/'
         echo '    return 0;'
@@ -100,8 +101,8 @@ END
         echo '0 done'
         texts
         printf '%s no number of this library\n' 16 17 18 19 20 4294967295
-        echo 'version 0.4.0'
-        printf '%s\n' 'KIND 14' 'NOT_PROGRAM 14' 'ARGUMENT 15' 'SIZE 15' 'MARKS 1'
+        echo 'version 0.5.0'
+        printf '%s\n' 'KIND 14' 'NOT_PROGRAM 14' 'ARGUMENT 15' 'SIZE 15' 'MARKS 1' 'DIRECTORIES 2'
         sizes
     } >"$work/expected"
     must_print "${emulator[@]}" "$work/show"
@@ -131,7 +132,9 @@ show_wrapper() {
         let renaming = RenameRefusal { refusal: Refusal::Name { place: 3 }, which };
         println!("{}; {:?}", renaming, Refusal::from(renaming));
     }
-    println!("{:?} {:?} {:?}", Layout::OLD, Layout::MARKS, Layout::default());
+    println!("{:?}\n{:?}", Layout::OLD, Layout::MARKS);
+    println!("{:?}\n{:?}", Layout::DIRECTORIES, Layout::MARKS_AND_DIRECTORIES);
+    println!("{:?}", Layout::default());
 }
 END
     } >"$work/rust/show.rs"
@@ -140,7 +143,7 @@ END
         texts
         sizes
         printf '%s breaks its rule; Name { place: 3 }\n' 'the old name' 'the new name' 'a name'
-        echo 'Layout { marks: false } Layout { marks: true } Layout { marks: false }'
+        printf 'Layout { marks: %s, directories: %s }\n' false false true false false true true true false false
     } >"$work/expected"
     must_print "$work/rust/show"
     echo "the header and pnoelithe.rs have the same texts and sizes"
@@ -160,16 +163,16 @@ int main(void) {
     size_t length = 0, wrong = 0;
     uint32_t number = pno_format(image, sizeof image, 40, disk, PNO_NAME_BYTES, 9, 40, 1, 1, &wrong);
     if (number == PNO_DONE)
-        number = pno_store(image, sizeof image, PNO_MARKS, name, PNO_NAME_BYTES, bytes, sizeof bytes, &wrong);
+        number = pno_store(image, sizeof image, PNO_MARKS, 0, name, PNO_NAME_BYTES, bytes, sizeof bytes, &wrong);
     if (number == PNO_DONE)
-        number = pno_listing(image, sizeof image, PNO_MARKS, text, sizeof text, &length);
+        number = pno_listing(image, sizeof image, PNO_MARKS, 0, text, sizeof text, &length);
     printf("%s: %s\n", PNO_VERSION, pno_text(number));
     fwrite(text, 1, length, stdout);
     return number != PNO_DONE;
 }
 END
     cat >"$work/expected" <<'END'
-0.4.0: done
+0.5.0: done
 OWN 40 36
 HELLO PROGRAM 5 1 U M
 END
@@ -266,7 +269,7 @@ host_by_pkg_config() {
     read -r -a flags < <(pkg-config --cflags --libs pnoelithe)
     "${compiler[@]}" "${strict[@]}" "$own/host.c" "${flags[@]}" -o "$own/host"
     must_print "${emulator[@]}" "$own/host"
-    echo 0.4.0 >"$work/expected"
+    echo 0.5.0 >"$work/expected"
     must_print pkg-config --modversion pnoelithe
     echo "a host is built by pkg-config"
 }
@@ -306,13 +309,14 @@ int main() {
     std::vector<uint8_t> volume(40 * PNO_SECTOR_BYTES), text(PNO_LISTING_MOST), v;
     const uint8_t name[] = "EMPTY     ", none = 0, *bytes = v.empty() ? &none : v.data();
     const uint32_t layout = 0;
+    const size_t directory = 0;
     uint8_t *image = volume.data();
     size_t image_len = volume.size(), name_len = PNO_NAME_BYTES, length = 0, wrong = 0;
     uint32_t number = pno_format(image, image_len, 40, name, name_len, 9, 40, 1, 1, &wrong);
     if (number == PNO_DONE)
-        number = pno_store(image, image_len, layout, name, name_len, bytes, v.size(), &wrong);
+        number = pno_store(image, image_len, layout, directory, name, name_len, bytes, v.size(), &wrong);
     if (number == PNO_DONE)
-        number = pno_listing(image, image_len, layout, text.data(), text.size(), &length);
+        number = pno_listing(image, image_len, layout, directory, text.data(), text.size(), &length);
     std::printf("%s\n", pno_text(number));
     std::fwrite(text.data(), 1, length, stdout);
 }

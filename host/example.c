@@ -20,6 +20,10 @@
  * changed get one, and the catalogue ends each file's line in M for the mark or in a hyphen. Without -m an
  * image with a mark is no sound volume. A mark is cleared by that rule in any case.
  *
+ * -d DIRECTORY in front of IMAGE, before -m or behind it, goes by the second edition, which has directories:
+ * the command is on the files of one, 1 to 3 as sector 0 has them, and 0 is the root. judge and pack take the
+ * whole image, whichever number is given. Without -d an image with a directory is no sound volume.
+ *
  * Status 0: all is done. 1: a call is refused, and no file is written. 2: something cannot be read or
  * written, or the words are not those above. Standard error says why, and of a name that breaks its rule
  * which character does, counted from 1.
@@ -46,7 +50,8 @@
 
 static uint8_t image[PNO_IMAGE_MOST + 1]; /* one byte more: an image that is too long has number 1 */
 static size_t image_len;
-static uint32_t layout; /* the rules that all calls go by */
+static uint32_t layout;   /* the rules that all calls go by */
+static size_t directory; /* whose files they are on */
 static uint8_t bytes[PNO_IMAGE_MOST + 1];
 
 /* A name as it is lent: with its padding; of one that is too long, a byte more than names have. */
@@ -218,7 +223,7 @@ static struct name padded(const char *word) {
 static uint32_t list(void) {
     static uint8_t text[PNO_LISTING_MOST];
     size_t length;
-    uint32_t number = pno_listing(image, image_len, layout, text, sizeof text, &length);
+    uint32_t number = pno_listing(image, image_len, layout, directory, text, sizeof text, &length);
     if (number == PNO_DONE)
         print(text, length);
     return number;
@@ -235,8 +240,8 @@ static uint32_t judge(const struct name *name, const char *path) {
 
 static uint32_t load(const struct name *name, const char *path) {
     size_t length;
-    uint32_t number =
-        pno_load(image, image_len, layout, name->bytes, name->len, bytes, sizeof bytes, &length, &wrong);
+    uint32_t number = pno_load(image, image_len, layout, directory, name->bytes, name->len, bytes,
+                               sizeof bytes, &length, &wrong);
     if (number == PNO_DONE)
         write_file(path, bytes, length);
     return number;
@@ -245,8 +250,8 @@ static uint32_t load(const struct name *name, const char *path) {
 static uint32_t read_sectors(const struct name *name, const char *path) {
     uint32_t number;
     size_t length = 0, offset = 0;
-    while ((number = pno_read(image, image_len, layout, name->bytes, name->len, offset, bytes + length,
-                              PNO_SECTOR_BYTES, &wrong)) == PNO_DONE) {
+    while ((number = pno_read(image, image_len, layout, directory, name->bytes, name->len, offset,
+                              bytes + length, PNO_SECTOR_BYTES, &wrong)) == PNO_DONE) {
         length += PNO_SECTOR_BYTES;
         offset++;
     }
@@ -259,38 +264,39 @@ static uint32_t read_sectors(const struct name *name, const char *path) {
 
 static uint32_t store(const struct name *name, const char *path) {
     size_t length = read_file(path, bytes, sizeof bytes);
-    return pno_store(image, image_len, layout, name->bytes, name->len, bytes, length, &wrong);
+    return pno_store(image, image_len, layout, directory, name->bytes, name->len, bytes, length, &wrong);
 }
 
 /* Several calls, of which a later one may be refused: the image goes back to its file only if none is. */
 static uint32_t append(const struct name *name, const char *path) {
     size_t length = read_file(path, bytes, sizeof bytes);
-    uint32_t number =
-        pno_create(image, image_len, layout, name->bytes, name->len, DISPLAY_FIXED, 128, 2, &wrong);
+    uint32_t number = pno_create(image, image_len, layout, directory, name->bytes, name->len, DISPLAY_FIXED,
+                                 128, 2, &wrong);
     if (number == PNO_PRESENT)
         number = PNO_DONE;
     for (size_t at = 0; at < length && number == PNO_DONE; at += PNO_SECTOR_BYTES) {
         uint8_t sector[PNO_SECTOR_BYTES] = {0};
         memcpy(sector, bytes + at, length - at < sizeof sector ? length - at : sizeof sector);
-        number = pno_append(image, image_len, layout, name->bytes, name->len, sector, sizeof sector, &wrong);
+        number = pno_append(image, image_len, layout, directory, name->bytes, name->len, sector,
+                            sizeof sector, &wrong);
     }
     return number;
 }
 
 static uint32_t delete(const struct name *name, const char *path) {
     (void)path;
-    return pno_delete(image, image_len, layout, name->bytes, name->len, &wrong);
+    return pno_delete(image, image_len, layout, directory, name->bytes, name->len, &wrong);
 }
 
 static uint32_t rename_file(const struct name *name, const char *path) {
     struct name other = padded(path);
-    return pno_rename(image, image_len, layout, name->bytes, name->len, other.bytes, other.len, &which,
-                      &wrong);
+    return pno_rename(image, image_len, layout, directory, name->bytes, name->len, other.bytes, other.len,
+                      &which, &wrong);
 }
 
 static uint32_t clear_mark(const struct name *name, const char *path) {
     (void)path;
-    return pno_clear_mark(image, image_len, layout, name->bytes, name->len, &wrong);
+    return pno_clear_mark(image, image_len, layout, directory, name->bytes, name->len, &wrong);
 }
 
 static uint32_t pack(const struct name *name, const char *path) {
@@ -303,8 +309,8 @@ static uint32_t pack(const struct name *name, const char *path) {
 
 static const struct command {
     const char *word;
-    int words;  /* of the command line without -m: the first after the command as a name, the last as a
-                   path or as the new name */
+    int words;  /* of the command line without options: the first after the command as a name, the last as
+                   a path or as the new name */
     int writes; /* the image, which then goes back to its file */
     uint32_t (*call)(const struct name *name, const char *path);
 } commands[] = {{"judge", 3, 0, judge},   {"load", 5, 0, load},          {"read", 5, 0, read_sectors},
@@ -323,19 +329,31 @@ static void explain(char **words) {
         fprintf(stderr, ": character %zu of the %s", wrong + 1, title);
 }
 
+/* Takes an option from the front of some words; gives how many words it has, or 0 where there is none. */
+static int option(int count, char **words) {
+    char *end;
+    if (count > 0 && strcmp(words[0], "-m") == 0) {
+        layout |= PNO_MARKS;
+        return 1;
+    }
+    /* Any number will do: the library says where there is no such directory. */
+    if (count < 2 || strcmp(words[0], "-d") != 0 || words[1][0] < '0' || words[1][0] > '9')
+        return 0;
+    directory = strtoul(words[1], &end, 10);
+    layout |= PNO_DIRECTORIES;
+    return *end == '\0' ? 2 : 0;
+}
+
 int main(int argc, char **argv) {
     const struct command *command = NULL;
-    if (argc > 1 && strcmp(argv[1], "-m") == 0) {
-        layout = PNO_MARKS;
-        argv++;
-        argc--;
-    }
+    for (int taken; (taken = option(argc - 1, argv + 1)) > 0; argc -= taken)
+        argv += taken;
     for (size_t i = 0; i < sizeof commands / sizeof commands[0]; i++)
         if (argc == commands[i].words && strcmp(argv[2], commands[i].word) == 0)
             command = &commands[i];
-    if (argc != 2 && command == NULL) {
-        fprintf(stderr, "usage: example [-m] IMAGE [judge | (load | read | store | append) NAME FILE | "
-                        "(delete | clear) NAME | rename NAME NEW | pack FILE]\n");
+    if ((argc != 2 && command == NULL) || strcmp(argv[1], "-d") == 0) {
+        fprintf(stderr, "usage: example [-m] [-d DIRECTORY] IMAGE [judge | (load | read | store | append) "
+                        "NAME FILE | (delete | clear) NAME | rename NAME NEW | pack FILE]\n");
         return 2;
     }
     image_len = read_file(argv[1], image, sizeof image);

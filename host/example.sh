@@ -16,6 +16,8 @@ disk=$work/disk.dsk
 sample=$top/crates/catalogue/stdin
 program=$out/example
 within=() # the command that runs the example, where it is not this shell
+usage="usage: example [-m] [-d DIRECTORY] IMAGE [judge | (load | read | store | append) NAME FILE | \
+(delete | clear) NAME | rename NAME NEW | pack FILE]"
 steps=0
 
 fail() {
@@ -178,14 +180,14 @@ TEXT DIS/FIX 128 2 U" "$disk"
 be_refused() {
     content 32769 >"$work/too-long"
     content $((256 * 49)) >"$work/49-sectors"
-    refusal "number 8: there is no such file" "$disk" delete GAMMA
+    refusal "number 8: there is no such file or directory" "$disk" delete GAMMA
     refusal "number 9: there is a file of that name already" "$disk" store ALPHA "$work/beta"
     refusal "number 12: too few sectors are free" "$disk" append TEXT "$work/49-sectors"
     refusal "number 12: too few sectors are free" "$disk" append MORE "$work/49-sectors"
     refusal "number 14: the file is of another kind" "$disk" load NOTES "$work/nothing"
     refusal "number 14: the file is of another kind" "$disk" append BETA "$work/note"
     refusal "number 15: a length, an offset or a status does not fit" "$disk" store LONG "$work/too-long"
-    refusal "number 8: there is no such file" "$disk" read GAMMA "$work/nothing"
+    refusal "number 8: there is no such file or directory" "$disk" read GAMMA "$work/nothing"
     [ ! -e "$work/nothing" ] || fail "a refused call has written a file"
 }
 
@@ -218,7 +220,7 @@ say_where_a_name_is_wrong() {
     misnamed "the old name has more than 10 characters" rename ELEVENBYTES ELEVENBYTES
     misnamed "the new name has more than 10 characters" rename ALPHA ELEVENBYTES
     [ ! -e "$work/nothing" ] || fail "a refused call has written a file"
-    refusal "number 8: there is no such file" "$disk" rename GAMMA DELTA
+    refusal "number 8: there is no such file or directory" "$disk" rename GAMMA DELTA
     refusal "number 9: there is a file of that name already" "$disk" rename ALPHA NOTES
 }
 
@@ -248,7 +250,7 @@ TEXT DIS/FIX 128 2 U" "$disk"
     bytes_at "$disk" 256 00 04 00 03 00 05 00 00
     from_sector "$disk" 34 300 >"$work/found"
     must_be_same "$work/alpha" "$work/found"
-    refusal "number 8: there is no such file" "$disk" load ALPHA "$work/nothing"
+    refusal "number 8: there is no such file or directory" "$disk" load ALPHA "$work/nothing"
 }
 
 # Three descriptors from sector 2 on, data from 5 on: BETA 5 to 8, NOTES 9 and 10, TEXT 11 and 12.
@@ -366,17 +368,144 @@ TEXT DIS/FIX 128 1 U" "$image"
     be_refused_a_mark "$image"
 }
 
+# The worked example of docs/FORMAT.md. A program of 100 bytes has the descriptor's sector 5 and sector 37; a
+# data file of a sector 7 and 38.
+keep_directories() {
+    local image=$work/directories.dsk number
+    local none="refused, number 8: there is no such file or directory"
+    cp "$sample" "$image"
+    put_directories "$image"
+    content 100 >"$work/hundred"
+    step 0 "number 0: a sound volume" -d 0 "$image" judge
+    step 0 "SHELF 64 55
+ALPHA PROGRAM 300 2 U
+NOTES DIS/VAR 80 1 U" -d 0 "$image"
+    step 0 "SHELF 64 55" -d 1 "$image"
+    step 0 "" -d 1 "$image" store ALPHA "$work/hundred"
+    step 0 "" -d 3 "$image" append LETTER "$work/note"
+    bytes_at "$image" 20 47 41 4d 45 53 20 20 20 20 20 00 04 00 00 00 00 00 00 00 00 00 00 00 00 \
+        54 45 58 54 53 20 20 20 20 20 00 06 ff 00 00 00 7c 00
+    bytes_at "$image" 256 00 02 00 03 00 00
+    bytes_at "$image" $((256 * 4)) 00 05 00 00
+    bytes_at "$image" $((256 * 5)) 41 4c 50 48 41 20 20 20 20 20 00 00 01 00 00 01 64 00
+    bytes_at "$image" $((256 * 5 + 28)) 25 00 00 00 00 00
+    bytes_at "$image" $((256 * 6)) 00 07 00 00
+    bytes_at "$image" $((256 * 7 + 28)) 26 00 00 00 00 00
+    step 0 "SHELF 64 51
+ALPHA PROGRAM 300 2 U
+NOTES DIS/VAR 80 1 U" -d 0 "$image"
+    step 0 "SHELF 64 51
+ALPHA PROGRAM 100 1 U" -d 1 "$image"
+    step 0 "SHELF 64 51
+LETTER DIS/FIX 128 1 U" -d 3 "$image"
+    # Files of one name are read each from its directory.
+    step 0 "" -d 0 "$image" load ALPHA "$work/found"
+    must_be_same "$work/alpha" "$work/found"
+    step 0 "" -d 1 "$image" load ALPHA "$work/found"
+    must_be_same "$work/hundred" "$work/found"
+    step 0 "" -d 3 "$image" read LETTER "$work/found"
+    must_be_same "$work/note" "$work/found"
+    # There is neither a directory 2 nor one above 3, and no file is found in another directory.
+    for number in 2 4 256 4294967297 99999999999999999999; do
+        step 1 "$none" -d "$number" "$image"
+        step 1 "$none" -d "$number" "$image" store NEW "$work/hundred"
+        step 1 "$none" -d "$number" "$image" load ALPHA "$work/nothing"
+        step 1 "refused, number 7: a name breaks its rule: character 2 of the name" -d "$number" "$image" \
+            delete A.B
+    done
+    step 1 "$none" -d 3 "$image" load ALPHA "$work/nothing"
+    step 1 "$none" -d 0 "$image" read LETTER "$work/nothing"
+    step 1 "refused, number 9: there is a file of that name already" -d 1 "$image" store ALPHA "$work/hundred"
+    [ ! -e "$work/nothing" ] || fail "a refused call has written a file"
+    # A name of the root's may be given in a directory, and back.
+    cp "$image" "$work/before"
+    step 0 "" -d 1 "$image" rename ALPHA NOTES
+    bytes_at "$image" $((256 * 5)) 4e 4f 54 45 53
+    step 0 "" -d 1 "$image" rename NOTES ALPHA
+    must_be_same "$work/before" "$image"
+    # Deleted, it is gone from its directory alone; its sectors are free.
+    step 0 "" -d 1 "$image" delete ALPHA
+    bytes_at "$image" 56 df 00 00 00 5c 00
+    bytes_at "$image" 256 00 02 00 03 00 00
+    bytes_at "$image" $((256 * 4)) 00 00
+    cp "$work/before" "$image"
+    # With -m besides, in either order.
+    step 0 "SHELF 64 51
+ALPHA PROGRAM 100 1 U -" -m -d 1 "$image"
+    step 0 "" -d 1 -m "$image" rename ALPHA OMEGA
+    bytes_at "$image" $((256 * 5 + 12)) 11
+    step 0 "SHELF 64 51
+OMEGA PROGRAM 100 1 U M" -d 1 -m "$image"
+    step 1 "refused, number 4: a file's descriptor breaks a rule" -d 1 "$image"
+    step 0 "" -d 1 "$image" clear OMEGA
+    step 0 "" -d 1 "$image" rename OMEGA ALPHA
+    must_be_same "$work/before" "$image"
+    pack_directories "$image"
+    # By the first edition nobody holds what the directories have.
+    refusal "number 6: the map is not that of the files" "$image"
+    refusal "number 6: the map is not that of the files" "$image" judge
+    refusal "number 6: the map is not that of the files" "$image" delete ALPHA
+    refusal "number 6: the map is not that of the files" "$image" clear ALPHA
+    refusal "number 6: the map is not that of the files" "$image" pack "$work/nothing"
+    be_refused_a_directory "$image"
+}
+
+# IMAGE: the indexes go to sectors 2 and 3, the descriptors to 4 to 7, the data to 8 to 12.
+pack_directories() {
+    local packed=$work/packed.dsk
+    step 0 "" -d 0 "$1" pack "$packed"
+    bytes_at "$packed" 20 47 41 4d 45 53 20 20 20 20 20 00 02 00 00 00 00 00 00 00 00 00 00 00 00 \
+        54 45 58 54 53 20 20 20 20 20 00 03 ff 1f 00 00 00 00
+    bytes_at "$packed" 256 00 04 00 05 00 00
+    bytes_at "$packed" 512 00 06 00 00
+    bytes_at "$packed" 768 00 07 00 00
+    bytes_at "$packed" $((256 * 4 + 28)) 08 10 00 00 00 00
+    bytes_at "$packed" $((256 * 5 + 28)) 0a 00 00 00 00 00
+    bytes_at "$packed" $((256 * 6 + 28)) 0b 00 00 00 00 00
+    bytes_at "$packed" $((256 * 7 + 28)) 0c 00 00 00 00 00
+    from_sector "$packed" 11 100 >"$work/found"
+    must_be_same "$work/hundred" "$work/found"
+    from_sector "$packed" 12 256 >"$work/found"
+    must_be_same "$work/note" "$work/found"
+    step 0 "SHELF 64 51
+LETTER DIS/FIX 128 1 U" -d 3 "$packed"
+    step 0 "" -d 2 "$packed" pack "$work/packed-again.dsk"
+    must_be_same "$packed" "$work/packed-again.dsk"
+}
+
+# IMAGE: entries that break a rule are 3 by the second edition and carried by the first; and the words that go
+# with -d.
+be_refused_a_directory() {
+    local bad=$work/bad.dsk three="refused, number 3: a directory is no list of files"
+    cp "$sample" "$bad"
+    put_at "$bad" 20 'GAMES     '
+    step 1 "$three" -d 0 "$bad" judge
+    step 0 "number 0: a sound volume" "$bad" judge
+    cp "$1" "$bad"
+    put_at "$bad" 54 '\x00\x01'
+    step 1 "$three" -d 0 "$bad" judge
+    put_at "$bad" 54 '\x00\x04'
+    step 1 "refused, number 5: a sector has two holders" -d 0 "$bad" judge
+    put_at "$bad" 44 'GAMES     \x00\x06'
+    step 1 "$three" -d 0 "$bad" judge
+    step 1 "refused, number 8: there is no such file or directory" -d 1 "$sample"
+    step 2 "$usage" -d
+    step 2 "$usage" -d 1
+    step 2 "$usage" -d GAMES "$1"
+    step 2 "$usage" -d 1x "$1" judge
+    step 2 "$usage" -d -1 "$1" judge
+    step 2 "$usage" "$1" -d 1 judge
+}
+
 # IMAGE: the numbers of clearing a mark, and the words that go with -m.
 be_refused_a_mark() {
-    refusal "number 8: there is no such file" "$1" clear GAMMA
+    refusal "number 8: there is no such file or directory" "$1" clear GAMMA
     refusal "number 7: a name breaks its rule: character 2 of the name" "$1" clear A.B
     refusal "number 7: a name breaks its rule: the name has more than 10 characters" "$1" clear ELEVENBYTES
     step 1 "refused, number 7: a name breaks its rule: character 3 of the new name" -m "$1" rename ALPHA GA.MMA
     head -c 16383 "$1" >"$work/short.dsk"
     refusal "number 1: the image's length is not that of a volume" "$work/short.dsk" clear A.B
     step 1 "refused, number 1: the image's length is not that of a volume" -m "$work/short.dsk" clear A.B
-    local usage="usage: example [-m] IMAGE [judge | (load | read | store | append) NAME FILE | \
-(delete | clear) NAME | rename NAME NEW | pack FILE]"
     step 2 "$usage"
     step 2 "$usage" -m
     step 2 "$usage" -m "$1" clear
@@ -415,11 +544,6 @@ lay_disk() {
     rm -rf "$1"
     mkdir "$1"
     cp "$sample" "$1/disk.dsk"
-}
-
-# IMAGE OFFSET ESCAPES: puts bytes there.
-put_at() {
-    printf '%b' "$3" | dd of="$1" bs=1 seek="$2" conv=notrunc status=none
 }
 
 # What the steps from here on have to leave on case M's volume where they are not kept from it: ALPHA
@@ -666,6 +790,7 @@ rename_a_file
 delete_a_file
 pack_twice
 keep_marks
+keep_directories
 judge_others
 make_deleted
 keep_link_and_mode

@@ -39,7 +39,8 @@ must_be() {
 
 # Case M's volume, one with a bit of the map cleared, and others of another disk manager's, in $work/images.
 # Two are case M's volume with a backup mark, status bit 10 hex: one on ALPHA, whose status is byte 524, and
-# one on NOTES, whose status is byte 780, which is protected there too.
+# one on NOTES, whose status is byte 780, which is protected there too. Others are of the second edition, with
+# two directories: GAMES, which has a program ALPHA, and TEXTS, which has LETTER.
 lay_out() {
     mkdir -p "$work/images"
     cd "$work/images"
@@ -51,6 +52,28 @@ lay_out() {
     { head -c 524 sound.dsk && printf '\x11' && tail -c +526 sound.dsk; } >marked.dsk
     { head -c 780 sound.dsk && printf '\x98' && tail -c +782 sound.dsk; } >locked.dsk
     cp sound.dsk ./--marks
+    lay_out_directories
+}
+
+# directories.dsk; the same with a mark on LETTER, whose status is byte 1804, with one index for two entries,
+# with an entry that has no name, and with LETTER's status broken; and one of no directory whose carried bytes
+# are no entries.
+lay_out_directories() {
+    cp sound.dsk directories.dsk
+    put_directories directories.dsk
+    seq 100 130 >"$work/program"
+    "${emulator[@]}" "$out/example" -d 1 directories.dsk store ALPHA "$work/program"
+    "${emulator[@]}" "$out/example" -d 3 directories.dsk append LETTER "$work/program"
+    cp directories.dsk marked-directories.dsk
+    put_at marked-directories.dsk 1804 '\x10'
+    cp directories.dsk one-index.dsk
+    put_at one-index.dsk 54 '\x00\x04'
+    cp directories.dsk no-name.dsk
+    put_at no-name.dsk 20 '\x00\x00\x00\x00\x00\x00\x00\x00\x00\x00'
+    cp directories.dsk status.dsk
+    put_at status.dsk 1804 '\x04'
+    cp "$top/crates/belt/data/0-carried.dsk" carried.dsk
+    cp directories.dsk ./--directories
 }
 
 missing='No such file or directory'
@@ -69,11 +92,16 @@ locked='SHELF 64 57
 ALPHA PROGRAM 300 2 U -
 NOTES DIS/VAR 80 1 P M'
 
+# The root of the images with directories, by the second edition.
+by_directories='SHELF 64 51
+ALPHA PROGRAM 300 2 U
+NOTES DIS/VAR 80 1 U'
+
 # One image for each number, as crates/belt/README.md has them, with its ground.
 grounds=('0-carried a sound volume'
     '1-empty the image'\''s length is not that of a volume'
     '2-name-dot sector 0 is no label'
-    '3-too-low sector 1 is no list of files'
+    '3-too-low a directory is no list of files'
     '4-order a file'\''s descriptor breaks a rule'
     '5-twice a sector has two holders'
     '6-set the map is not that of the files')
@@ -132,6 +160,44 @@ try_belt_by_marks() {
     step 0 '0 --marks' '1 image: 1 sound' belt -- --marks
     step 0 '0 --marks
 0 marked.dsk' '2 images: 2 sound' belt --marks -- --marks marked.dsk
+}
+
+# A directory is number 6 by the first edition, and none by the second, which finds its own faults: 3 in an entry,
+# 4 in a directory's file, 5 where two entries have one index.
+try_belt_by_directories() {
+    step 1 '6 directories.dsk
+0 sound.dsk
+6 one-index.dsk
+6 no-name.dsk
+6 status.dsk
+0 carried.dsk' '6 images: 2 sound, 4 of number 6' belt directories.dsk sound.dsk one-index.dsk no-name.dsk \
+        status.dsk carried.dsk
+    step 1 '0 directories.dsk
+0 sound.dsk
+5 one-index.dsk
+3 no-name.dsk
+4 status.dsk
+3 carried.dsk
+6 map.dsk
+1 empty.dsk' '8 images: 2 sound, 1 of number 1, 2 of number 3, 1 of number 4, 1 of number 5, 1 of number 6' \
+        belt --directories directories.dsk sound.dsk one-index.dsk no-name.dsk status.dsk carried.dsk map.dsk \
+        empty.dsk
+    # With marks besides, in either order.
+    step 1 '6 marked-directories.dsk' '1 image: 0 sound, 1 of number 6' belt --marks marked-directories.dsk
+    step 1 '4 marked-directories.dsk' '1 image: 0 sound, 1 of number 4' belt --directories \
+        marked-directories.dsk
+    step 0 '0 marked-directories.dsk
+0 marked.dsk' '2 images: 2 sound' belt --marks --directories marked-directories.dsk marked.dsk
+    step 0 '0 marked-directories.dsk: a sound volume' '1 image: 1 sound' belt --directories -v --marks \
+        marked-directories.dsk
+    step 2 '0 directories.dsk
+- missing.dsk' "missing.dsk: $missing
+2 images: 1 sound, 1 unread" belt --directories directories.dsk missing.dsk
+    step 1 '6' '1 image: 0 sound, 1 of number 6' belt <directories.dsk
+    step 0 '0' '1 image: 1 sound' belt --directories <directories.dsk
+    step 1 '6 directories.dsk
+6 --directories' '2 images: 0 sound, 2 of number 6' belt directories.dsk --directories
+    step 0 '0 --directories' '1 image: 1 sound' belt --directories -- --directories
 }
 
 # A newline would begin another line, on either output.
@@ -198,6 +264,31 @@ $by_marks" '1 image: 1 sound' listings --marks -- --marks
 $listing" '1 image: 1 sound' listings -- --marks
 }
 
+# By the second edition the lines are those of the root.
+try_listings_by_directories() {
+    step 1 '==> directories.dsk <==
+REFUSED 6' '1 image: 0 sound, 1 of number 6' listings directories.dsk
+    step 1 "==> directories.dsk <==
+$by_directories
+
+==> sound.dsk <==
+$listing
+
+==> no-name.dsk <==
+REFUSED 3
+
+==> marked-directories.dsk <==
+REFUSED 4" '4 images: 2 sound, 1 of number 3, 1 of number 4' listings --directories directories.dsk sound.dsk \
+        no-name.dsk marked-directories.dsk
+    step 0 "==> marked-directories.dsk <==
+$(sed '2,$s/$/ -/' <<<"$by_directories")
+
+==> marked.dsk <==
+$marked" '2 images: 2 sound' listings --marks --directories marked-directories.dsk marked.dsk
+    step 0 "==> --directories <==
+$by_directories" '1 image: 1 sound' listings --directories -- --directories
+}
+
 try_catalogue() {
     step 0 "$listing" '' catalogue sound.dsk
     step 0 "$listing" '' catalogue <sound.dsk
@@ -211,6 +302,10 @@ try_catalogue() {
     step 0 "REFUSED${listing#SHELF}" '' catalogue named.dsk
     step 1 'REFUSED 4' '' catalogue marked.dsk
     step 1 'REFUSED 4' '' catalogue <locked.dsk
+    # Both catalogue programs go by the first edition.
+    step 1 'REFUSED 6' '' catalogue directories.dsk
+    step 1 'REFUSED 6' '' catalogue_marks directories.dsk
+    step 1 'REFUSED 6' '' catalogue_marks <marked-directories.dsk
 }
 
 # The second catalogue program, which goes by the new rule.
@@ -290,6 +385,40 @@ try_masters_by_marks() {
 0 $sum sound.dsk" '2 images: 2 sound' masters --marks --sums marked.dsk sound.dsk
 }
 
+# By the second edition a volume with directories is the same as its packed form, and another one than with a
+# file's byte changed in a directory: sector 37 has the program of GAMES.
+try_masters_by_directories() {
+    local sum other
+    "${emulator[@]}" "$out/example" -d 0 directories.dsk pack packed-directories.dsk
+    cp directories.dsk other-directories.dsk
+    put_at other-directories.dsk $((256 * 37)) '?'
+    step 1 '6 - directories.dsk
+0 2 sound.dsk
+6 - packed-directories.dsk' '3 images: 1 sound, 2 of number 6' masters directories.dsk sound.dsk \
+        packed-directories.dsk
+    step 1 '0 1 directories.dsk
+0 2 sound.dsk
+0 1 packed-directories.dsk
+3 - no-name.dsk
+0 5 other-directories.dsk
+4 - marked-directories.dsk' '6 images: 4 sound, 1 of number 3, 1 of number 4' masters --directories \
+        directories.dsk sound.dsk packed-directories.dsk no-name.dsk other-directories.dsk marked-directories.dsk
+    step 0 '0 1 marked-directories.dsk
+0 2 directories.dsk
+0 2 packed-directories.dsk' '3 images: 3 sound' masters --directories --marks marked-directories.dsk \
+        directories.dsk packed-directories.dsk
+    command -v python3 >/dev/null || return 0
+    sum=$(sum_of packed-directories.dsk)
+    "${emulator[@]}" "$out/example" -m -d 0 marked-directories.dsk pack "$work/packed"
+    other=$(sum_of "$work/packed")
+    step 0 "0 $sum directories.dsk
+0 $sum packed-directories.dsk" '2 images: 2 sound' masters --sums --directories directories.dsk \
+        packed-directories.dsk
+    step 0 "0 $other marked-directories.dsk
+0 $sum directories.dsk" '2 images: 2 sound' masters --marks --sums --directories marked-directories.dsk \
+        directories.dsk
+}
+
 # The table has room for 131,071 images. What comes behind is compared with all that came behind.
 try_past_the_table() {
     local words
@@ -309,9 +438,10 @@ try_past_the_table() {
 # Every program has its usage, on standard output where it is asked for, and on standard error where its
 # words are not those.
 try_usage() {
-    local program usage
-    for program in belt 'belt [-v] [--marks] [--] [IMAGE...]' listings 'listings [--marks] [--] IMAGE...' \
-        masters 'masters [--sums] [--marks] [--] IMAGE...' catalogue 'catalogue < IMAGE' \
+    local program usage option
+    for program in belt 'belt [-v] [--marks] [--directories] [--] [IMAGE...]' \
+        listings 'listings [--marks] [--directories] [--] IMAGE...' \
+        masters 'masters [--sums] [--marks] [--directories] [--] IMAGE...' catalogue 'catalogue < IMAGE' \
         catalogue_marks 'catalogue_marks < IMAGE' bench bench; do
         if [ -z "${usage:-}" ]; then
             usage=$program
@@ -322,15 +452,18 @@ try_usage() {
         step 0 "$(cat "$work/usage")" '' "$usage" -h
         step 2 '' "$(cat "$work/usage")" "$usage" --other
         grep -q -- '-h, --help' "$work/usage" || fail "$usage --help does not tell its options"
-        if [[ $program == *--marks* ]]; then
-            [ "$(grep -c -- --marks "$work/usage")" -gt 1 ] || fail "$usage --help does not tell of --marks"
-        fi
+        for option in --marks --directories; do
+            [[ $program == *"$option"* ]] || continue
+            [ "$(grep -c -- "$option" "$work/usage")" -gt 1 ] || fail "$usage --help does not tell of $option"
+        done
         usage=
     done
     step 2 '' "$("$top/run" masters -h)" masters -v sound.dsk
     step 2 '' "$("$top/run" belt -h)" belt --sums sound.dsk
     step 2 '' "$("$top/run" listings -h)" listings --marks --sums sound.dsk
     step 2 '' "$("$top/run" catalogue -h)" catalogue --marks
+    step 2 '' "$("$top/run" catalogue -h)" catalogue --directories
+    step 2 '' "$("$top/run" catalogue_marks -h)" catalogue_marks --directories
     step 2 '' "$("$top/run" --help)" no_such_program
 }
 
@@ -339,7 +472,8 @@ try_outputs() {
     local program ended
     for program in 'belt sound.dsk' 'belt -h' 'listings sound.dsk' 'masters sound.dsk' 'catalogue sound.dsk' \
         'belt --marks marked.dsk' 'listings --marks marked.dsk' 'masters --marks marked.dsk' \
-        'catalogue_marks marked.dsk' bench; do
+        'belt --directories directories.dsk' 'listings --directories directories.dsk' \
+        'masters --directories directories.dsk' 'catalogue_marks marked.dsk' bench; do
         ended=0
         # shellcheck disable=SC2086
         "$top/run" $program >/dev/full 2>"$work/told" || ended=$?
@@ -451,13 +585,16 @@ compile_example
 lay_out
 try_belt
 try_belt_by_marks
+try_belt_by_directories
 try_names
 try_listings
 try_listings_by_marks
+try_listings_by_directories
 try_catalogue
 try_catalogue_marks
 try_masters
 try_masters_by_marks
+try_masters_by_directories
 try_past_the_table
 try_usage
 try_outputs

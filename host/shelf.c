@@ -26,7 +26,8 @@ static void done(uint32_t number) {
 }
 
 static void store(size_t length, const char *name) {
-    done(pno_store(image, length, 0, (const uint8_t *)name, PNO_NAME_BYTES, program, sizeof program, &wrong));
+    done(pno_store(image, length, 0, 0, (const uint8_t *)name, PNO_NAME_BYTES, program, sizeof program,
+                   &wrong));
 }
 
 /* A volume with one program, which begins with this number; moved, it has the sectors of a second one. */
@@ -40,7 +41,7 @@ static void make(size_t sectors, unsigned long number, int moved) {
         program[i] = (uint8_t)(i < 4 ? number >> (8 * i) : i);
     store(length, "PROGRAM   ");
     if (moved)
-        done(pno_delete(image, length, 0, (const uint8_t *)"GONE      ", PNO_NAME_BYTES, &wrong));
+        done(pno_delete(image, length, 0, 0, (const uint8_t *)"GONE      ", PNO_NAME_BYTES, &wrong));
 }
 
 int main(int argc, char **argv) {

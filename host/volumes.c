@@ -20,6 +20,7 @@
 #define PROTECTED 0x08
 #define MARKED 0x10
 #define PROGRAM 0x01
+#define ROOT 0
 
 /* The disks that the other manager takes: its n is the product of the first three. */
 struct geometry {
@@ -136,7 +137,7 @@ static void store_length(size_t length) {
     any_name(name);
     fill(bytes, length);
     uint32_t expected = find(name) ? PNO_PRESENT : free_sectors < sectors + 1 ? PNO_DISK_FULL : PNO_DONE;
-    if (is_done(pno_store(image, image_len, layout, name, 10, bytes, length, &wrong), expected)) {
+    if (is_done(pno_store(image, image_len, layout, ROOT, name, 10, bytes, length, &wrong), expected)) {
         struct file *file = add(name, PROGRAM);
         file->header[16] = (uint8_t)(length % SECTOR);
         free_sectors -= 1;
@@ -162,7 +163,8 @@ static void create(void) {
     uint8_t records = status & 0x80 ? 255 / length : 256 / length;
     any_name(name);
     uint32_t expected = find(name) ? PNO_PRESENT : free_sectors < 1 ? PNO_DISK_FULL : PNO_DONE;
-    if (is_done(pno_create(image, image_len, layout, name, 10, status, length, records, &wrong), expected)) {
+    if (is_done(pno_create(image, image_len, layout, ROOT, name, 10, status, length, records, &wrong),
+                expected)) {
         struct file *file = add(name, status);
         file->header[13] = records;
         file->header[17] = length;
@@ -182,7 +184,8 @@ static void append(struct file *file) {
     fill(data, SECTOR);
     if (expected == PNO_DONE && free_sectors < 1)
         expected = PNO_DISK_FULL;
-    if (is_done(pno_append(image, image_len, layout, file->header, 10, data, SECTOR, &wrong), expected)) {
+    if (is_done(pno_append(image, image_len, layout, ROOT, file->header, 10, data, SECTOR, &wrong),
+                expected)) {
         grow(file, data, SECTOR, 1);
         mark(file);
     }
@@ -195,7 +198,7 @@ static void overwrite(struct file *file) {
     fill(data, SECTOR);
     if (expected == PNO_DONE && offset >= file->sectors)
         expected = PNO_ARGUMENT;
-    if (is_done(pno_overwrite(image, image_len, layout, file->header, 10, offset, data, SECTOR, &wrong),
+    if (is_done(pno_overwrite(image, image_len, layout, ROOT, file->header, 10, offset, data, SECTOR, &wrong),
                 expected)) {
         memcpy(file->bytes + offset * SECTOR, data, SECTOR);
         mark(file);
@@ -204,7 +207,7 @@ static void overwrite(struct file *file) {
 
 static void delete(struct file *file) {
     uint32_t expected = file->header[12] & PROTECTED ? PNO_PROTECTED : PNO_DONE;
-    if (is_done(pno_delete(image, image_len, layout, file->header, 10, &wrong), expected)) {
+    if (is_done(pno_delete(image, image_len, layout, ROOT, file->header, 10, &wrong), expected)) {
         free_sectors += 1 + file->sectors;
         free(file->bytes);
         *file = files[--file_count];
@@ -215,24 +218,25 @@ static void rename_file(struct file *file) {
     uint8_t name[10];
     any_name(name);
     uint32_t expected = find(name) ? PNO_PRESENT : file->header[12] & PROTECTED ? PNO_PROTECTED : PNO_DONE;
-    if (is_done(pno_rename(image, image_len, layout, file->header, 10, name, 10, &which, &wrong), expected)) {
+    if (is_done(pno_rename(image, image_len, layout, ROOT, file->header, 10, name, 10, &which, &wrong),
+                expected)) {
         memcpy(file->header, name, 10);
         mark(file);
     }
 }
 
 static void protect(struct file *file) {
-    if (is_done(pno_protect(image, image_len, layout, file->header, 10, &wrong), PNO_DONE))
+    if (is_done(pno_protect(image, image_len, layout, ROOT, file->header, 10, &wrong), PNO_DONE))
         file->header[12] |= PROTECTED;
 }
 
 static void unprotect(struct file *file) {
-    if (is_done(pno_unprotect(image, image_len, layout, file->header, 10, &wrong), PNO_DONE))
+    if (is_done(pno_unprotect(image, image_len, layout, ROOT, file->header, 10, &wrong), PNO_DONE))
         file->header[12] &= (uint8_t)~PROTECTED;
 }
 
 static void clear_mark(struct file *file) {
-    if (is_done(pno_clear_mark(image, image_len, layout, file->header, 10, &wrong), PNO_DONE))
+    if (is_done(pno_clear_mark(image, image_len, layout, ROOT, file->header, 10, &wrong), PNO_DONE))
         file->header[12] &= (uint8_t)~MARKED;
 }
 

@@ -10,11 +10,12 @@
  *   - The name begins with pno_.
  *   - A buffer is a pointer and, right after it, its length in bytes.
  *   - Every call but pno_format has, right after its first buffer, the layout by which it reads that image:
- *     see The layout.
+ *     see The layout. Every call on one file, pno_entry and pno_listing have right after it the directory:
+ *     see Directories.
  *   - No pointer is null. For an empty buffer lend the address of any byte, and length 0. In C++ the data()
  *     of an empty std::vector may be null:
  *         const uint8_t none = 0, *bytes = v.empty() ? &none : v.data();
- *         pno_store(image, image_len, layout, name, name_len, bytes, v.size(), &wrong);
+ *         pno_store(image, image_len, layout, directory, name, name_len, bytes, v.size(), &wrong);
  *   - What a call writes, the image among it, overlaps nothing else that is lent to it: no buffer, and
  *     nothing behind another pointer.
  *   - Counts, places and offsets are size_t. A value goes back through a pointer (size_t *, a name's ten
@@ -39,7 +40,7 @@ extern "C" {
 
 /* The version. While the major number is 0, the interface may change with each minor one. */
 #define PNO_VERSION_MAJOR 0
-#define PNO_VERSION_MINOR 4
+#define PNO_VERSION_MINOR 5
 #define PNO_VERSION_PATCH 0
 #define PNO_QUOTED(word) #word
 #define PNO_DOTTED(major, minor, patch) PNO_QUOTED(major) "." PNO_QUOTED(minor) "." PNO_QUOTED(patch)
@@ -51,7 +52,7 @@ extern "C" {
 #define PNO_SECTORS_LEAST 3    /* the fewest sectors of a volume */
 #define PNO_SECTORS_MOST 1600  /* the most sectors of a volume */
 #define PNO_IMAGE_MOST 409600  /* the most bytes of a volume's image */
-#define PNO_FILES_MOST 127     /* the most files of a volume */
+#define PNO_FILES_MOST 127     /* the most files of the root or of a directory */
 #define PNO_LISTING_MOST 4466  /* the most bytes of a listing, by any layout: room for every one */
 #define PNO_PROGRAM_MOST 32768 /* the most bytes that a store takes */
 #define PNO_LOADED_MOST 408832 /* the most bytes that a load gives: 1,597 full sectors */
@@ -61,20 +62,22 @@ enum pno_number {
     PNO_DONE = 0,        /* done; of an image: a sound volume */
     PNO_LENGTH = 1,      /* the image's length is not 256 x n for n from 3 to 1,600 */
     PNO_LABEL = 2,       /* sector 0: bad disk name, n or "DSK" */
-    PNO_INDEX = 3,       /* sector 1 breaks its range or end rule */
-    PNO_DESCRIPTOR = 4,  /* a descriptor breaks name, status, chain or kind rules, or names do not ascend;
-                            by the kind rule a program without sectors has end offset 0 */
+    PNO_INDEX = 3,       /* sector 1 breaks its range or end rule; with PNO_DIRECTORIES also: the index of a
+                            directory does, or an entry breaks a rule of its own */
+    PNO_DESCRIPTOR = 4,  /* a descriptor breaks name, status, chain or kind rules, or the names of an index do
+                            not ascend; by the kind rule a program without sectors has end offset 0 */
     PNO_TWO_HOLDERS = 5, /* a sector has two holders */
     PNO_MAP = 6,         /* the map is not that of the holders */
     PNO_NAME = 7,        /* a name breaks its rule; where, stands behind wrong */
-    PNO_NOT_FOUND = 8,   /* no file of that name, or no file at that place of the catalogue */
-    PNO_PRESENT = 9,     /* there is a file of the new name already */
+    PNO_NOT_FOUND = 8,   /* no such directory, no file of that name in it, or no file at that place of its
+                            catalogue */
+    PNO_PRESENT = 9,     /* there is a file of the new name in the directory already */
     PNO_PROTECTED = 10,  /* the file is protected */
     PNO_KIND = 14,       /* the file is not a program; append and overwrite: it is one */
     PNO_ARGUMENT = 15,   /* a buffer is too short, or data too long or not 256 bytes; the file has no sector
                             at that offset; no file can be created with that status; the target of packing
                             is not as long as its source */
-    PNO_INDEX_FULL = 11, /* there are 127 files already */
+    PNO_INDEX_FULL = 11, /* there are 127 files in the directory already */
     PNO_DISK_FULL = 12,  /* fewer sectors are free than the call takes */
     PNO_CHAIN_FULL = 13  /* the file's chain would need a 77th block */
 };
@@ -93,7 +96,7 @@ static inline const char *pno_text(uint32_t number) {
     case PNO_LABEL:
         return "sector 0 is no label";
     case PNO_INDEX:
-        return "sector 1 is no list of files";
+        return "a directory is no list of files";
     case PNO_DESCRIPTOR:
         return "a file's descriptor breaks a rule";
     case PNO_TWO_HOLDERS:
@@ -103,7 +106,7 @@ static inline const char *pno_text(uint32_t number) {
     case PNO_NAME:
         return "a name breaks its rule";
     case PNO_NOT_FOUND:
-        return "there is no such file";
+        return "there is no such file or directory";
     case PNO_PRESENT:
         return "there is a file of that name already";
     case PNO_PROTECTED:
@@ -138,15 +141,35 @@ static inline const char *pno_text(uint32_t number) {
  *   listing shows it in a field of its own. All else is as without PNO_MARKS.
  *   pno_clear_mark takes the mark away. It always goes by the new rule.
  *   So a volume without any mark is sound by both rules, and one with a mark by the new one alone.
+ *
+ * Directories
+ *   Without PNO_DIRECTORIES, the first edition: there is the root alone, whose index is sector 1. Bytes 20 to
+ *   55 of sector 0 are carried.
+ *   With PNO_DIRECTORIES, the second edition: these bytes are three entries, each of twelve bytes: a
+ *   directory's name, ten bytes, and the number of its index sector, high byte first. Twelve zeros are an
+ *   absent entry, and one may stand before another that is there. The names of the directories keep the rule
+ *   of names and differ among each other. Each index sector is from 2 to n - 1, is a sector that is held, and
+ *   lists files as sector 1 does. A name may stand in several indexes, once in each. Where an entry breaks
+ *   these rules, or an index those of sector 1, the number is 3; where names do not ascend in an index, 4;
+ *   where a sector is held twice, be it the index of two entries, 5.
+ *   The argument directory says which files are meant: 0 those of the root, 1 to 3 those of an entry. What
+ *   there is no entry for is 8: an absent one, every number above 3, and without PNO_DIRECTORIES every number
+ *   but 0. That is tested right after the names, or right after the image where a call takes no name. 9 and
+ *   11 are of the files of the directory alone.
+ *   Where a call on a file of the root writes sector 1, one on a file of a directory writes the index sector
+ *   of that. No call makes a directory, and pno_format makes a volume without any.
+ *   So a volume with zeros in bytes 20 to 55 is the same by both editions; one with a directory is sound by
+ *   the second alone, and number 6 by the first where nothing else is wrong with it.
  */
 enum pno_layout {
-    PNO_MARKS = 1 /* status bit 10 hex is the backup mark */
+    PNO_MARKS = 1,       /* status bit 10 hex is the backup mark */
+    PNO_DIRECTORIES = 2  /* the second edition: sector 0 has the entries of directories */
 };
 
 /*
  * Names
- *   A disk or file name is ten bytes: one to ten printable ones (21 to 7E hex, no dot), then spaces (20 hex)
- *   up to the tenth. A name of another length, or one that breaks the rule, is number 7.
+ *   The name of a disk, a directory or a file is ten bytes: one to ten printable ones (21 to 7E hex, no dot),
+ *   then spaces (20 hex) up to the tenth. A name of another length, or one that breaks the rule, is number 7.
  *   Every call that takes a name has the pointer wrong. With 7 the place of the first wrong byte stands
  *   behind it: 0 to 9, or PNO_NAME_BYTES where the name is not lent as ten bytes. After a space every byte
  *   but a space is wrong, at its own place: "AB C" is wrong at 3, and " A" at 1. Ten spaces are wrong at 0.
@@ -162,8 +185,9 @@ enum pno_layout {
  */
 
 /*
- * Judges an image: 0 where it is a sound volume, else the first of 1 to 6 that is due. The whole image is
- * tested for 1, then for 2, and so on. A status with bit 10 hex is 4 without PNO_MARKS, and not with it.
+ * Judges an image: 0 where it is a sound volume, else the first of 1 to 6 that is due. The whole image, with
+ * PNO_DIRECTORIES every index of it, is tested for 1, then for 2, and so on. A status with bit 10 hex is 4
+ * without PNO_MARKS, and not with it.
  *
  * Stack: at most 360 bytes.
  */
@@ -182,7 +206,7 @@ uint32_t pno_format(uint8_t *image, size_t image_len, size_t n, const uint8_t *n
 
 /*
  * The number of free sectors: the zero bits of the map, which on a sound volume are n less the sectors that
- * the system and the files hold.
+ * the system, the directories and the files hold.
  *
  * Numbers: 1 to 6.
  * Stack: at most 376 bytes.
@@ -190,7 +214,8 @@ uint32_t pno_format(uint8_t *image, size_t image_len, size_t n, const uint8_t *n
 uint32_t pno_free_count(const uint8_t *image, size_t image_len, uint32_t layout, size_t *free_sectors);
 
 /*
- * A volume's summary: its name with the padding, its number of sectors n, of files, and of free sectors.
+ * A volume's summary: its name with the padding, its number of sectors n, of files, and of free sectors. The
+ * files are those of the root and of all directories together.
  *
  * Numbers: 1 to 6.
  * Stack: at most 392 bytes.
@@ -208,7 +233,7 @@ enum pno_kind {
 };
 
 /*
- * An entry of the catalogue: the file at a place, counted from 0 in the order of names. The first
+ * An entry of a directory's catalogue: the file at a place, counted from 0 in the order of names. The first
  * PNO_HEADER_BYTES of its descriptor go into the header buffer (bytes 0 to 9 are the name), and behind the
  * pointers
  *   kind          one of enum pno_kind
@@ -219,11 +244,13 @@ enum pno_kind {
  * full. Else it is 256 x (sectors - 1) and the end offset. With PNO_MARKS, bit 10 hex of byte 12 of the
  * header is the file's mark; the kind is the same with the mark and without.
  *
- * Numbers: 1 to 6; 8 past the last file; 15 where header_len is below PNO_HEADER_BYTES.
+ * Numbers: 1 to 6; 8 for no such directory, then past its last file; 15 where header_len is below
+ * PNO_HEADER_BYTES.
  * Stack: at most 408 bytes.
  */
-uint32_t pno_entry(const uint8_t *image, size_t image_len, uint32_t layout, size_t place, uint8_t *header,
-                   size_t header_len, size_t *kind, size_t *length, size_t *sectors, size_t *is_protected);
+uint32_t pno_entry(const uint8_t *image, size_t image_len, uint32_t layout, size_t directory, size_t place,
+                   uint8_t *header, size_t header_len, size_t *kind, size_t *length, size_t *sectors,
+                   size_t *is_protected);
 
 /*
  * Reads a sector of a file of any kind, protected or not: its 256 bytes. Offsets count from 0.
@@ -231,8 +258,9 @@ uint32_t pno_entry(const uint8_t *image, size_t image_len, uint32_t layout, size
  * Numbers: 1 to 6; 7; 8; 15 for an offset past the last sector, or where out_len is below PNO_SECTOR_BYTES.
  * Stack: at most 488 bytes.
  */
-uint32_t pno_read(const uint8_t *image, size_t image_len, uint32_t layout, const uint8_t *name,
-                  size_t name_len, size_t offset, uint8_t *out, size_t out_len, size_t *wrong);
+uint32_t pno_read(const uint8_t *image, size_t image_len, uint32_t layout, size_t directory,
+                  const uint8_t *name, size_t name_len, size_t offset, uint8_t *out, size_t out_len,
+                  size_t *wrong);
 
 /*
  * Loads a program: its bytes, and their number behind length. Those of a program without sectors are none.
@@ -241,21 +269,23 @@ uint32_t pno_read(const uint8_t *image, size_t image_len, uint32_t layout, const
  * PNO_LOADED_MOST.
  * Stack: at most 536 bytes.
  */
-uint32_t pno_load(const uint8_t *image, size_t image_len, uint32_t layout, const uint8_t *name,
-                  size_t name_len, uint8_t *out, size_t out_len, size_t *length, size_t *wrong);
+uint32_t pno_load(const uint8_t *image, size_t image_len, uint32_t layout, size_t directory,
+                  const uint8_t *name, size_t name_len, uint8_t *out, size_t out_len, size_t *length,
+                  size_t *wrong);
 
 /*
- * The catalogue as text, and its length behind length. The first line has disk name, n and free count; then
- * one line a file, in the order of names: name, kind, length in bytes of a program or else record length,
- * sectors, and P or U for protected or not; with PNO_MARKS one field more, M where the file has the mark and
- * a hyphen where it has not. One space between fields, names without their padding, and one newline at the
- * end of each line; no byte of zero ends the text.
+ * The catalogue of a directory as text, and its length behind length. The first line has disk name, n and
+ * free count, whatever the directory; then one line a file of it, in the order of names: name, kind, length
+ * in bytes of a program or else record length, sectors, and P or U for protected or not; with PNO_MARKS one
+ * field more, M where the file has the mark and a hyphen where it has not. One space between fields, names
+ * without their padding, and one newline at the end of each line; no byte of zero ends the text.
  *
- * Numbers: 1 to 6; 15 where out_len is below the text's length, which is at most PNO_LISTING_MOST.
+ * Numbers: 1 to 6; 8 for no such directory; 15 where out_len is below the text's length, which is at most
+ * PNO_LISTING_MOST.
  * Stack: at most 408 bytes.
  */
-uint32_t pno_listing(const uint8_t *image, size_t image_len, uint32_t layout, uint8_t *out, size_t out_len,
-                     size_t *length);
+uint32_t pno_listing(const uint8_t *image, size_t image_len, uint32_t layout, size_t directory, uint8_t *out,
+                     size_t out_len, size_t *length);
 
 /*
  * Calls that write
@@ -271,16 +301,17 @@ uint32_t pno_listing(const uint8_t *image, size_t image_len, uint32_t layout, ui
 
 /*
  * Creates a data file without sectors: its descriptor, which is zero but for the name, the status, the
- * records per sector (byte 13) and the record length (byte 17); its bit in the map; its place in sector 1.
+ * records per sector (byte 13) and the record length (byte 17); its bit in the map; its place in the index.
  * The status is 00 (display, fixed), 02 (internal, fixed), 80 (display, variable) or 82 hex (internal,
  * variable); the other two are any byte. With PNO_MARKS the status is one of these four too, and the file has
  * the mark besides.
  *
- * Numbers: 1 to 6; 7; 9; 15 for another status; 11; 12.
+ * Numbers: 1 to 6; 7; 8 for no such directory; 9; 15 for another status; 11; 12.
  * Stack: at most 840 bytes.
  */
-uint32_t pno_create(uint8_t *image, size_t image_len, uint32_t layout, const uint8_t *name, size_t name_len,
-                    uint8_t status, uint8_t record_length, uint8_t records_per_sector, size_t *wrong);
+uint32_t pno_create(uint8_t *image, size_t image_len, uint32_t layout, size_t directory, const uint8_t *name,
+                    size_t name_len, uint8_t status, uint8_t record_length, uint8_t records_per_sector,
+                    size_t *wrong);
 
 /*
  * Appends a sector to a data file: the sector's 256 bytes, its bit in the map, and in the descriptor the
@@ -291,8 +322,8 @@ uint32_t pno_create(uint8_t *image, size_t image_len, uint32_t layout, const uin
  * not due where the sector that is taken follows the file's last one.
  * Stack: at most 1,096 bytes.
  */
-uint32_t pno_append(uint8_t *image, size_t image_len, uint32_t layout, const uint8_t *name, size_t name_len,
-                    const uint8_t *data, size_t data_len, size_t *wrong);
+uint32_t pno_append(uint8_t *image, size_t image_len, uint32_t layout, size_t directory, const uint8_t *name,
+                    size_t name_len, const uint8_t *data, size_t data_len, size_t *wrong);
 
 /*
  * Overwrites a sector of a data file: its 256 bytes, with PNO_MARKS also the file's mark, and nothing else.
@@ -302,42 +333,44 @@ uint32_t pno_append(uint8_t *image, size_t image_len, uint32_t layout, const uin
  * not PNO_SECTOR_BYTES.
  * Stack: at most 488 bytes.
  */
-uint32_t pno_overwrite(uint8_t *image, size_t image_len, uint32_t layout, const uint8_t *name,
-                       size_t name_len, size_t offset, const uint8_t *data, size_t data_len, size_t *wrong);
+uint32_t pno_overwrite(uint8_t *image, size_t image_len, uint32_t layout, size_t directory,
+                       const uint8_t *name, size_t name_len, size_t offset, const uint8_t *data,
+                       size_t data_len, size_t *wrong);
 
 /*
  * Stores a program of 0 to PNO_PROGRAM_MOST bytes as a new file: bytes_len / 256 sectors, rounded up, the
  * rest of the last one zero; its descriptor, which is zero but for the name, status 01, or with PNO_MARKS 11
  * hex, the number of sectors, the end offset, which is bytes_len mod 256, and the chain; the bits of all
- * these in the map; its place in sector 1. So 256 bytes take one sector, and no byte takes none but the
+ * these in the map; its place in the index. So 256 bytes take one sector, and no byte takes none but the
  * descriptor's.
  *
- * Numbers: 1 to 6; 7; 9; 15 where bytes_len is above PNO_PROGRAM_MOST; 11; 12, the descriptor's sector being
- * counted; 13.
+ * Numbers: 1 to 6; 7; 8 for no such directory; 9; 15 where bytes_len is above PNO_PROGRAM_MOST; 11; 12, the
+ * descriptor's sector being counted; 13.
  * Stack: at most 1,160 bytes.
  */
-uint32_t pno_store(uint8_t *image, size_t image_len, uint32_t layout, const uint8_t *name, size_t name_len,
-                   const uint8_t *bytes, size_t bytes_len, size_t *wrong);
+uint32_t pno_store(uint8_t *image, size_t image_len, uint32_t layout, size_t directory, const uint8_t *name,
+                   size_t name_len, const uint8_t *bytes, size_t bytes_len, size_t *wrong);
 
 /*
- * Deletes a file: its place in sector 1, later ones moving down by one, and its bits in the map. The sectors
+ * Deletes a file: its place in the index, later ones moving down by one, and its bits in the map. The sectors
  * themselves keep their bytes.
  *
  * Numbers: 1 to 6; 7; 8; 10.
  * Stack: at most 1,032 bytes.
  */
-uint32_t pno_delete(uint8_t *image, size_t image_len, uint32_t layout, const uint8_t *name, size_t name_len,
-                    size_t *wrong);
+uint32_t pno_delete(uint8_t *image, size_t image_len, uint32_t layout, size_t directory, const uint8_t *name,
+                    size_t name_len, size_t *wrong);
 
 /*
- * Renames a file: the ten bytes of its name, and its place in sector 1; with PNO_MARKS also its mark.
+ * Renames a file: the ten bytes of its name, and its place in the index; with PNO_MARKS also its mark. The
+ * directory is the same for both names.
  *
- * Numbers: 1 to 6; 7 for the old name (which is 0), then for the new one (which is 1); 8 for the old one; 9
- * for the new one, also where it is the old one; 10.
+ * Numbers: 1 to 6; 7 for the old name (which is 0), then for the new one (which is 1); 8 for no such
+ * directory, then for the old name; 9 for the new one, also where it is the old one; 10.
  * Stack: at most 1,000 bytes.
  */
-uint32_t pno_rename(uint8_t *image, size_t image_len, uint32_t layout, const uint8_t *old, size_t old_len,
-                    const uint8_t *new_name, size_t new_len, size_t *which, size_t *wrong);
+uint32_t pno_rename(uint8_t *image, size_t image_len, uint32_t layout, size_t directory, const uint8_t *old,
+                    size_t old_len, const uint8_t *new_name, size_t new_len, size_t *which, size_t *wrong);
 
 /*
  * Protects a file, and unprotects it: one bit of its status, which leaves the mark as it is. Either may be
@@ -346,29 +379,32 @@ uint32_t pno_rename(uint8_t *image, size_t image_len, uint32_t layout, const uin
  * Numbers: 1 to 6; 7; 8.
  * Stack: at most 472 bytes.
  */
-uint32_t pno_protect(uint8_t *image, size_t image_len, uint32_t layout, const uint8_t *name, size_t name_len,
-                     size_t *wrong);
-uint32_t pno_unprotect(uint8_t *image, size_t image_len, uint32_t layout, const uint8_t *name,
-                       size_t name_len, size_t *wrong);
+uint32_t pno_protect(uint8_t *image, size_t image_len, uint32_t layout, size_t directory, const uint8_t *name,
+                     size_t name_len, size_t *wrong);
+uint32_t pno_unprotect(uint8_t *image, size_t image_len, uint32_t layout, size_t directory,
+                       const uint8_t *name, size_t name_len, size_t *wrong);
 
 /*
  * Clears the mark of a file, protected or not: one bit of its status, and nothing else. It may be done again.
- * This call always goes by the new rule: PNO_MARKS counts as set, whatever layout says.
+ * This call always goes by the new rule: PNO_MARKS counts as set, whatever layout says. The edition is the one
+ * that layout says.
  *
  * Numbers: 1 to 6; 7; 8.
  * Stack: at most 472 bytes.
  */
-uint32_t pno_clear_mark(uint8_t *image, size_t image_len, uint32_t layout, const uint8_t *name,
-                        size_t name_len, size_t *wrong);
+uint32_t pno_clear_mark(uint8_t *image, size_t image_len, uint32_t layout, size_t directory,
+                        const uint8_t *name, size_t name_len, size_t *wrong);
 
 /*
  * Packs a volume into another image of the same length, whatever bytes that had: the target is then a sound
  * volume with the source's label, files and contents, and has nothing else on it. Bytes 0 to 55 of sector 0
  * are the source's. The descriptors lie from sector 2 on in the order of names, bytes 0 to 27 of each as
  * they were, the mark among them; the data of all files follows in that order without a gap, in one block a
- * file; every free sector is E5 hex. So volumes that differ only in where things lie, and in what is left in
- * free sectors, pack to the same bytes, and packing what was packed changes nothing. The source is read, by
- * the layout, and never changed.
+ * file; every free sector is E5 hex. With PNO_DIRECTORIES the index sectors lie from sector 2 on in the order
+ * of the entries, which have these numbers then; the descriptors lie from the next sector on, the root's
+ * first, then those of each entry, and the data in the same order. So volumes that differ only in where
+ * things lie, and in what is left in free sectors, pack to the same bytes, and packing what was packed
+ * changes nothing. The source is read, by the layout, and never changed.
  *
  * Numbers: 1 to 6 for the source; 15 where target_len is not source_len.
  * Stack: at most 776 bytes.

@@ -39,7 +39,7 @@ struct Arguments {
 
 impl Arguments {
     fn read() -> Result<Self, String> {
-        let (images, calls, sequences, packs) = (200_000, 200_000, 220_000, 8_000);
+        let (images, calls, sequences, packs) = (200_000, 200_000, 480_000, 14_000);
         let (seed, seeds, files) = (1, 1, Vec::new());
         let mut arguments = Arguments { images, calls, sequences, packs, seed, seeds, files };
         let mut words = std::env::args().skip(1);
@@ -92,16 +92,20 @@ fn run(arguments: &Arguments) -> Result<(), String> {
     Ok(())
 }
 
-/// The images from outside: the library's number for each by both rules, and what came with it.
+/// The images from outside: the library's number for each by every layout, and what came with it.
 fn list(outside: &[Outside]) {
     for Outside { name, image, numbers, .. } in outside {
-        let by_rule = Layout::BOTH.map(|layout| {
+        let by_layout = Layout::ALL.map(|layout| {
             let expected = numbers.by(layout);
             let expected =
                 expected.map_or(String::new(), |number| format!(", expected {}", number));
             format!("{}{}", library::number(image, layout), expected)
         });
-        println!("{}: {}; with marks {}", name, by_rule[0], by_rule[1]);
+        let [old, marks, directories, both] = by_layout;
+        println!(
+            "{}: {}; with marks {}; with directories {}; with both {}",
+            name, old, marks, directories, both
+        );
     }
     println!("{} images from outside\n", outside.len());
 }

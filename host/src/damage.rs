@@ -1,11 +1,14 @@
 //! Changes of a sound disk, each aimed at one sentence of document 01, with the number that the
-//! paper gives for the changed image by the new rule, by which every sound disk is one. The number
-//! follows from the disk's plan and from the sentence, never from a judge.
+//! paper gives for the changed image by the new rule, by which every sound disk is one, and by the
+//! edition that the disk is planned for. The number follows from the disk's plan and from the
+//! sentence, never from a judge; what the other edition gives follows from it.
 
 mod carried;
 mod chain;
 mod chance;
 mod descriptor;
+pub(crate) mod editions;
+mod entries;
 mod holders;
 mod index;
 mod label;
@@ -15,9 +18,9 @@ mod values;
 use crate::layout::Layout;
 use crate::random::Random;
 use crate::volumes::{Disk, File, Name, HEADER_BYTES, SECTOR_BYTES};
+use editions::Roles;
+use std::ops::Range;
 
-const MAP: usize = 56;
-const INDEX: usize = SECTOR_BYTES;
 const INDEX_PLACES: usize = 128;
 
 /// Bytes put over the image at a place.
@@ -29,7 +32,11 @@ pub struct Edit {
 
 impl Edit {
     fn meets(&self, other: &Edit) -> bool {
-        self.at < other.at + other.bytes.len() && other.at < self.at + self.bytes.len()
+        self.touches(&(other.at..other.at + other.bytes.len()))
+    }
+
+    fn touches(&self, bytes: &Range<usize>) -> bool {
+        self.at < bytes.end && bytes.start < self.at + self.bytes.len()
     }
 }
 
@@ -38,8 +45,11 @@ impl Edit {
 pub struct Change {
     /// What was done, for a report.
     pub what: &'static str,
-    /// The paper's number for the changed image by the new rule, where the change settles it.
+    /// The paper's number for the changed image by the new rule and the disk's edition, where the
+    /// change settles it.
     pub number: Option<u32>,
+    /// The same by the other edition.
+    pub by_other: Option<u32>,
     pub edits: Vec<Edit>,
     /// The length in bytes of the changed image.
     pub length: usize,
@@ -48,12 +58,13 @@ pub struct Change {
 /// Collects changes of one disk.
 pub struct Damage<'disk> {
     disk: &'disk Disk,
+    roles: Roles,
     pub changes: Vec<Change>,
 }
 
 impl<'disk> Damage<'disk> {
     pub fn new(disk: &'disk Disk) -> Self {
-        Damage { disk, changes: Vec::new() }
+        Damage { disk, roles: Roles::of(disk), changes: Vec::new() }
     }
 
     /// A few changes of every sort.
@@ -62,8 +73,13 @@ impl<'disk> Damage<'disk> {
         self.disk_name(random);
         self.label();
         self.carried(random);
-        self.index_numbers(random);
-        self.index_end(random);
+        self.entries(random);
+        for directory in self.disk.numbers() {
+            self.index_numbers(directory, random);
+            self.index_end(directory, random);
+            self.order_of_names(directory, random);
+        }
+        self.listed_elsewhere(random);
         if let Some(file) = self.some_file(random) {
             self.file_name(file, random);
             self.status(file, random);
@@ -76,7 +92,6 @@ impl<'disk> Damage<'disk> {
         for _ in 0..3 {
             self.some_file(random).into_iter().for_each(|file| self.two_holders(file, random));
         }
-        self.order_of_names(random);
         self.map_bits(random);
         self.whole_map(random);
         self.bytes_at_random(random);
@@ -88,7 +103,8 @@ impl<'disk> Damage<'disk> {
         let image = &self.disk.image;
         let same = edits.iter().all(|edit| image[edit.at..].starts_with(&edit.bytes));
         let number = if same { Some(0) } else { number };
-        self.changes.push(Change { what, number, edits, length: image.len() });
+        let by_other = self.roles.by_other(self.disk, number, &edits);
+        self.changes.push(Change { what, number, by_other, edits, length: image.len() });
     }
 
     fn put(&mut self, what: &'static str, number: u32, at: usize, bytes: &[u8]) {
@@ -103,9 +119,24 @@ impl<'disk> Damage<'disk> {
         self.put(what, number, in_descriptor(file, byte), bytes);
     }
 
+    /// Of any directory, and in each as often.
     fn some_file(&self, random: &mut Random) -> Option<&'disk File> {
-        let files = &self.disk.files;
-        (!files.is_empty()).then(|| &files[random.below(files.len())])
+        let directory = random.pick(&self.disk.numbers());
+        let own: Vec<&File> = self.disk.files_in(directory).collect();
+        let files = if own.is_empty() { self.disk.files.iter().collect() } else { own };
+        (!files.is_empty()).then(|| files[random.below(files.len())])
+    }
+
+    /// Where the index of a directory begins.
+    fn index(&self, directory: usize) -> usize {
+        SECTOR_BYTES * self.disk.index_of(directory)
+    }
+
+    /// Where it has the number of a file.
+    fn in_index(&self, file: &File) -> usize {
+        let mut listed = self.disk.files_in(file.directory);
+        let place = listed.position(|other| other.descriptor == file.descriptor);
+        self.index(file.directory) + 2 * place.expect("a file of the disk")
     }
 }
 

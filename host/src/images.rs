@@ -1,13 +1,13 @@
 //! The comparison of images: the library's judge with both judges of this folder, and all three
 //! with the number that the paper gives where the image was built to have one. Each is judged by
-//! both rules.
+//! both rules and by both editions.
 
 use crate::comparison::Part;
 use crate::layout::Layout;
 use crate::outside::Outside;
 use crate::random::Random;
-use crate::reference::{self, Descriptor, Form, Kind};
-use crate::suites::{edges_of_a_block, of_every_value, two_blocks, Batch, Image};
+use crate::reference::{self, Descriptor, Directory, Form, Kind};
+use crate::suites::{edges_of_a_block, of_every_value, two_blocks, Batch, Image, Numbers};
 use crate::table::JUDGE;
 use crate::tally::{hold, Tally};
 use crate::volumes::{Disk, File, MARK, MOST_BLOCKS, MOST_FILES, MOST_SECTORS, SECTOR_BYTES};
@@ -15,25 +15,41 @@ use crate::{library, tuned};
 
 pub type Comparison = crate::comparison::Comparison<Images>;
 
-/// How many images a number must at least have been given for, by each rule.
+/// How many images a number must at least have been given for, by each layout.
 const LEAST_OF_EACH: u64 = 1000;
 /// How many changes of one disk are tried.
 const CHANGES: usize = 80;
 const SMALL_DISKS: usize = 10_000;
 
-const KNOWN: &str = "numbers that were known beforehand, of an image by a rule";
+const KNOWN: &str = "numbers that were known beforehand, of an image by a layout";
 
 /// What the sound disks are meant to show.
-const OF_DISKS: [(&str, fn(&Disk) -> bool); 4] = [
+const OF_DISKS: [(&str, fn(&Disk) -> bool); 15] = [
     ("sound disks built and read back", |_| true),
     ("  full", |disk| disk.free().is_empty()),
     ("  with 127 files", |disk| disk.files.len() == MOST_FILES),
     ("  with a mark, sound by the new rule alone", Disk::is_marked),
+    ("  with directories, sound by the second edition alone", Disk::has_directories),
+    ("  sound by both editions", |disk| Numbers::of_sound(disk).is_by_both()),
+    ("  with directory 1 alone", |disk| disk.numbers() == [0, 1]),
+    ("  with directory 2 alone", |disk| disk.numbers() == [0, 2]),
+    ("  with directory 3 alone", |disk| disk.numbers() == [0, 3]),
+    ("  with directories 1 and 2", |disk| disk.numbers() == [0, 1, 2]),
+    ("  with directories 1 and 3", |disk| disk.numbers() == [0, 1, 3]),
+    ("  with directories 2 and 3", |disk| disk.numbers() == [0, 2, 3]),
+    ("  with all three", |disk| disk.numbers() == [0, 1, 2, 3]),
+    ("  with a directory without files", |disk| has_directory(disk, 0)),
+    ("  with a directory of 127 files", |disk| has_directory(disk, MOST_FILES)),
 ];
 
+fn has_directory(disk: &Disk, files: usize) -> bool {
+    disk.numbers()[1..].iter().any(|number| disk.files_in(*number).count() == files)
+}
+
 /// The same of each file on them.
-const OF_FILES: [(&str, fn(&File) -> bool); 11] = [
+const OF_FILES: [(&str, fn(&File) -> bool); 12] = [
     ("files on them", |_| true),
+    ("  in directories", |file| file.directory > 0),
     ("  with the mark", File::is_marked),
     ("  with the mark and protected", |file| file.is_marked() && file.status() & 0x08 != 0),
     ("  programs with the mark", |file| file.is_marked() && file.is_program()),
@@ -93,16 +109,16 @@ impl Part for Images {
     }
 
     fn on_outside(&mut self, outside: &Outside, _: &mut Random) -> Result<(), String> {
-        self.by_both(&Image::of_outside(outside))
+        self.by_all(&Image::of_outside(outside))
     }
 
     fn tally(&self) -> &Tally {
         &self.tally
     }
 
-    /// Each image was judged by both rules.
+    /// Each image was judged by every layout.
     fn total(&self) -> u64 {
-        self.tally.total() / 2
+        self.tally.total() / Layout::ALL.len() as u64
     }
 
     fn report(&self) -> Result<(), String> {
@@ -114,7 +130,7 @@ impl Part for Images {
 impl Images {
     fn batch(&mut self, batch: &Batch) -> Result<(), String> {
         let mut buffer = std::mem::take(&mut self.buffer);
-        batch.each_image(&mut buffer, |image| self.by_both(image))?;
+        batch.each_image(&mut buffer, |image| self.by_all(image))?;
         self.buffer = buffer;
         if batch.number == 0 {
             self.count(&batch.disk);
@@ -131,8 +147,8 @@ impl Images {
         }
     }
 
-    fn by_both(&mut self, image: &Image) -> Result<(), String> {
-        Layout::BOTH.into_iter().try_for_each(|layout| self.image(image, layout))
+    fn by_all(&mut self, image: &Image) -> Result<(), String> {
+        Layout::ALL.into_iter().try_for_each(|layout| self.image(image, layout))
     }
 
     fn image(&mut self, image: &Image, layout: Layout) -> Result<(), String> {
@@ -184,9 +200,26 @@ impl Given {
 
 /// Whether the reference finds the files of a sound disk as they were planned.
 fn reads_back(disk: &Disk) -> Option<()> {
-    let volume = reference::judge(&disk.image, Layout::MARKS).ok()?;
-    let mut found = volume.files();
-    for file in &disk.files {
+    let volume = reference::judge(&disk.image, disk.layout()).ok()?;
+    let directories = (1..).zip(disk.directories).all(|(number, directory)| {
+        let found = volume.directory(number).map(Directory::sector);
+        found == directory.map(|directory| directory.index)
+    });
+    let names = volume.entries().map(|entry| *entry.name());
+    let planned = disk.directories.map(|directory| directory.map_or([0; 10], |own| own.name));
+    let named = !disk.has_directories() || names.eq(planned);
+    (directories && named).then_some(())?;
+    disk.numbers().into_iter().try_for_each(|number| {
+        let found = volume.directory(number)?.files();
+        are_planned(found, disk.files_in(number))
+    })
+}
+
+fn are_planned<'disk>(
+    mut found: impl Iterator<Item = (usize, Descriptor<'disk>)>,
+    planned: impl Iterator<Item = &'disk File>,
+) -> Option<()> {
+    for file in planned {
         let (number, descriptor) = found.next()?;
         let same = number == file.descriptor
             && *descriptor.name() == file.name()

@@ -4,12 +4,13 @@
 //!
 //! `inputs SEED FOLDER [IMAGE...]`
 
+use host::directories::of_any_shape;
 use host::layout::Layout;
 use host::random::Random;
 use host::reference::catalogue;
 use host::suites::Batch;
 use host::table::lines;
-use host::volumes::{Disk, Order, Shape, MOST_FILES, MOST_SECTORS, SECTOR_BYTES};
+use host::volumes::{Disk, File, Order, Shape, MOST_FILES, MOST_SECTORS, SECTOR_BYTES};
 use std::path::{Path, PathBuf};
 use std::process::ExitCode;
 
@@ -79,7 +80,8 @@ fn inputs(seed: u64) -> Result<Vec<Input>, String> {
     let random = &mut Random::new(seed);
     let mut inputs = Vec::new();
     for (name, disk) in sound_disks(random) {
-        if Layout::BOTH.into_iter().any(|by| catalogue(&disk.image, by) != printed(&disk, by)) {
+        let is_other = |by| catalogue(&disk.image, by) != printed(&disk, by);
+        if Layout::OLD.of_edition().into_iter().any(is_other) {
             return Err(format!("{}: the reference prints other lines than were planned", name));
         }
         inputs.push(Input { name, bytes: disk.image });
@@ -89,17 +91,20 @@ fn inputs(seed: u64) -> Result<Vec<Input>, String> {
     Ok(inputs)
 }
 
-/// What a program prints for a disk that is sound by the new rule.
+/// What a program prints for a disk that is sound by the new rule. By the first edition, which both
+/// go by, nobody holds what directories hold.
 fn printed(disk: &Disk, layout: Layout) -> String {
-    match (disk.sectors <= MOST_TAKEN, layout.marks || !disk.is_marked()) {
+    let is_marked = disk.files_in(0).any(File::is_marked);
+    match (disk.sectors <= MOST_TAKEN, layout.marks || !is_marked) {
         (false, _) => "REFUSED 1\n".to_string(),
         (true, false) => "REFUSED 4\n".to_string(),
-        (true, true) => lines(disk, layout),
+        (true, true) if disk.has_directories() => "REFUSED 6\n".to_string(),
+        (true, true) => lines(disk, layout, 0),
     }
 }
 
 /// Disks of the greatest length that is taken, of the next one, and of other sizes, some with
-/// marks.
+/// directories, some with marks.
 fn sound_disks(random: &mut Random) -> Vec<(String, Disk)> {
     let mut disks = Vec::new();
     let mut add = |name: &str, shape: Shape, random: &mut Random| {
@@ -111,7 +116,12 @@ fn sound_disks(random: &mut Random) -> Vec<(String, Disk)> {
     add("65792-sound-but-too-long", Shape::full(MOST_TAKEN + 1, 5, 20, order), random);
     add("longest-volume", Shape::full(MOST_SECTORS, MOST_FILES, 8, order), random);
     for sectors in [3, 4, 8, 34, 35, 64, 90, 100, 150, 180, 200, 240, MOST_TAKEN - 1, MOST_TAKEN] {
-        add(&format!("sound-{}-sectors", sectors), Shape::any(sectors, random), random);
+        let shape = Shape::any(sectors, MOST_FILES, random);
+        add(&format!("sound-{}-sectors", sectors), shape, random);
+    }
+    for sectors in [3, 35, 64, 200, MOST_TAKEN, MOST_TAKEN + 1] {
+        let disk = of_any_shape(sectors, true, random);
+        disks.push((format!("directories-{}-sectors", sectors), disk));
     }
     let add_marked = |(name, disk): &(String, Disk)| {
         let mut disk = disk.clone();
@@ -140,7 +150,8 @@ fn unsound(random: &mut Random) -> Result<Vec<Input>, String> {
         let batch = Batch::of_any_shape(MOST_TAKEN, CHANGES, random);
         batch.each_image(&mut buffer, |image| {
             let wanted = 2 + inputs.len() as u32;
-            let is_wanted = Layout::BOTH.map(|layout| image.number(layout)) == [Some(wanted); 2];
+            let rules = Layout::OLD.of_edition();
+            let is_wanted = rules.map(|layout| image.number(layout)) == [Some(wanted); 2];
             if is_wanted && image.bytes.len() == SECTOR_BYTES * MOST_TAKEN {
                 inputs.push(Input::new(&format!("65536-number-{}", wanted), image.bytes));
             }

@@ -2,14 +2,14 @@
 //! volumes with more sectors free than it takes, with just as many, and with one less; then it is
 //! looked at and loaded. Library, reference and plan must agree on every call, and what they agree
 //! on must be what the paper's formulas say, which stand here once more. All of it is done by each
-//! rule.
+//! layout, by the second edition in a directory too.
 
 use crate::layout::Layout;
 use crate::random::Random;
 use crate::suites::Image;
 use crate::table::{self, Arguments, Call, Given, Written};
 use crate::table::{ENTRY, FREE_COUNT, LOAD, NONE, STORE};
-use crate::volumes::{Disk, File, Name, Run, HEADER_BYTES};
+use crate::volumes::{Directory, Disk, File, Name, Run, HEADER_BYTES};
 use std::ops::RangeInclusive;
 
 const LENGTHS: [RangeInclusive<usize>; 2] = [0..=1100, 32_500..=32_768];
@@ -24,7 +24,7 @@ const OTHER: &Name = b"OTHER     ";
 pub fn compared(seed: u64) -> Result<u64, String> {
     println!("lengths of programs, seed {}", seed);
     let mut lengths = Lengths::new(seed);
-    for layout in Layout::BOTH {
+    for layout in Layout::ALL {
         lengths.layout = layout;
         for length in LENGTHS.into_iter().flatten() {
             lengths.length(length).map_err(|wrong| told(length, &wrong, seed))?;
@@ -33,7 +33,7 @@ pub fn compared(seed: u64) -> Result<u64, String> {
     }
     let Lengths { calls, lengths, loaded, few_sectors, few_bytes, too_long, .. } = lengths;
     println!(
-        "{:>8} lengths, from 0 to 1,100 and from 32,500 to 32,768 bytes by each rule",
+        "{:>8} lengths, from 0 to 1,100 and from 32,500 to 32,768 bytes by each layout",
         lengths
     );
     println!("{:>8} programs stored, looked at and loaded", loaded);
@@ -52,6 +52,8 @@ fn told(length: usize, wrong: &str, seed: u64) -> String {
 struct Lengths {
     random: Random,
     layout: Layout,
+    /// In which the program is stored.
+    directory: usize,
     calls: u64,
     lengths: u64,
     loaded: u64,
@@ -62,10 +64,20 @@ struct Lengths {
 
 impl Lengths {
     fn new(seed: u64) -> Self {
-        let (random, layout) = (Random::new(seed), Layout::OLD);
+        let (random, layout, directory) = (Random::new(seed), Layout::OLD, 0);
         let (calls, lengths, loaded) = (0, 0, 0);
         let (few_sectors, few_bytes, too_long) = (0, 0, 0);
-        Lengths { random, layout, calls, lengths, loaded, few_sectors, few_bytes, too_long }
+        Lengths {
+            random,
+            layout,
+            directory,
+            calls,
+            lengths,
+            loaded,
+            few_sectors,
+            few_bytes,
+            too_long,
+        }
     }
 
     fn length(&mut self, length: usize) -> Result<(), String> {
@@ -74,6 +86,9 @@ impl Lengths {
         let takes = 1 + sectors;
         let bytes = self.random.bytes(length);
         let spare = self.random.within(1..=MOST_OTHERS);
+        if self.layout.directories {
+            self.directory = self.random.pick(&[0, 1, 3]);
+        }
         for free in [takes, takes + spare] {
             let before = self.volume_with(free);
             let (_, disk) = self.call(&STORE, &to_store(&bytes), &before, 0)?;
@@ -92,7 +107,8 @@ impl Lengths {
 
     /// "byte 16 is L mod 256", and the length is read from it and c.
     fn entry(&mut self, disk: &Disk, bytes: &[u8], sectors: usize) -> Result<(), String> {
-        let at = disk.files.iter().position(|file| file.name() == *PROGRAM).unwrap_or(usize::MAX);
+        let mut listed = disk.files_in(self.directory);
+        let at = listed.position(|file| file.name() == *PROGRAM).unwrap_or(usize::MAX);
         let asked = Arguments { at, room: HEADER_BYTES, ..NONE };
         let (entry, _) = self.call(&ENTRY, &asked, disk, 0)?;
         let status = if self.layout.marks { 0x11 } else { 0x01 };
@@ -138,7 +154,9 @@ impl Lengths {
         number: u32,
     ) -> Result<(Written, Option<Disk>), String> {
         let image = Image::as_planned("a volume for a program", disk);
-        let arguments = arguments.clone().by(self.layout, &mut self.random);
+        let directory = if call.in_directory { self.directory } else { 0 };
+        let arguments = Arguments { directory, ..arguments.clone() };
+        let arguments = arguments.by(self.layout, &mut self.random);
         let case = table::compared(call, &arguments, &image, &mut self.random)?;
         self.calls += 1;
         must_be(call.title, case.number as usize, number as usize)?;
@@ -146,15 +164,25 @@ impl Lengths {
     }
 
     /// A volume on which so many sectors are free, all before or all behind those of another file,
-    /// which may have the mark where there are marks.
+    /// which may have the mark where there are marks, and lie in a directory where there are any.
     fn volume_with(&mut self, free: usize) -> Disk {
         let random = &mut self.random;
         let held = random.within(1..=MOST_OTHERS);
         let descriptor = random.pick(&[2, 2 + free]);
         let run = Run { start: descriptor + 1, length: held - 1 };
         let runs = if run.length == 0 { vec![] } else { vec![run] };
-        let file = File::new(*OTHER, descriptor, runs, random);
-        let mut disk = Disk::of_files(2 + held + free, vec![file], random);
+        let mut file = File::new(*OTHER, descriptor, runs, random);
+        let sectors = 2 + held + free;
+        let mut disk = if self.layout.directories {
+            // The indexes come behind all else.
+            let [one, three] = [(OTHER, 0), (PROGRAM, 1)]
+                .map(|(name, place)| Directory { name: *name, index: sectors + place });
+            file.directory = random.pick(&[0, 1, 3]);
+            let directories = [Some(one), None, Some(three)];
+            Disk::of_directories(sectors + 2, directories, vec![file], random)
+        } else {
+            Disk::of_files(sectors, vec![file], random)
+        };
         if self.layout.marks {
             disk.mark_by_chance(random);
         }

@@ -4,6 +4,7 @@
 pub mod calls;
 pub mod comparison;
 pub mod damage;
+pub mod directories;
 pub mod frames;
 pub mod images;
 pub mod layout;

@@ -1,6 +1,6 @@
 //! Names that are wrong in every way: each byte at each place of short and long ones, each byte
-//! after a space, each length. Every call that takes a name is asked with all of them, by one rule
-//! or the other. Library, reference and plan must agree on where a name is wrong, and what they
+//! after a space, each length. Every call that takes a name is asked with all of them, by one layout
+//! or another, in the root or in a directory. Library, reference and plan must agree on where a name is wrong, and what they
 //! agree on must be the place at which it was made wrong.
 
 use crate::layout::Layout;
@@ -8,7 +8,7 @@ use crate::random::Random;
 use crate::suites::Image;
 use crate::table::{self, Arguments, Call, Given, CALLS, NONE};
 use crate::tally::{hold, write_row, LEAST};
-use crate::volumes::{is_letter, Disk, File, Name, Run, MARK, SECTOR_BYTES};
+use crate::volumes::{is_letter, Directory, Disk, File, Name, Run, MARK, SECTOR_BYTES};
 use std::collections::BTreeMap;
 
 const LETTERS: &Name = b"ABCDEFGHIJ";
@@ -107,8 +107,8 @@ fn of_length(length: usize) -> [Made; 3] {
 
 struct Names {
     random: Random,
-    /// Without any mark, and with all.
-    disks: [Disk; 2],
+    /// Without any mark, and with all; then the same with directories.
+    disks: [Disk; 4],
     /// The wrong places and how often each came up, by what was asked.
     places: BTreeMap<(&'static str, Option<usize>), u64>,
     calls: u64,
@@ -122,7 +122,8 @@ const BOTH: &str = "rename, both";
 impl Names {
     fn new(seed: u64) -> Self {
         let mut random = Random::new(seed);
-        let disks = [0, MARK].map(|mark| volume(mark, &mut random));
+        let kinds = [(0, false), (MARK, false), (0, true), (MARK, true)];
+        let disks = kinds.map(|(mark, is_second)| volume(mark, is_second, &mut random));
         Names { random, disks, places: BTreeMap::new(), calls: 0 }
     }
 
@@ -154,13 +155,21 @@ impl Names {
         which: Option<usize>,
         wrong: Option<usize>,
     ) -> Result<(), String> {
-        let layout = self.random.pick(&Layout::BOTH);
+        let layout = self.random.pick(&Layout::ALL);
         // By the new rule both will do.
         let marked = layout.marks && self.random.once_in(2);
-        let disk = &self.disks[usize::from(marked)];
+        let disk = &self.disks[usize::from(marked) + 2 * usize::from(layout.directories)];
+        // The name is tested before there is a directory or none.
+        let wrong_directory = wrong.is_some() && self.random.once_in(3);
+        let directory = match layout.directories && call.in_directory {
+            _ if wrong_directory => self.random.pick(&[2, 4, 1 << 32]),
+            true => self.random.pick(&[0, 1, 3]),
+            false => 0,
+        };
         let at = if call.is_judging() { 0 } else { disk.sectors };
         let (name, other, room) = (name.clone(), other.clone(), SECTOR_BYTES);
-        let arguments = Arguments { name, other, at, room, ..NONE }.by(layout, &mut self.random);
+        let arguments = Arguments { directory, name, other, at, room, ..NONE };
+        let arguments = arguments.by(layout, &mut self.random);
         let image = Image::as_planned("a volume for names", disk);
         let case = table::compared(call, &arguments, &image, &mut self.random)?;
         let found = (case.number == 7, case.written.which, case.written.wrong);
@@ -197,14 +206,22 @@ impl Names {
     }
 }
 
-/// A small one with a file of each of the names, every one with a sector and marked or not.
-fn volume(mark: u8, random: &mut Random) -> Disk {
-    let file = |(place, name): (usize, &&Name)| {
-        let runs = vec![Run { start: 6 + place, length: 1 }];
-        let mut file = File::new(**name, 2 + place, runs, random);
+/// A small one with a file of each of the names, every one with a sector and marked or not; by the
+/// second edition in the root and in two directories alike.
+fn volume(mark: u8, is_second: bool, random: &mut Random) -> Disk {
+    let numbers: &[usize] = if is_second { &[0, 1, 3] } else { &[0] };
+    let places = numbers.iter().flat_map(|number| FILES.iter().map(move |name| (*number, **name)));
+    let file = |(place, (directory, name)): (usize, (usize, Name))| {
+        let runs = vec![Run { start: 14 + place, length: 1 }];
+        let mut file = File::new(name, 4 + place, runs, random);
         file.header[12] |= mark;
-        file
+        File { directory, ..file }
     };
-    let files = FILES.iter().enumerate().map(file).collect();
-    Disk::of_files(12, files, random)
+    let files: Vec<File> = places.enumerate().map(file).collect();
+    if !is_second {
+        return Disk::of_files(25, files, random);
+    }
+    let [one, three] =
+        [(LETTERS, 2), (NEW, 3)].map(|(name, index)| Directory { name: *name, index });
+    Disk::of_directories(25, [Some(one), None, Some(three)], files, random)
 }

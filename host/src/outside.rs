@@ -1,5 +1,6 @@
 //! Images that nobody here built, with what is expected of them where that lies beside them.
 
+use crate::damage::editions::of_unplanned;
 use crate::layout::Layout;
 use crate::suites::Numbers;
 use std::path::Path;
@@ -8,7 +9,7 @@ pub struct Outside {
     pub name: String,
     pub image: Vec<u8>,
     /// The lines of the catalogue, or `REFUSED` and the number: `NAME.rows.txt`, and by the new
-    /// rule `NAME.marks.rows.txt`.
+    /// rule `NAME.marks.rows.txt`. By the second edition they are those of the root.
     pub rows: Texts,
     /// What the catalogue programs print: `NAME.program.txt` and `NAME.marks.program.txt`.
     pub programs: Texts,
@@ -16,24 +17,45 @@ pub struct Outside {
     pub numbers: Numbers,
 }
 
-/// What is expected by each rule.
+/// What is expected by each rule, and whether the second edition takes the image as the first does.
 pub struct Texts {
     old: Option<String>,
     new: Option<String>,
+    second: Second,
+}
+
+/// What the second edition makes of what the first carries.
+#[derive(Clone, Copy)]
+enum Second {
+    /// Entries that are all absent, or what is not looked at since number 1 or 2 comes before.
+    Same,
+    /// Entries that break a rule.
+    Refused,
+    NotKnown,
 }
 
 impl Texts {
     /// Those beside an image under these endings.
-    fn beside(path: &Path, [old, new]: [&str; 2]) -> Self {
+    fn beside(path: &Path, image: &[u8], [old, new]: [&str; 2]) -> Self {
         let read = |ending| std::fs::read_to_string(path.with_extension(ending)).ok();
         let old = read(old);
         let new = read(new).or_else(|| old.as_deref().and_then(without_marks));
-        Texts { old, new }
+        // That the first edition finds nothing wrong is all that matters here.
+        let second = match of_unplanned(image, old.as_deref().and_then(number_of_rows)) {
+            Some(3) => Second::Refused,
+            Some(_) => Second::Same,
+            None => Second::NotKnown,
+        };
+        Texts { old, new, second }
     }
 
     pub fn by(&self, layout: Layout) -> Option<&str> {
         let text = if layout.marks { &self.new } else { &self.old };
-        text.as_deref()
+        match self.second {
+            Second::Refused if layout.directories => Some("REFUSED 3\n"),
+            Second::NotKnown if layout.directories => None,
+            _ => text.as_deref(),
+        }
     }
 }
 
@@ -53,11 +75,11 @@ impl Outside {
         let name = path.file_name().unwrap_or_default().to_string_lossy().into_owned();
         let image =
             std::fs::read(path).map_err(|error| format!("{}: {}", path.display(), error))?;
-        let rows = Texts::beside(path, ["rows.txt", "marks.rows.txt"]);
-        let programs = Texts::beside(path, ["program.txt", "marks.program.txt"]);
+        let rows = Texts::beside(path, &image, ["rows.txt", "marks.rows.txt"]);
+        let programs = Texts::beside(path, &image, ["program.txt", "marks.program.txt"]);
         let told = std::fs::read_to_string(path.with_extension("number.txt")).ok();
         let numbers = match told.map(|number| number.trim().parse()) {
-            Some(Ok(number)) => Numbers::by_old(Some(number)),
+            Some(Ok(number)) => Numbers::by_old(Some(number), &image),
             Some(Err(error)) => return Err(format!("number of {}: {}", name, error)),
             None => Numbers::each(|layout| number_of_rows(rows.by(layout)?)),
         };

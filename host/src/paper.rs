@@ -11,6 +11,17 @@ pub(crate) const CASE_M_UNMARKED: &str =
 pub(crate) const CASE_M_MARKED: &str =
     "SHELF 64 57\nALPHA PROGRAM 300 2 U M\nNOTES DIS/VAR 80 1 U M\n";
 
+/// Puts two directories on case M's volume, GAMES at the first entry and TEXTS at the third: their
+/// indexes, which list nothing, are sectors 4 and 6.
+pub(crate) fn put_directories(image: &mut [u8]) {
+    image[20..32].copy_from_slice(b"GAMES     \x00\x04");
+    image[44..56].copy_from_slice(b"TEXTS     \x00\x06");
+    for index in [4, 6] {
+        image[56] |= 1 << index;
+        image[SECTOR_BYTES * index..][..SECTOR_BYTES].fill(0);
+    }
+}
+
 /// Fails where a case is not shown.
 pub(crate) fn all_shown(cases: &[(&str, bool)]) -> Result<(), String> {
     match cases.iter().find(|(_, is_shown)| !is_shown) {

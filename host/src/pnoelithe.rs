@@ -23,7 +23,7 @@ pub const SECTORS_LEAST: usize = 3;
 pub const SECTORS_MOST: usize = 1600;
 /// The most bytes of a volume's image.
 pub const IMAGE_MOST: usize = 409_600;
-/// The most files of a volume.
+/// The most files of the root or of a directory.
 pub const FILES_MOST: usize = 127;
 /// Room for every listing, by any layout.
 pub const LISTING_MOST: usize = 4466;
@@ -32,23 +32,33 @@ pub const PROGRAM_MOST: usize = 32_768;
 /// The most bytes that a load gives: 1,597 full sectors.
 pub const LOADED_MOST: usize = 408_832;
 
-/// By which rules a call reads an image. By the default there is no backup mark.
+/// By which rules a call reads an image. By the default there is neither backup mark nor directory.
 #[derive(Clone, Copy, Debug, Default, PartialEq, Eq)]
 pub struct Layout {
     /// Whether status bit 10 hex is the backup mark: allowed, set by the calls that make or change
     /// a file, and shown in listings. Else an image on which a file has that bit is refused.
     pub marks: bool,
+    /// Whether sector 0 has entries of directories, by the second edition. Else there is the root
+    /// alone, and an image with a directory is refused.
+    ///
+    /// A call on a file, an entry of the catalogue and a listing take the number of a directory: 0
+    /// is the root, 1 to 3 are the entries. What there is no entry for gives `Refusal::NotFound`.
+    pub directories: bool,
 }
 
 impl Layout {
-    /// The old rule: no file has a mark.
-    pub const OLD: Layout = Layout { marks: false };
-    /// The new rule: any file may have one.
-    pub const MARKS: Layout = Layout { marks: true };
+    /// The old rule, by which no file has a mark, and the first edition.
+    pub const OLD: Layout = Layout { marks: false, directories: false };
+    /// The new rule, by which any file may have one, and the first edition.
+    pub const MARKS: Layout = Layout { marks: true, directories: false };
+    /// The old rule and the second edition.
+    pub const DIRECTORIES: Layout = Layout { marks: false, directories: true };
+    /// The new rule and the second edition.
+    pub const MARKS_AND_DIRECTORIES: Layout = Layout { marks: true, directories: true };
 
     /// As it crosses: the constants of `enum pno_layout`, joined.
     fn bits(self) -> u32 {
-        u32::from(self.marks)
+        u32::from(self.marks) | u32::from(self.directories) << 1
     }
 }
 
@@ -124,12 +134,12 @@ impl Display for Refusal {
         out.write_str(match self {
             Refusal::Length => "the image's length is not that of a volume",
             Refusal::Label => "sector 0 is no label",
-            Refusal::Index => "sector 1 is no list of files",
+            Refusal::Index => "a directory is no list of files",
             Refusal::Descriptor => "a file's descriptor breaks a rule",
             Refusal::TwoHolders => "a sector has two holders",
             Refusal::Map => "the map is not that of the files",
             Refusal::Name { .. } => "a name breaks its rule",
-            Refusal::NotFound => "there is no such file",
+            Refusal::NotFound => "there is no such file or directory",
             Refusal::Present => "there is a file of that name already",
             Refusal::Protected => "the file is protected",
             Refusal::Kind => "the file is of another kind",
@@ -194,13 +204,15 @@ fn named(call: impl FnOnce(&mut usize) -> u32) -> Result<(), Refusal> {
 
 /// A call that changes an image and is asked with the name of a file alone.
 fn on_file(
-    call: unsafe extern "C" fn(*mut u8, usize, u32, *const u8, usize, *mut usize) -> u32,
+    call: unsafe extern "C" fn(*mut u8, usize, u32, usize, *const u8, usize, *mut usize) -> u32,
     image: &mut [u8],
     layout: Layout,
+    directory: usize,
     name: &[u8],
 ) -> Result<(), Refusal> {
+    let (layout, image_len, name_len) = (layout.bits(), image.len(), name.len());
     named(|wrong| unsafe {
-        call(image.as_mut_ptr(), image.len(), layout.bits(), name.as_ptr(), name.len(), wrong)
+        call(image.as_mut_ptr(), image_len, layout, directory, name.as_ptr(), name_len, wrong)
     })
 }
 
@@ -333,7 +345,7 @@ pub fn free_count(image: &[u8], layout: Layout) -> Result<usize, Refusal> {
     Ok(free_sectors)
 }
 
-/// The volume's name, and its numbers of sectors, files and free sectors.
+/// The volume's name, and its numbers of sectors, of files in all directories and of free sectors.
 pub fn summary(image: &[u8], layout: Layout) -> Result<Summary, Refusal> {
     let mut summary = Summary { disk_name: [0; NAME_BYTES], sectors: 0, files: 0, free_sectors: 0 };
     done(unsafe {
@@ -350,11 +362,12 @@ pub fn summary(image: &[u8], layout: Layout) -> Result<Summary, Refusal> {
     Ok(summary)
 }
 
-/// The file at a place of the catalogue, counted from 0; the first 28 bytes of its descriptor go to
-/// the front of `header`. By `Layout::MARKS` bit 10 hex of byte 12 there is the file's mark.
+/// The file at a place of a directory's catalogue, counted from 0; the first 28 bytes of its
+/// descriptor go to the front of `header`. With marks bit 10 hex of byte 12 there is the file's.
 pub fn entry(
     image: &[u8],
     layout: Layout,
+    directory: usize,
     place: usize,
     header: &mut [u8],
 ) -> Result<Entry, Refusal> {
@@ -364,6 +377,7 @@ pub fn entry(
             image.as_ptr(),
             image.len(),
             layout.bits(),
+            directory,
             place,
             header.as_mut_ptr(),
             header.len(),
@@ -381,6 +395,7 @@ pub fn entry(
 pub fn read<'out>(
     image: &[u8],
     layout: Layout,
+    directory: usize,
     name: &[u8],
     offset: usize,
     out: &'out mut [u8],
@@ -390,6 +405,7 @@ pub fn read<'out>(
             image.as_ptr(),
             image.len(),
             layout.bits(),
+            directory,
             name.as_ptr(),
             name.len(),
             offset,
@@ -405,6 +421,7 @@ pub fn read<'out>(
 pub fn load<'out>(
     image: &[u8],
     layout: Layout,
+    directory: usize,
     name: &[u8],
     out: &'out mut [u8],
 ) -> Result<&'out [u8], Refusal> {
@@ -414,6 +431,7 @@ pub fn load<'out>(
             image.as_ptr(),
             image.len(),
             layout.bits(),
+            directory,
             name.as_ptr(),
             name.len(),
             out.as_mut_ptr(),
@@ -425,12 +443,13 @@ pub fn load<'out>(
     Ok(&out[..length])
 }
 
-/// Writes the catalogue into the front of `out`, for which `LISTING_MOST` are always enough; the
-/// text is given back. By `Layout::MARKS` a file's line ends in M where it has the mark, else in a
-/// hyphen.
+/// Writes the catalogue of a directory into the front of `out`, for which `LISTING_MOST` are always
+/// enough; the text is given back. With marks a file's line ends in M where it has the mark, else in
+/// a hyphen.
 pub fn listing<'out>(
     image: &[u8],
     layout: Layout,
+    directory: usize,
     out: &'out mut [u8],
 ) -> Result<&'out str, Refusal> {
     let mut length = 0;
@@ -439,6 +458,7 @@ pub fn listing<'out>(
             image.as_ptr(),
             image.len(),
             layout.bits(),
+            directory,
             out.as_mut_ptr(),
             out.len(),
             &mut length,
@@ -448,15 +468,16 @@ pub fn listing<'out>(
 }
 
 /// The same text, with no buffer to lend.
-pub fn catalogue(image: &[u8], layout: Layout) -> Result<String, Refusal> {
+pub fn catalogue(image: &[u8], layout: Layout, directory: usize) -> Result<String, Refusal> {
     let mut out = [0; LISTING_MOST];
-    listing(image, layout, &mut out).map(str::to_string)
+    listing(image, layout, directory, &mut out).map(str::to_string)
 }
 
 /// Creates a data file without sectors. The status is one of 00, 02, 80 and 82 hex by any layout.
 pub fn create(
     image: &mut [u8],
     layout: Layout,
+    directory: usize,
     name: &[u8],
     status: u8,
     record_length: u8,
@@ -467,6 +488,7 @@ pub fn create(
             image.as_mut_ptr(),
             image.len(),
             layout.bits(),
+            directory,
             name.as_ptr(),
             name.len(),
             status,
@@ -478,12 +500,19 @@ pub fn create(
 }
 
 /// Appends a sector of 256 bytes to a data file.
-pub fn append(image: &mut [u8], layout: Layout, name: &[u8], data: &[u8]) -> Result<(), Refusal> {
+pub fn append(
+    image: &mut [u8],
+    layout: Layout,
+    directory: usize,
+    name: &[u8],
+    data: &[u8],
+) -> Result<(), Refusal> {
     named(|wrong| unsafe {
         imported::pno_append(
             image.as_mut_ptr(),
             image.len(),
             layout.bits(),
+            directory,
             name.as_ptr(),
             name.len(),
             data.as_ptr(),
@@ -497,6 +526,7 @@ pub fn append(image: &mut [u8], layout: Layout, name: &[u8], data: &[u8]) -> Res
 pub fn overwrite(
     image: &mut [u8],
     layout: Layout,
+    directory: usize,
     name: &[u8],
     offset: usize,
     data: &[u8],
@@ -506,6 +536,7 @@ pub fn overwrite(
             image.as_mut_ptr(),
             image.len(),
             layout.bits(),
+            directory,
             name.as_ptr(),
             name.len(),
             offset,
@@ -518,12 +549,19 @@ pub fn overwrite(
 
 /// Stores a program of at most 32,768 bytes as a new file; one of no bytes takes no sector but the
 /// descriptor's.
-pub fn store(image: &mut [u8], layout: Layout, name: &[u8], bytes: &[u8]) -> Result<(), Refusal> {
+pub fn store(
+    image: &mut [u8],
+    layout: Layout,
+    directory: usize,
+    name: &[u8],
+    bytes: &[u8],
+) -> Result<(), Refusal> {
     named(|wrong| unsafe {
         imported::pno_store(
             image.as_mut_ptr(),
             image.len(),
             layout.bits(),
+            directory,
             name.as_ptr(),
             name.len(),
             bytes.as_ptr(),
@@ -534,14 +572,20 @@ pub fn store(image: &mut [u8], layout: Layout, name: &[u8], bytes: &[u8]) -> Res
 }
 
 /// Deletes a file.
-pub fn delete(image: &mut [u8], layout: Layout, name: &[u8]) -> Result<(), Refusal> {
-    on_file(imported::pno_delete, image, layout, name)
+pub fn delete(
+    image: &mut [u8],
+    layout: Layout,
+    directory: usize,
+    name: &[u8],
+) -> Result<(), Refusal> {
+    on_file(imported::pno_delete, image, layout, directory, name)
 }
 
 /// Renames a file.
 pub fn rename(
     image: &mut [u8],
     layout: Layout,
+    directory: usize,
     old: &[u8],
     new: &[u8],
 ) -> Result<(), RenameRefusal> {
@@ -551,6 +595,7 @@ pub fn rename(
             image.as_mut_ptr(),
             image.len(),
             layout.bits(),
+            directory,
             old.as_ptr(),
             old.len(),
             new.as_ptr(),
@@ -567,19 +612,34 @@ pub fn rename(
 }
 
 /// Protects a file, which may be protected already.
-pub fn protect(image: &mut [u8], layout: Layout, name: &[u8]) -> Result<(), Refusal> {
-    on_file(imported::pno_protect, image, layout, name)
+pub fn protect(
+    image: &mut [u8],
+    layout: Layout,
+    directory: usize,
+    name: &[u8],
+) -> Result<(), Refusal> {
+    on_file(imported::pno_protect, image, layout, directory, name)
 }
 
 /// Takes the protection of a file away, which may have none.
-pub fn unprotect(image: &mut [u8], layout: Layout, name: &[u8]) -> Result<(), Refusal> {
-    on_file(imported::pno_unprotect, image, layout, name)
+pub fn unprotect(
+    image: &mut [u8],
+    layout: Layout,
+    directory: usize,
+    name: &[u8],
+) -> Result<(), Refusal> {
+    on_file(imported::pno_unprotect, image, layout, directory, name)
 }
 
 /// Clears the backup mark of a file, which may have none and may be protected. The image is read as
-/// by `Layout::MARKS`, whatever the layout says of marks.
-pub fn clear_mark(image: &mut [u8], layout: Layout, name: &[u8]) -> Result<(), Refusal> {
-    on_file(imported::pno_clear_mark, image, layout, name)
+/// with marks, whatever the layout says of them, and by its edition.
+pub fn clear_mark(
+    image: &mut [u8],
+    layout: Layout,
+    directory: usize,
+    name: &[u8],
+) -> Result<(), Refusal> {
+    on_file(imported::pno_clear_mark, image, layout, directory, name)
 }
 
 /// Packs a volume into a target of the same length, whatever bytes that had.
@@ -630,6 +690,7 @@ pub(crate) mod imported {
             image: *const u8,
             image_len: usize,
             layout: u32,
+            directory: usize,
             place: usize,
             header: *mut u8,
             header_len: usize,
@@ -642,6 +703,7 @@ pub(crate) mod imported {
             image: *const u8,
             image_len: usize,
             layout: u32,
+            directory: usize,
             name: *const u8,
             name_len: usize,
             offset: usize,
@@ -653,6 +715,7 @@ pub(crate) mod imported {
             image: *const u8,
             image_len: usize,
             layout: u32,
+            directory: usize,
             name: *const u8,
             name_len: usize,
             out: *mut u8,
@@ -664,6 +727,7 @@ pub(crate) mod imported {
             image: *const u8,
             image_len: usize,
             layout: u32,
+            directory: usize,
             out: *mut u8,
             out_len: usize,
             length: *mut usize,
@@ -672,6 +736,7 @@ pub(crate) mod imported {
             image: *mut u8,
             image_len: usize,
             layout: u32,
+            directory: usize,
             name: *const u8,
             name_len: usize,
             status: u8,
@@ -683,6 +748,7 @@ pub(crate) mod imported {
             image: *mut u8,
             image_len: usize,
             layout: u32,
+            directory: usize,
             name: *const u8,
             name_len: usize,
             data: *const u8,
@@ -693,6 +759,7 @@ pub(crate) mod imported {
             image: *mut u8,
             image_len: usize,
             layout: u32,
+            directory: usize,
             name: *const u8,
             name_len: usize,
             offset: usize,
@@ -704,6 +771,7 @@ pub(crate) mod imported {
             image: *mut u8,
             image_len: usize,
             layout: u32,
+            directory: usize,
             name: *const u8,
             name_len: usize,
             bytes: *const u8,
@@ -714,6 +782,7 @@ pub(crate) mod imported {
             image: *mut u8,
             image_len: usize,
             layout: u32,
+            directory: usize,
             name: *const u8,
             name_len: usize,
             wrong: *mut usize,
@@ -722,6 +791,7 @@ pub(crate) mod imported {
             image: *mut u8,
             image_len: usize,
             layout: u32,
+            directory: usize,
             name: *const u8,
             name_len: usize,
             wrong: *mut usize,
@@ -730,6 +800,7 @@ pub(crate) mod imported {
             image: *mut u8,
             image_len: usize,
             layout: u32,
+            directory: usize,
             name: *const u8,
             name_len: usize,
             wrong: *mut usize,
@@ -738,6 +809,7 @@ pub(crate) mod imported {
             image: *mut u8,
             image_len: usize,
             layout: u32,
+            directory: usize,
             name: *const u8,
             name_len: usize,
             wrong: *mut usize,
@@ -746,6 +818,7 @@ pub(crate) mod imported {
             image: *mut u8,
             image_len: usize,
             layout: u32,
+            directory: usize,
             old: *const u8,
             old_len: usize,
             new_name: *const u8,

@@ -1,7 +1,8 @@
 //! Document 01 in safe Rust, written from the paper alone and for the reader: what the library is
 //! compared with and measured against. `volume` reads bytes by the paper's places and refuses
 //! nothing; `judge` holds what was read to the rules, in the order of the paper's numbers; `name`
-//! has the rule of names. Which rule of the backup mark holds, every call but formatting is told.
+//! has the rule of names. Which rule of the backup mark holds, and which edition, every call but
+//! formatting is told.
 //! The calls stand on these: an answer is a value, and what it has to fit into comes as a length.
 //! The calls that write take sectors by the rules of `choice` and lay bytes down through a `draft`;
 //! packing lays all of a volume down anew.
@@ -24,5 +25,6 @@ pub use listing::*;
 pub use packing::*;
 pub use reading::*;
 pub use refusal::Refusal;
-pub use volume::{Block, Chain, Descriptor, Form, Index, Kind, Label, Name, Sector, Volume};
+pub use volume::{Block, Chain, Descriptor, Directory, DirectoryEntry, Form, Index, Kind, Label};
+pub use volume::{Name, Sector, Volume};
 pub use writing::*;

@@ -50,10 +50,11 @@ fn is_held(reference: f64) -> bool {
 
 /// What stands in a row's title besides.
 fn by(layout: Layout) -> &'static str {
-    if layout.marks {
-        ", marks"
-    } else {
-        ""
+    match (layout.marks, layout.directories) {
+        (false, false) => "",
+        (true, false) => ", marks",
+        (false, true) => ", directories",
+        (true, true) => ", marks, directories",
     }
 }
 

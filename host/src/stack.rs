@@ -19,8 +19,8 @@ use std::ptr::addr_of_mut;
 
 const SEED: u64 = 1;
 const CALLS: u64 = 200_000;
-const CALLS_IN_SEQUENCES: u64 = 220_000;
-const PACKS: u64 = 8_000;
+const CALLS_IN_SEQUENCES: u64 = 480_000;
+const PACKS: u64 = 14_000;
 /// How often each function must at least have been called.
 const LEAST_CALLS: usize = 1000;
 

@@ -1,62 +1,87 @@
 //! The images of the comparison: disks, each with changes of it. Some suites go through every
 //! value of a field once; the others build disks of every size and take changes by chance.
 
+use crate::damage::editions::{as_built, of_unplanned, root_of};
 use crate::damage::{Change, Damage};
+use crate::directories::{self, deal};
 use crate::layout::Layout;
 use crate::outside::Outside;
 use crate::random::Random;
-use crate::volumes::{is_name, names, Disk, File, Order, Run, Shape, MARK, SECTOR_BYTES};
+use crate::volumes::{are_entries, is_name, names, Directory, Disk, File, Order, Run, Shape};
+use crate::volumes::{ENTRIES, ENTRY_BYTES, MAP, MARK, MOST_DIRECTORIES, SECTOR_BYTES};
 use crate::volumes::{MOST_BLOCKS, MOST_FILES, MOST_SECTORS};
 
-/// A disk, the paper's number for it by the new rule, and changes of it.
+/// A disk, the paper's number for it by the new rule and the edition that it is planned for, that by
+/// the other edition, and changes of it.
 pub struct Batch {
     pub disk: Disk,
     pub number: u32,
+    by_other: Option<u32>,
     pub changes: Vec<Change>,
 }
 
-/// The paper's number for an image by each rule, where it is settled.
+/// The paper's number for an image by each layout, where it is settled.
 #[derive(Clone, Copy, Debug)]
-pub struct Numbers {
-    old: Option<u32>,
-    new: Option<u32>,
-}
+pub struct Numbers([Option<u32>; 4]);
 
 impl Numbers {
     pub fn each(number: impl Fn(Layout) -> Option<u32>) -> Self {
-        Numbers { old: number(Layout::OLD), new: number(Layout::MARKS) }
+        Numbers(Layout::ALL.map(number))
     }
 
-    /// Of an image whose number by the new rule is known. The rules differ in one thing: by the old
-    /// one a mark is a fault of number 4.
-    pub fn by_new(number: Option<u32>, image: &[u8]) -> Self {
-        let old = number.map(|number| match number {
-            0 | 5 | 6 if is_marked(image) => 4,
-            _ => number,
-        });
-        Numbers { old, new: number }
+    /// Of an image that was made of a disk, whose number by the new rule is known by the disk's
+    /// edition and by the other one. The rules differ in one thing: by the old one a mark is a
+    /// fault of number 4.
+    pub fn by_new(disk: &Disk, own: Option<u32>, other: Option<u32>, image: &[u8]) -> Self {
+        Numbers::each(|layout| {
+            let is_own = layout.directories == disk.has_directories();
+            let number = if is_own { own? } else { other? };
+            let is_fault = !layout.marks && matches!(number, 0 | 5 | 6);
+            Some(if is_fault && is_marked(image, layout) { 4 } else { number })
+        })
     }
 
-    /// Of one whose number by the old rule is known: where that is 4, a mark may be why.
-    pub fn by_old(number: Option<u32>) -> Self {
-        Numbers { old: number, new: number.filter(|number| *number != 4) }
+    /// Of one whose number by the old rule and the first edition is known: where that is 4, a mark
+    /// may be why.
+    pub fn by_old(number: Option<u32>, image: &[u8]) -> Self {
+        Numbers::each(|layout| {
+            let number = number.filter(|number| *number != 4 || !layout.marks);
+            if layout.directories {
+                of_unplanned(image, number)
+            } else {
+                number
+            }
+        })
+    }
+
+    /// Of a disk that is sound by its edition and the new rule.
+    pub fn of_sound(disk: &Disk) -> Self {
+        Numbers::by_new(disk, Some(0), as_built(disk), &disk.image)
+    }
+
+    /// Whether both editions find it sound, with marks.
+    pub fn is_by_both(self) -> bool {
+        [Layout::MARKS, Layout::MARKS_AND_DIRECTORIES].map(|by| self.by(by)) == [Some(0); 2]
     }
 
     pub fn by(self, layout: Layout) -> Option<u32> {
-        if layout.marks {
-            self.new
-        } else {
-            self.old
-        }
+        let place = Layout::ALL.iter().position(|other| *other == layout)?;
+        self.0[place]
     }
 }
 
-/// Whether a file has the mark, of those that sector 1 lists; each of them has a descriptor.
-fn is_marked(image: &[u8]) -> bool {
-    let numbers = image[SECTOR_BYTES..2 * SECTOR_BYTES].chunks(2);
-    let numbers = numbers.map(|pair| usize::from(pair[0]) * 256 + usize::from(pair[1]));
-    let mut listed = numbers.take_while(|number| *number > 0);
-    listed.any(|number| image[SECTOR_BYTES * number + 12] & MARK != 0)
+/// Whether a file has the mark, of those that an index lists; each of them has a descriptor.
+fn is_marked(image: &[u8], layout: Layout) -> bool {
+    let word = |at: usize| usize::from(image[at]) * 256 + usize::from(image[at + 1]);
+    let entries = if layout.directories { ENTRIES..MAP } else { 0..0 };
+    // An entry that is absent has 0 there.
+    let indexes = entries.step_by(ENTRY_BYTES).map(|entry| word(entry + 10));
+    let mut indexes = indexes.filter(|index| *index > 0).chain([1]);
+    indexes.any(|index| {
+        let numbers = (0..SECTOR_BYTES).step_by(2).map(|at| word(SECTOR_BYTES * index + at));
+        let mut listed = numbers.take_while(|number| *number > 0);
+        listed.any(|number| image[SECTOR_BYTES * number + 12] & MARK != 0)
+    })
 }
 
 /// One image of a batch.
@@ -65,22 +90,21 @@ pub struct Image<'batch> {
     pub what: &'batch str,
     pub bytes: &'batch [u8],
     pub numbers: Numbers,
-    /// The disk, where it is sound by the new rule and the image is as planned.
+    /// The disk, where it is sound by its edition and the new rule, and the image is as planned.
     pub planned: Option<&'batch Disk>,
 }
 
 impl<'batch> Image<'batch> {
     /// A disk as it was built.
     pub fn as_planned(what: &'batch str, disk: &'batch Disk) -> Self {
-        let (bytes, planned) = (&disk.image, Some(disk));
-        Image { what, bytes, numbers: Numbers::by_new(Some(0), bytes), planned }
+        Image { what, bytes: &disk.image, numbers: Numbers::of_sound(disk), planned: Some(disk) }
     }
 
     pub fn number(&self, layout: Layout) -> Option<u32> {
         self.numbers.by(layout)
     }
 
-    /// The disk, where it is sound by the rule.
+    /// The disk, where it is sound by the layout.
     pub fn planned(&self, layout: Layout) -> Option<&'batch Disk> {
         self.planned.filter(|_| self.number(layout) == Some(0))
     }
@@ -113,14 +137,14 @@ impl Batch {
         buffer[..image.len()].copy_from_slice(image);
         let planned = (self.number == 0).then_some(&self.disk);
         let bytes = &buffer[..image.len()];
-        let numbers = Numbers::by_new(Some(self.number), bytes);
+        let numbers = Numbers::by_new(&self.disk, Some(self.number), self.by_other, bytes);
         each(&Image { what: "disk as built", bytes, numbers, planned })?;
         for change in &self.changes {
             for edit in &change.edits {
                 buffer[edit.at..][..edit.bytes.len()].copy_from_slice(&edit.bytes);
             }
             let bytes = &buffer[..change.length];
-            let numbers = Numbers::by_new(change.number, bytes);
+            let numbers = Numbers::by_new(&self.disk, change.number, change.by_other, bytes);
             each(&Image { what: change.what, bytes, numbers, planned: None })?;
             for edit in &change.edits {
                 let bytes = edit.at..edit.at + edit.bytes.len();
@@ -134,13 +158,19 @@ impl Batch {
         let mut collected = Damage::new(&disk);
         damage(&mut collected);
         let changes = collected.changes;
-        Batch { disk, number: 0, changes }
+        Batch { changes, ..Batch::sound(disk) }
+    }
+
+    fn sound(disk: Disk) -> Self {
+        Batch { number: 0, by_other: as_built(&disk), disk, changes: Vec::new() }
     }
 
     /// A sound disk of any shape, with so many changes out of all sorts of them. As with the other
-    /// disks here, some have files with the mark.
+    /// disks here, some have files with the mark, and some have directories.
     pub fn of_any_shape(sectors: usize, changes: usize, random: &mut Random) -> Self {
-        let disk = marked_or_not(Shape::any(sectors, random).build(random), random);
+        let is_second = random.once_in(2);
+        let disk = directories::of_any_shape(sectors, is_second, random);
+        let disk = marked_or_not(disk, random);
         let mut batch = Batch::of_sound(disk, |damage| damage.of_every_sort(random));
         random.shuffle(&mut batch.changes);
         batch.changes.truncate(changes);
@@ -151,8 +181,11 @@ impl Batch {
     pub fn of_long_files(random: &mut Random) -> Self {
         let sectors = random.within(MOST_SECTORS / 2..=MOST_SECTORS);
         let files = random.within(1..=3);
-        let disk = Shape::full(sectors, files, MOST_BLOCKS, Order::Shuffled).build(random);
-        Batch { disk: marked_or_not(disk, random), number: 0, changes: Vec::new() }
+        let is_second = random.once_in(2);
+        let disk = directories::planned(sectors, is_second, random, |sectors, _, random| {
+            Shape::full(sectors, files, MOST_BLOCKS, Order::Shuffled).build(random)
+        });
+        Batch::sound(marked_or_not(disk, random))
     }
 
     /// A small disk whose files lie anywhere, over one another and past the end.
@@ -160,6 +193,9 @@ impl Batch {
         let sectors = random.within(3..=40);
         let mut room: Vec<usize> = (2..sectors).collect();
         random.shuffle(&mut room);
+        let is_second = random.once_in(2);
+        let directories =
+            if is_second { any_directories(&mut room, random) } else { [None; MOST_DIRECTORIES] };
         room.truncate(random.below(5));
         let names = names(room.len(), random);
         let files = names.into_iter().zip(room).map(|(name, descriptor)| {
@@ -176,7 +212,12 @@ impl Batch {
             }
             file
         });
-        Batch::of_plan(sectors, files.collect(), random)
+        let mut files: Vec<File> = files.collect();
+        if !is_second {
+            return Batch::of_plan(sectors, files, random);
+        }
+        deal(&mut files, &listing(&directories), random);
+        Batch::of_planned(Disk::of_directories(sectors, directories, files, random), random)
     }
 
     /// One file of one block, which may lie anywhere and reach past everything.
@@ -197,9 +238,47 @@ impl Batch {
     }
 
     fn of_plan(sectors: usize, files: Vec<File>, random: &mut Random) -> Self {
-        let disk = marked_or_not(Disk::of_files(sectors, files, random), random);
-        Batch { number: number_of_plan(&disk), disk, changes: Vec::new() }
+        Batch::of_planned(Disk::of_files(sectors, files, random), random)
     }
+
+    fn of_planned(disk: Disk, random: &mut Random) -> Self {
+        let disk = marked_or_not(disk, random);
+        let number = number_of_plan(&disk);
+        let by_other = if disk.has_directories() {
+            Some(number_of_root(&disk))
+        } else {
+            of_unplanned(&disk.image, Some(number))
+        };
+        Batch { number, by_other, disk, changes: Vec::new() }
+    }
+}
+
+/// Directories whose indexes are taken from the room; now and then two have one index.
+fn any_directories(
+    room: &mut Vec<usize>,
+    random: &mut Random,
+) -> [Option<Directory>; MOST_DIRECTORIES] {
+    let mut named = names(MOST_DIRECTORIES, random);
+    random.shuffle(&mut named);
+    let mut last = None;
+    let mut directory = |name| {
+        let again = last.filter(|_| random.once_in(6));
+        let index = if random.once_in(2) { None } else { again.or_else(|| room.pop()) }?;
+        last = Some(index);
+        Some(Directory { name, index })
+    };
+    [directory(named[0]), directory(named[1]), directory(named[2])]
+}
+
+/// The directories that get files: of those with one index the last, which is laid down last.
+fn listing(directories: &[Option<Directory>; MOST_DIRECTORIES]) -> Vec<usize> {
+    let index = |place: usize| directories.get(place).copied().flatten().map(|own| own.index);
+    let is_last = |place: &usize| {
+        let own = index(*place);
+        own.is_some() && (place + 1..MOST_DIRECTORIES).all(|later| index(later) != own)
+    };
+    let last = (0..MOST_DIRECTORIES).filter(is_last).map(|place| place + 1);
+    std::iter::once(0).chain(last).collect()
 }
 
 /// Half of the disks have no mark for certain: they are sound by both rules.
@@ -221,8 +300,17 @@ fn any_runs(sectors: usize, random: &mut Random) -> Vec<Run> {
     runs
 }
 
-/// The paper's number by the new rule for a disk written as planned, whose names and map are
-/// therefore right.
+/// The paper's number by the first edition for a disk with directories that is written as planned.
+fn number_of_root(disk: &Disk) -> u32 {
+    let root = root_of(disk);
+    match number_of_plan(&root) {
+        0 if root.map() != disk.map() => 6,
+        number => number,
+    }
+}
+
+/// The paper's number by the new rule and the disk's edition for a disk written as planned, whose
+/// entries, names and map are therefore right.
 fn number_of_plan(disk: &Disk) -> u32 {
     let sound = |file: &File| {
         let placed =
@@ -245,6 +333,7 @@ pub fn of_every_value(random: &mut Random) -> Vec<Batch> {
     let mut batches = every_map_bit(random);
     batches.push(every_length(random));
     batches.push(every_label_byte(random));
+    batches.push(every_entry_byte(random));
     batches.extend(every_descriptor_byte(random));
     batches.extend(every_index_bit(random));
     batches
@@ -252,24 +341,38 @@ pub fn of_every_value(random: &mut Random) -> Vec<Batch> {
 
 /// One file in the middle of a small disk, with so many sectors in one block or none.
 fn one_file(status: u8, count: usize, random: &mut Random) -> Disk {
+    Disk::of_files(35, vec![planned_file(status, count, random)], random)
+}
+
+fn planned_file(status: u8, count: usize, random: &mut Random) -> File {
     let run = Run { start: 20, length: count };
     let runs = if count == 0 { vec![] } else { vec![run] };
     let mut file = File::new(names(1, random)[0], 10, runs, random);
     file.set_status(status);
-    Disk::of_files(35, vec![file], random)
+    file
+}
+
+/// The same in a directory, beside one that is empty and an entry that is absent.
+fn one_file_in_directory(status: u8, count: usize, random: &mut Random) -> Disk {
+    let mut file = planned_file(status, count, random);
+    file.directory = 3;
+    let named = names(2, random);
+    let [empty, own] =
+        [(0, 30), (1, 7)].map(|(name, index)| Directory { name: named[name], index });
+    Disk::of_directories(35, [Some(empty), None, Some(own)], vec![file], random)
 }
 
 fn every_map_bit(random: &mut Random) -> Vec<Batch> {
     let sizes = [3, 4, 7, 8, 9, 15, 16, 17, 35, 360, 721, 1440, 1592, 1599, MOST_SECTORS];
-    let batch = |sectors| {
-        let disk = Shape::any(sectors, random).build(random);
+    let mut batch = |(place, sectors)| {
+        let disk = directories::of_any_shape(sectors, place % 2 == 0, random);
         Batch::of_sound(disk, |damage| (0..MOST_SECTORS).for_each(|bit| damage.map_bit(bit)))
     };
-    sizes.into_iter().map(batch).collect()
+    sizes.into_iter().enumerate().map(&mut batch).collect()
 }
 
 fn every_length(random: &mut Random) -> Batch {
-    let disk = Shape::any(5, random).build(random);
+    let disk = Shape::any(5, MOST_FILES, random).build(random);
     let near_sectors =
         (1..=MOST_SECTORS + 1).flat_map(|n| SECTOR_BYTES * n - 1..=SECTOR_BYTES * n + 1);
     Batch::of_sound(disk, |damage| {
@@ -278,13 +381,29 @@ fn every_length(random: &mut Random) -> Batch {
 }
 
 fn every_label_byte(random: &mut Random) -> Batch {
-    let disk = Shape::any(35, random).build(random);
+    let disk = Shape::any(35, MOST_FILES, random).build(random);
     Batch::of_sound(disk, |damage| {
-        for byte in 0..56 {
+        for byte in 0..MAP {
             damage.every_value(byte, |label| match byte {
                 0..=9 if is_name(&label[..10].try_into().expect("ten bytes")) => Some(0),
                 0..=11 | 13..=15 => Some(2),
                 _ => Some(0),
+            });
+        }
+    })
+}
+
+/// Of the entries of directories, of which one is absent. Another sector for an index may hold
+/// anything.
+fn every_entry_byte(random: &mut Random) -> Batch {
+    let disk = one_file_in_directory(0x00, 2, random);
+    let sectors = disk.sectors;
+    Batch::of_sound(disk, |damage| {
+        for byte in ENTRIES..MAP {
+            damage.every_value(byte, |label| match are_entries(&label[ENTRIES..MAP], sectors) {
+                false => Some(3),
+                true if (byte - ENTRIES) % ENTRY_BYTES < 10 => Some(0),
+                true => None,
             });
         }
     })
@@ -304,6 +423,8 @@ fn every_descriptor_byte(random: &mut Random) -> Vec<Batch> {
         one_file(0x11, 0, random),
         one_file(0x98, 2, random),
         filled.build(random),
+        one_file_in_directory(0x01, 0, random),
+        one_file_in_directory(0x92, 3, random),
     ];
     let batch = |disk: Disk| {
         let file = disk.files[0].clone();
@@ -315,11 +436,27 @@ fn every_descriptor_byte(random: &mut Random) -> Vec<Batch> {
     disks.into_iter().map(batch).collect()
 }
 
-/// Sector 1 with one file, where all from its third number on is after the end, and with 127.
+/// Sector 1 with one file, where all from its third number on is after the end, and with 127; the
+/// indexes of directories with no file, one and 127.
 fn every_index_bit(random: &mut Random) -> Vec<Batch> {
     let full = Shape::full(MOST_FILES + 50, MOST_FILES, 1, Order::Ascending).build(random);
-    let batch = |disk| Batch::of_sound(disk, |damage| damage.every_index_bit());
-    [one_file(0x00, 1, random), full].into_iter().map(batch).collect()
+    let mut files = full.files.clone();
+    files.iter_mut().for_each(|file| file.directory = 2);
+    let index = Directory { name: names(1, random)[0], index: full.sectors };
+    let in_second = [None, Some(index), None];
+    let full_second = Disk::of_directories(full.sectors + 1, in_second, files, random);
+    let one = one_file_in_directory(0x00, 1, random);
+    let indexes = [
+        (one_file(0x00, 1, random), 0),
+        (full, 0),
+        (one.clone(), 1),
+        (one, 3),
+        (full_second.clone(), 0),
+        (full_second, 2),
+    ];
+    let batch =
+        |(disk, directory)| Batch::of_sound(disk, |damage| damage.every_index_bit(directory));
+    indexes.into_iter().map(batch).collect()
 }
 
 const TWO_BLOCKS_SECTORS: usize = 52;

@@ -7,6 +7,7 @@ mod answer;
 pub(crate) mod arguments;
 mod case;
 mod keeping;
+mod layouts;
 pub(crate) mod lent;
 mod looking;
 mod making;
@@ -19,6 +20,7 @@ pub(crate) use answer::{Answer, Written};
 pub(crate) use arguments::{Arguments, Desk, Given, NONE};
 pub(crate) use case::{compared, Case};
 pub(crate) use keeping::*;
+pub(crate) use layouts::LAYOUTS_MET;
 pub use looking::lines;
 pub(crate) use looking::*;
 pub(crate) use making::*;
@@ -32,6 +34,7 @@ use crate::pnoelithe;
 use crate::random::Random;
 use crate::reference::Refusal;
 use crate::speed::Measured;
+use arguments::malformed;
 use lent::Lent;
 
 /// Every call of the header, in its order.
@@ -67,6 +70,8 @@ pub(crate) struct Call {
     pub together: &'static [(u32, &'static [u32])],
     /// How many names it takes: none, `name`, or `name` and `other`.
     pub names: usize,
+    /// Whether it takes a directory.
+    pub in_directory: bool,
     pub rules: Rules,
     pub often: Often,
     /// Arguments by chance.
@@ -90,7 +95,7 @@ pub(crate) enum Rules {
     /// It does not read it.
     None,
     AsAsked,
-    /// Those of the mark, whatever it is asked with.
+    /// Those of the mark, whatever it is asked with, and by the edition that it is asked with.
     OfMarks,
 }
 
@@ -148,11 +153,27 @@ pub(crate) fn any(mood: Mood, desk: &Desk, random: &mut Random) -> (&'static Cal
     for call in calls_in(mood) {
         let share = mood(&call.often);
         if rest < share {
-            return (call, (call.any)(desk, random).by(desk.layout, random));
+            return (call, asked(call, desk, random));
         }
         rest -= share;
     }
     unreachable!("a share of the sum")
+}
+
+/// Arguments by chance, those that every call has among them.
+fn asked(call: &Call, desk: &Desk, random: &mut Random) -> Arguments {
+    if !call.in_directory {
+        return (call.any)(desk, random).by(desk.layout, random);
+    }
+    let directory = desk.any_directory(random);
+    // Now and then with names of another directory.
+    let named = if random.once_in(6) { desk.any_directory(random) } else { directory };
+    let mut arguments = (call.any)(&Desk { directory: named, ..*desk }, random);
+    if call.names > 0 && !desk.disk.has(directory) && random.once_in(4) {
+        // Both faults come together.
+        arguments.name = malformed(random);
+    }
+    Arguments { directory, ..arguments }.by(desk.layout, random)
 }
 
 /// The paper's numbers, in the order of its table.
@@ -189,14 +210,14 @@ impl Call {
     pub(crate) fn layout(&self, arguments: &Arguments) -> Layout {
         match self.rules {
             Rules::None | Rules::AsAsked => arguments.layout(),
-            Rules::OfMarks => Layout::MARKS,
+            Rules::OfMarks => arguments.layout().with_marks(),
         }
     }
 
     /// The layouts that it can be asked with.
     pub(crate) fn layouts(&self) -> &'static [Layout] {
         if self.is_judging() {
-            &Layout::BOTH
+            &Layout::ALL
         } else {
             &[Layout::OLD]
         }

@@ -1,4 +1,4 @@
-//! How often each call gave each number by each rule, alone or with another one due as well, and
+//! How often each call gave each number by each layout, alone or with another one due as well, and
 //! how often a part of the comparison met what it is meant to meet. What came up too rarely ends
 //! the run: it would be compared in name only.
 
@@ -7,10 +7,10 @@ use crate::table::{Call, Case, Meeting, NUMBERS};
 use crate::volumes::MOST_SECTORS;
 use std::collections::{BTreeMap, BTreeSet};
 
-/// How often everything that can be reached must at least have come up, and each number by each
-/// rule.
+/// How often everything that can be reached must at least have come up, each number by each edition
+/// too, and each number by each layout.
 pub(crate) const LEAST: u64 = 100;
-const LEAST_BY_RULE: u64 = 50;
+const LEAST_BY_LAYOUT: u64 = 50;
 
 /// Rows of the report: what they are called, the layouts that have one, and the numbers that can be
 /// given in each.
@@ -22,7 +22,7 @@ pub struct Tally {
     /// The calls' numbers that can be due at once.
     together: Vec<(&'static str, &'static [(u32, &'static [u32])])>,
     /// What any call may meet.
-    meetings: &'static [Meeting],
+    meetings: Vec<Meeting>,
     /// What is to be met besides the numbers, in the order of the report.
     meant: Vec<&'static str>,
     given: BTreeMap<(&'static str, Layout, u32), u64>,
@@ -35,12 +35,9 @@ pub struct Tally {
 impl Tally {
     /// Rows for each of these calls; they are meant to meet what all calls may, and what their own
     /// rows of the table say.
-    pub(crate) fn of(
-        calls: impl Iterator<Item = &'static Call>,
-        meetings: &'static [Meeting],
-    ) -> Self {
-        let mut tally = Tally { meetings, ..Tally::default() };
-        tally.mean(meetings.iter().map(|(what, _)| *what));
+    pub(crate) fn of(calls: impl Iterator<Item = &'static Call>, meetings: &[&[Meeting]]) -> Self {
+        let mut tally = Tally { meetings: meetings.concat(), ..Tally::default() };
+        tally.mean(meetings.concat().iter().map(|(what, _)| *what));
         for call in calls {
             tally.reach((call.title, call.layouts(), call.numbers()));
             tally.mean(call.met.iter().map(|(what, _)| *what));
@@ -73,7 +70,8 @@ impl Tally {
             *self.pairs.entry((row, case.number, *due)).or_default() += 1;
         }
         let meetings = self.meetings.iter().chain(case.call.met);
-        self.meet_all(meetings.map(|(what, is_met)| (*what, is_met(case))));
+        let met: Vec<(&str, bool)> = meetings.map(|(what, is_met)| (*what, is_met(case))).collect();
+        self.meet_all(met);
         if let Some(disk) = case.asked.disk() {
             self.size(disk.sectors);
         }
@@ -116,8 +114,8 @@ impl Tally {
         if self.numbers().iter().map(|(_, count)| count).sum::<u64>() < self.total() {
             return Err("a call gave a number that it cannot give".to_string());
         }
-        hold(LEAST_BY_RULE, self.numbers())?;
-        hold(LEAST, self.numbers_by_any())?;
+        hold(LEAST_BY_LAYOUT, self.numbers())?;
+        hold(LEAST, self.numbers_by_edition())?;
         hold(LEAST, self.lines())?;
         self.report_pairs()
     }
@@ -159,12 +157,13 @@ impl Tally {
     }
 
     /// The same, whatever the rule.
-    fn numbers_by_any(&self) -> Vec<(String, u64)> {
+    fn numbers_by_edition(&self) -> Vec<(String, u64)> {
         let mut numbers = Vec::new();
-        for (row, layouts, reachable) in &self.reachable {
-            let given = |number| layouts.iter().map(move |by| self.given(row, *by, number)).sum();
-            numbers
-                .extend(reachable.iter().map(|each| (format!("{} {}", row, each), given(*each))));
+        for (row, layout, reachable) in self.rows().filter(|(_, layout, _)| !layout.marks) {
+            let rules = layout.of_edition();
+            let given = |number| rules.iter().map(|by| self.given(row, *by, number)).sum();
+            let what = |number| format!("{} {}, whatever the rule", title(row, layout), number);
+            numbers.extend(reachable.iter().map(|each| (what(*each), given(*each))));
         }
         numbers
     }
@@ -189,21 +188,22 @@ impl Tally {
             let counts: Vec<(String, u64)> = pairs.map(count).collect();
             let cells: Vec<String> =
                 counts.iter().map(|(pair, count)| format!("{}: {}", pair, count)).collect();
-            println!("{:<20}  {}", row, cells.join("  "));
+            println!("{:<34}  {}", row, cells.join("  "));
             hold(LEAST, counts).map_err(|rare| format!("{}: {}", row, rare))?;
         }
         Ok(())
     }
 }
 
-/// A row as it is written: by the new rule it says so.
+/// A row as it is written: by the new rule and by the second edition it says so.
 fn title(row: &str, layout: Layout) -> String {
-    [row, if layout.marks { ", marks" } else { "" }].concat()
+    let marks = if layout.marks { ", marks" } else { "" };
+    [row, marks, if layout.directories { ", directories" } else { "" }].concat()
 }
 
 pub(crate) fn write_row(title: &str, cells: impl Iterator<Item = String>) {
     let cells: String = cells.map(|cell| format!("{:>7}", cell)).collect();
-    println!("{:<20}{}", title, cells);
+    println!("{:<34}{}", title, cells);
 }
 
 /// Fails where one of these came up fewer times than so many.

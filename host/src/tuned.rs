@@ -26,10 +26,15 @@ fn judge(image: &[u8], layout: Layout) -> Result<(), u32> {
     if !is_label(label, sectors) {
         return Err(2);
     }
-    let listed = listed(index, sectors).ok_or(3_u32)?;
     let mut marks = Marks { words: [0; WORDS], twice: 0 };
     marks.claim(0, 2);
-    claim_files(image, layout, listed, &mut marks).ok_or(4_u32)?;
+    let mut lists = [listed(index, sectors).ok_or(3_u32)?, &[], &[], &[]];
+    if layout.directories {
+        list_entries(image, &mut lists, &mut marks).ok_or(3_u32)?;
+    }
+    for listed in lists {
+        claim_files(image, layout, listed, &mut marks).ok_or(4_u32)?;
+    }
     if marks.twice != 0 {
         return Err(5);
     }
@@ -49,7 +54,31 @@ fn is_label(label: &[u8], sectors: usize) -> bool {
     is_name(name(label)) && be_word(&label[10..12]) == sectors && &label[13..16] == b"DSK"
 }
 
-/// The part of sector 1 before its first zero; none where the range or the end is wrong.
+/// Puts what the directories list behind what the root does, and claims their indexes; none where
+/// an entry or an index is wrong.
+fn list_entries<'image>(
+    image: &'image [u8],
+    lists: &mut [&'image [u8]; 4],
+    marks: &mut Marks,
+) -> Option<()> {
+    let sectors = image.len() / SECTOR_BYTES;
+    let mut names = [0; 3];
+    for (place, entry) in image[20..56].chunks_exact(12).enumerate() {
+        if entry == &ZEROS[..12] {
+            continue;
+        }
+        let (name, number) = (name(entry), be_word(&entry[10..]));
+        if !is_name(name) || names.contains(&name) || number < 2 || number >= sectors {
+            return None;
+        }
+        names[place] = name;
+        lists[place + 1] = listed(&image[number * SECTOR_BYTES..][..SECTOR_BYTES], sectors)?;
+        marks.claim(number, number + 1);
+    }
+    Some(())
+}
+
+/// The part of an index before its first zero; none where the range or the end is wrong.
 fn listed(index: &[u8], sectors: usize) -> Option<&[u8]> {
     let mut end = 0;
     for pair in index.chunks_exact(2) {

@@ -1,5 +1,6 @@
 //! Sound volumes built from document 01, with nothing of the judges' reading: a disk is planned
-//! as files that lie in runs of sectors, and then written byte for byte.
+//! as files that lie in runs of sectors, and then written byte for byte. Those of the second edition
+//! are planned without directories first, and then get some.
 
 use crate::layout::Layout;
 use crate::random::Random;
@@ -10,6 +11,11 @@ pub const MOST_SECTORS: usize = 1600;
 pub const MOST_FILES: usize = 127;
 pub const MOST_BLOCKS: usize = 76;
 pub const HEADER_BYTES: usize = 28;
+/// Where sector 0 has the entries of directories, and how many bytes each has.
+pub const ENTRIES: usize = 20;
+pub const ENTRY_BYTES: usize = 12;
+pub const MOST_DIRECTORIES: usize = 3;
+pub const MAP: usize = 56;
 
 /// The status bytes that the paper allows, program apart from the rest. By the new rule each may
 /// have the mark besides.
@@ -36,6 +42,8 @@ impl Run {
 
 #[derive(Clone)]
 pub struct File {
+    /// The directory that lists it, 0 being the root.
+    pub directory: usize,
     /// The sector of the descriptor.
     pub descriptor: usize,
     /// The descriptor's bytes 0 to 27.
@@ -56,7 +64,7 @@ impl File {
             header[17] = EDGES[usize::from(header[25]) % EDGES.len()];
         }
         header[..10].copy_from_slice(&name);
-        let mut file = File { descriptor, header, runs };
+        let mut file = File { directory: 0, descriptor, header, runs };
         file.set_count(file.sectors().count());
         let is_program = random.once_in(3);
         file.set_status(random.pick(if is_program { &PROGRAM_STATUS } else { &DATA_STATUS }));
@@ -65,6 +73,11 @@ impl File {
 
     pub fn name(&self) -> Name {
         self.header[..10].try_into().expect("ten bytes")
+    }
+
+    /// What files are in the order of: root first, then each directory, in each by name.
+    pub fn place(&self) -> (usize, Name) {
+        (self.directory, self.name())
     }
 
     pub fn status(&self) -> u8 {
@@ -147,39 +160,121 @@ pub fn word(number: usize) -> [u8; 2] {
     [(number / 256) as u8, (number % 256) as u8]
 }
 
-/// A planned disk and its image.
+/// A directory of the second edition.
+#[derive(Clone, Copy, Debug, PartialEq, Eq)]
+pub struct Directory {
+    pub name: Name,
+    /// The sector of its index.
+    pub index: usize,
+}
+
+impl Directory {
+    /// The twelve bytes of its entry.
+    pub fn entry(&self) -> [u8; ENTRY_BYTES] {
+        let mut entry = [0; ENTRY_BYTES];
+        entry[..10].copy_from_slice(&self.name);
+        entry[10..].copy_from_slice(&word(self.index));
+        entry
+    }
+}
+
+/// A planned disk and its image. By the first edition it has no directory, and by the second none,
+/// some or all: where it has none, both editions see the same, unless bytes 20 to 55 of sector 0,
+/// which the first carries, are no absent entries.
 #[derive(Clone)]
 pub struct Disk {
     pub sectors: usize,
-    /// In the order of the index.
+    /// Directories 1 to 3, as far as they are there.
+    pub directories: [Option<Directory>; MOST_DIRECTORIES],
+    /// Those of all directories, in the order of their places.
     pub files: Vec<File>,
     pub image: Vec<u8>,
 }
 
 impl Disk {
-    /// Writes the files down as they are planned, sound or not.
+    /// Writes the files down as they are planned, sound or not, for the first edition.
     pub fn of_files(sectors: usize, files: Vec<File>, random: &mut Random) -> Self {
         let mut image = vec![0xE5; SECTOR_BYTES * sectors];
         if !random.once_in(4) {
             random.fill(&mut image);
         }
-        let mut disk = Disk { sectors, files, image };
+        let directories = [None; MOST_DIRECTORIES];
+        let mut disk = Disk { sectors, directories, files, image };
         disk.leave_remains(random);
         disk.write_label(random);
         disk.lay_down();
         disk
     }
 
-    /// Writes what the files determine: the map, sector 1 and the descriptors.
+    /// The same for the second edition, with these directories.
+    pub fn of_directories(
+        sectors: usize,
+        directories: [Option<Directory>; MOST_DIRECTORIES],
+        files: Vec<File>,
+        random: &mut Random,
+    ) -> Self {
+        let mut disk = Disk::of_files(sectors, files, random);
+        disk.directories = directories;
+        disk.image[ENTRIES..MAP].fill(0);
+        disk.lay_down();
+        disk
+    }
+
+    /// Writes what the files and the directories determine: the entries of those, the map, the
+    /// indexes and the descriptors.
     pub fn lay_down(&mut self) {
-        let map = self.map();
-        self.image[56..SECTOR_BYTES].copy_from_slice(&map);
-        self.image[SECTOR_BYTES..2 * SECTOR_BYTES].fill(0);
-        for (place, file) in self.files.iter().enumerate() {
-            self.image[SECTOR_BYTES + 2 * place..][..2].copy_from_slice(&word(file.descriptor));
-            let descriptor = &mut self.image[SECTOR_BYTES * file.descriptor..][..SECTOR_BYTES];
-            descriptor.copy_from_slice(&file.described());
+        let entries = self.image[ENTRIES..MAP].chunks_mut(ENTRY_BYTES).zip(self.directories);
+        for (entry, directory) in entries {
+            directory.into_iter().for_each(|own| entry.copy_from_slice(&own.entry()));
         }
+        let map = self.map();
+        self.image[MAP..SECTOR_BYTES].copy_from_slice(&map);
+        for directory in self.numbers() {
+            let listed = self.files_in(directory).map(|file| word(file.descriptor));
+            let mut index: Vec<u8> = listed.flatten().collect();
+            index.resize(SECTOR_BYTES, 0);
+            self.sector_mut(self.index_of(directory)).copy_from_slice(&index);
+        }
+        for place in 0..self.files.len() {
+            let described = self.files[place].described();
+            self.sector_mut(self.files[place].descriptor).copy_from_slice(&described);
+        }
+    }
+
+    fn sector_mut(&mut self, sector: usize) -> &mut [u8] {
+        &mut self.image[SECTOR_BYTES * sector..][..SECTOR_BYTES]
+    }
+
+    /// The numbers of the root and of the directories that are there.
+    pub fn numbers(&self) -> Vec<usize> {
+        (0..=MOST_DIRECTORIES).filter(|number| self.has(*number)).collect()
+    }
+
+    /// Whether there is a directory of a number, or it is the root's.
+    pub fn has(&self, number: usize) -> bool {
+        number == 0 || self.directories.get(number - 1).map_or(false, Option::is_some)
+    }
+
+    pub fn has_directories(&self) -> bool {
+        self.directories != [None; MOST_DIRECTORIES]
+    }
+
+    /// The sector of the index of a directory that is there, or of the root.
+    pub fn index_of(&self, number: usize) -> usize {
+        match number.checked_sub(1) {
+            Some(place) => self.directories[place].expect("a directory that is there").index,
+            None => 1,
+        }
+    }
+
+    /// The files of a directory, in their order.
+    pub fn files_in(&self, number: usize) -> impl Iterator<Item = &File> + Clone {
+        self.files.iter().filter(move |file| file.directory == number)
+    }
+
+    /// The edition for which the disk is planned, with marks.
+    pub fn layout(&self) -> Layout {
+        Layout { marks: true, directories: self.has_directories() }
     }
 
     /// Gives the mark to no file, to one, to each by chance or to all. A disk that was sound is so
@@ -202,7 +297,11 @@ impl Disk {
     fn write_label(&mut self, random: &mut Random) {
         let name = names(1, random)[0];
         let label = &mut self.image[..SECTOR_BYTES];
-        random.fill(&mut label[..56]);
+        random.fill(&mut label[..MAP]);
+        if random.once_in(2) {
+            // As formatting leaves them, and as both editions take them.
+            label[ENTRIES..MAP].fill(0);
+        }
         label[..10].copy_from_slice(&name);
         label[10..12].copy_from_slice(&word(self.sectors));
         label[13..16].copy_from_slice(b"DSK");
@@ -222,7 +321,9 @@ impl Disk {
     /// Each sector once for each of its holders but for sectors 0 and 1.
     pub fn held(&self) -> impl Iterator<Item = usize> + '_ {
         let files = self.files.iter();
-        files.flat_map(|file| std::iter::once(file.descriptor).chain(file.sectors()))
+        let by_files =
+            files.flat_map(|file| std::iter::once(file.descriptor).chain(file.sectors()));
+        self.directories.iter().flatten().map(|directory| directory.index).chain(by_files)
     }
 
     pub fn free(&self) -> Vec<usize> {
@@ -324,10 +425,10 @@ impl Shape {
 
     /// A shape for a disk of the given size: empty, one file, many small ones, a few cut anyhow,
     /// a few whose chains fill all 76 blocks, some files, or one of two sorts of full disk.
-    pub fn any(sectors: usize, random: &mut Random) -> Shape {
+    pub fn any(sectors: usize, most_files: usize, random: &mut Random) -> Shape {
         let room = sectors - 2;
-        let some = random.within(0..=room.min(MOST_FILES));
-        let many = room.min(MOST_FILES);
+        let some = random.within(0..=room.min(most_files));
+        let many = room.min(if random.once_in(2) { MOST_FILES } else { most_files });
         let few = room.min(1 + random.below(4));
         let order = random.pick(&[Order::Ascending, Order::Descending, Order::Shuffled]);
         let scattered = random.once_in(2);
@@ -358,6 +459,20 @@ impl Shape {
 /// Whether the name rule allows the byte before the padding.
 pub fn is_letter(byte: u8) -> bool {
     matches!(byte, 33..=45 | 47..=126)
+}
+
+/// Whether the bytes of the three entries keep the rules on a disk of so many sectors. What they
+/// lead to is not looked at.
+pub fn are_entries(bytes: &[u8], sectors: usize) -> bool {
+    let entries: Vec<&[u8]> = bytes.chunks(ENTRY_BYTES).collect();
+    let present = entries.iter().filter(|entry| entry.iter().any(|byte| *byte != 0));
+    let mut names: Vec<&[u8]> = present.clone().map(|entry| &entry[..10]).collect();
+    names.sort_unstable();
+    names.windows(2).all(|pair| pair[0] != pair[1])
+        && names.iter().all(|name| is_name(&(*name).try_into().expect("ten bytes")))
+        && present
+            .map(|entry| 256 * usize::from(entry[10]) + usize::from(entry[11]))
+            .all(|index| index > 1 && index < sectors)
 }
 
 /// The name rule, read from the end of the padding.

@@ -1,7 +1,7 @@
 // Appending: one sector more of a file. The call takes any image and any arguments, answers with its number, and leaves the image with the
 // writes of the rules' definition laid over it; a refusal has none.
 ghost use mathlib.Core.Path.{_≡_};
-ghost use Prim.Native.Nat.{_+_};
+ghost use Prim.Native.Nat.{ℕ, _+_};
 ghost use lib.ListN.{length};
 ghost use Rattle.rules.specs.Name.{wrongPlace};
 ghost use Rattle.rules.specs.Chain.{blocks, extended};
@@ -59,7 +59,7 @@ fn map_with(sector0: &mut [u8], image: &[u8], new: usize)
 
 // The three sectors, in the order of the definition.
 fn write_longer(layout: Layout, image: &mut [u8], k: usize, bytes: &[u8], tip: Tip, new: usize)
-    requires { ⌜ IsFile layout (now image) k × (new ≡ dataChoice (sectorOf (now image) 0)) × Extendable (chainOf (sectorOf (now image) k)) tip new × (sectorsOf (sectorOf (now image) k) ≡ tip .next) ⌝ }
+    requires { ⌜ ((i : ℕ) × IsFile layout (now image) i k) × (new ≡ dataChoice (sectorOf (now image) 0)) × Extendable (chainOf (sectorOf (now image) k)) tip new × (sectorsOf (sectorOf (now image) k) ≡ tip .next) ⌝ }
     ensures { λ _. ⌜ now (image .exit) ≡ written (now (image .entry)) (appendWrites layout (now (image .entry)) (now (bytes .entry)) k) ⌝ }
 {
     let mut descriptor = [0u8; 256];
@@ -73,7 +73,7 @@ fn write_longer(layout: Layout, image: &mut [u8], k: usize, bytes: &[u8], tip: T
 
 // Of the file whose descriptor is in sector k.
 fn append_at(layout: Layout, image: &mut [u8], k: usize, bytes: &[u8]) -> NamedAnswer
-    requires { ⌜ IsFile layout (now image) k ⌝ }
+    requires { ⌜ ((i : ℕ) × IsFile layout (now image) i k) ⌝ }
     ensures { λ r. ⌜ Meets (NamedSays None) (appending layout (now (image .entry)) (now (bytes .entry)) k) r (now (image .entry)) (now (image .exit)) ⌝ }
 {
     let status = byte(sector_of(image, k), 12);
@@ -101,14 +101,20 @@ fn append_at(layout: Layout, image: &mut [u8], k: usize, bytes: &[u8]) -> NamedA
     NamedAnswer::Done
 }
 
-pub fn append(layout: Layout, image: &mut [u8], name: &[u8], bytes: &[u8]) -> NamedAnswer
-    ensures { λ r. ⌜ Meets (NamedSays (wrongPlace (now (name .entry)))) (appendOf layout (now (image .entry)) (now (name .entry)) (now (bytes .entry))) r (now (image .entry)) (now (image .exit)) ⌝ }
+pub fn append(
+    layout: Layout,
+    image: &mut [u8],
+    directory: usize,
+    name: &[u8],
+    bytes: &[u8],
+) -> NamedAnswer
+    ensures { λ r. ⌜ Meets (NamedSays (wrongPlace (now (name .entry)))) (appendOf layout (now (image .entry)) directory (now (name .entry)) (now (bytes .entry))) r (now (image .entry)) (now (image .exit)) ⌝ }
 {
-    let opened = find(layout, image, name);
+    let opened = find(layout, image, directory, name);
     match opened {
         Opened::Refused(number) => NamedAnswer::Refused(number),
         Opened::Misnamed(place) => NamedAnswer::Misnamed(place),
-        Opened::Absent => NamedAnswer::Refused(8),
-        Opened::At(_, k) => append_at(layout, image, k, bytes),
+        Opened::Absent(_) => NamedAnswer::Refused(8),
+        Opened::At(_, _, k) => append_at(layout, image, k, bytes),
     }
 }

@@ -150,19 +150,21 @@ fn run(argument: &mut [u8; ARGUMENT_ROOM], buffer: &mut [u8; IMAGE_ROOM]) {
     if usage(
         options.help,
         options.unknown || options.sums,
-        b"usage: belt [-v] [--marks] [--] [IMAGE...]
+        b"usage: belt [-v] [--marks] [--directories] [--] [IMAGE...]
 Judges images of disks: for each a line with its number, 0 for a sound volume or 1 to 6 for its
 first fault, and the image; - for one that cannot be read. With no image, that of standard input.
 How many there were of each number is the last line on standard error.
-  -v          with the ground in words
-  --marks     by the rule with marks: status bit 10 hex, changed since backup, is allowed
-  -h, --help  this text
+  -v             with the ground in words
+  --marks        by the rule with marks: status bit 10 hex, changed since backup, is allowed
+  --directories  by the second edition: sector 0 has entries of directories
+  -h, --help     this text
 ",
     ) {
         return;
     }
     let layout = Layout {
         marks: options.marks,
+        directories: options.directories,
     };
     let mut tally = [0usize; 8];
     let first = options.first;

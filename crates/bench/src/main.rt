@@ -56,10 +56,19 @@ fn write_answer(words: &[u8], yes: bool) -> bool {
     io::write_all(STDOUT_FILENO, b": no\n")
 }
 
-// What a case does not say of the layout: the rule of document 01.
-const OLD_RULE: Layout = Layout { marks: false };
+// What a case does not say of the layout: the rule of document 01, and its edition.
+const OLD_RULE: Layout = Layout {
+    marks: false,
+    directories: false,
+};
 
-const WITH_MARKS: Layout = Layout { marks: true };
+const WITH_MARKS: Layout = Layout {
+    marks: true,
+    directories: false,
+};
+
+// The directory of every file: that edition has no other.
+const ROOT: usize = 0;
 
 // One side in single density: what a case does not say of the drive.
 fn one_side(sectors_per_track: u8, tracks: u8) -> Geometry {
@@ -117,7 +126,7 @@ fn case_11() -> bool {
     let mut image = [0u8; 8960];
     let formatted = format(&mut image, 35, b"BENCH     ", one_side(5, 7));
     let bytes = [0x41u8; 300];
-    let stored = store(OLD_RULE, &mut image, b"TWO       ", &bytes);
+    let stored = store(OLD_RULE, &mut image, ROOT, b"TWO       ", &bytes);
     write_number(b"11 35 sectors, formatted", number_of(formatted))
         && write_number(
             b"11 two sectors stored",
@@ -147,7 +156,7 @@ fn create_files(image: &mut [u8]) -> u32 {
             b' ',
             b' ',
         ];
-        let number = number_of(create(OLD_RULE, image, &name, 0x80, 80, 3));
+        let number = number_of(create(OLD_RULE, image, ROOT, &name, 0x80, 80, 3));
         if number != 0 {
             return number;
         }
@@ -158,11 +167,11 @@ fn create_files(image: &mut [u8]) -> u32 {
 
 // With 127 files and one free sector: the next create, that sector appended, another one, and the next create on the full disk.
 fn full_disk(image: &mut [u8; 33280]) -> bool {
-    let next = create(OLD_RULE, image, b"NEXT      ", 0x80, 80, 3);
+    let next = create(OLD_RULE, image, ROOT, b"NEXT      ", 0x80, 80, 3);
     let bytes = [0x42u8; 256];
-    let last = append(OLD_RULE, image, b"F000      ", &bytes);
-    let full = append(OLD_RULE, image, b"F001      ", &bytes);
-    let after = create(OLD_RULE, image, b"NEXT      ", 0x80, 80, 3);
+    let last = append(OLD_RULE, image, ROOT, b"F000      ", &bytes);
+    let full = append(OLD_RULE, image, ROOT, b"F001      ", &bytes);
+    let after = create(OLD_RULE, image, ROOT, b"NEXT      ", 0x80, 80, 3);
     write_number(b"12 the next create", number_of(next))
         && write_number(b"12 the last free sector appended", number_of(last))
         && write_number(b"12 another one", number_of(full))
@@ -183,8 +192,8 @@ fn case_13() -> bool {
     let mut image = [0u8; 51200];
     let formatted = format(&mut image, 200, b"BENCH     ", one_side(10, 20));
     let bytes = [0x43u8; 32769];
-    let stored = store(OLD_RULE, &mut image, b"LONG      ", &bytes[0..32768]);
-    let refused = store(OLD_RULE, &mut image, b"LONGER    ", &bytes);
+    let stored = store(OLD_RULE, &mut image, ROOT, b"LONG      ", &bytes[0..32768]);
+    let refused = store(OLD_RULE, &mut image, ROOT, b"LONGER    ", &bytes);
     write_number(b"13 200 sectors, formatted", number_of(formatted))
         && write_number(
             b"13 32768 bytes stored",
@@ -197,8 +206,8 @@ fn case_14() -> bool {
     let mut image = [0u8; 8960];
     let formatted = format(&mut image, 35, b"BENCH     ", one_side(5, 7));
     let bytes = [0x44u8; 300];
-    let stored = store(OLD_RULE, &mut image, b"GONE      ", &bytes);
-    let deleted = delete(OLD_RULE, &mut image, b"GONE      ");
+    let stored = store(OLD_RULE, &mut image, ROOT, b"GONE      ", &bytes);
+    let deleted = delete(OLD_RULE, &mut image, ROOT, b"GONE      ");
     let mut target = [0u8; 8960];
     let packed = pack(OLD_RULE, &image, &mut target);
     write_number(b"14 35 sectors, formatted", number_of(formatted))
@@ -215,7 +224,7 @@ fn case_14() -> bool {
 // The listing of an image, or its number.
 fn write_listing(layout: Layout, image: &[u8]) -> bool {
     let mut text = [0u8; 4466];
-    let listed = listing(layout, image, &mut text);
+    let listed = listing(layout, image, ROOT, &mut text);
     match listed {
         Amount::Refused(number) => write_number(b"M refused", number),
         Amount::Given(size) => io::write_all(STDOUT_FILENO, part(&text, 0, size)),
@@ -226,10 +235,10 @@ fn case_m() -> bool {
     let mut image = [0u8; 16384];
     let formatted = format(&mut image, 64, b"SHELF     ", one_side(8, 8));
     let program = [0x41u8; 300];
-    let stored = store(OLD_RULE, &mut image, b"ALPHA     ", &program);
-    let created = create(OLD_RULE, &mut image, b"NOTES     ", 0x80, 80, 3);
+    let stored = store(OLD_RULE, &mut image, ROOT, b"ALPHA     ", &program);
+    let created = create(OLD_RULE, &mut image, ROOT, b"NOTES     ", 0x80, 80, 3);
     let bytes = [0x42u8; 256];
-    let appended = append(OLD_RULE, &mut image, b"NOTES     ", &bytes);
+    let appended = append(OLD_RULE, &mut image, ROOT, b"NOTES     ", &bytes);
     write_number(b"M formatted", number_of(formatted))
         && write_number(b"M ALPHA stored", number_of(stored))
         && write_number(b"M NOTES created", number_of(created))
@@ -245,9 +254,9 @@ fn ask_2() -> bool {
     let mut image = [0u8; 51200];
     let formatted = format(&mut image, 200, b"BENCH     ", one_side(10, 20));
     let bytes = [0x45u8; 32768];
-    let full = store(OLD_RULE, &mut image, b"FULL      ", &bytes[0..512]);
-    let none = store(OLD_RULE, &mut image, b"NONE      ", &bytes[0..0]);
-    let long = store(OLD_RULE, &mut image, b"LONG      ", &bytes);
+    let full = store(OLD_RULE, &mut image, ROOT, b"FULL      ", &bytes[0..512]);
+    let none = store(OLD_RULE, &mut image, ROOT, b"NONE      ", &bytes[0..0]);
+    let long = store(OLD_RULE, &mut image, ROOT, b"LONG      ", &bytes);
     let mut target = [0u8; 51200];
     let packed = pack(OLD_RULE, &image, &mut target);
     write_number(b"Ask 2 200 sectors, formatted", number_of(formatted))
@@ -291,9 +300,9 @@ fn ask_4() -> bool {
     let blank = format(&mut image, 3, b"          ", one_side(3, 1));
     let short = format(&mut image, 3, b"BENCH", one_side(3, 1));
     let formatted = format(&mut image, 3, b"BENCH     ", one_side(3, 1));
-    let both = rename(OLD_RULE, &mut image, b"OLD.      ", b"NEW NAME  ");
-    let new = rename(OLD_RULE, &mut image, b"OLD       ", b"NEW NAME  ");
-    let absent = rename(OLD_RULE, &mut image, b"OLD       ", b"NEW       ");
+    let both = rename(OLD_RULE, &mut image, ROOT, b"OLD.      ", b"NEW NAME  ");
+    let new = rename(OLD_RULE, &mut image, ROOT, b"OLD       ", b"NEW NAME  ");
+    let absent = rename(OLD_RULE, &mut image, ROOT, b"OLD       ", b"NEW       ");
     write_named(b"Ask 4 a space and A", led)
         && write_named(b"Ask 4 A, a space and a dot", dotted)
         && write_named(b"Ask 4 ten spaces", blank)
@@ -310,9 +319,9 @@ fn ask_11() -> bool {
     let mut image = [0u8; 16384];
     let formatted = format(&mut image, 64, b"SHELF     ", one_side(8, 8));
     let program = [0x41u8; 300];
-    let stored = store(WITH_MARKS, &mut image, b"ALPHA     ", &program);
-    let created = create(WITH_MARKS, &mut image, b"NOTES     ", 0x80, 80, 3);
-    let cleared = clear_mark(OLD_RULE, &mut image, b"ALPHA     ");
+    let stored = store(WITH_MARKS, &mut image, ROOT, b"ALPHA     ", &program);
+    let created = create(WITH_MARKS, &mut image, ROOT, b"NOTES     ", 0x80, 80, 3);
+    let cleared = clear_mark(OLD_RULE, &mut image, ROOT, b"ALPHA     ");
     write_number(b"Ask 11 formatted", number_of(formatted))
         && write_number(b"Ask 11 ALPHA stored", number_of(stored))
         && write_number(b"Ask 11 NOTES created", number_of(created))

@@ -5,7 +5,10 @@ use rules::Layout;
 
 fn main() {
     print(
-        Layout { marks: true },
+        Layout {
+            marks: true,
+            directories: false,
+        },
         b"usage: catalogue_marks < IMAGE
 Lists the image of a disk, of at most 65,536 bytes, by the rule with marks: its name, size and free
 count, then a line a file, which ends with M where status bit 10 hex, changed since backup, is set, or

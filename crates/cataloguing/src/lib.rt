@@ -1,5 +1,5 @@
-// A catalogue entry: the 28 header bytes and the row of the file at a place. The call takes any image and any arguments, and gives what the
-// rules' definition of it says: its number first, in the table's order, and with 0 its row and bytes. A refusal writes nothing.
+// A catalogue entry: the 28 header bytes and the row of the file at a place of a directory. The call takes any image and any arguments, and
+// gives what the rules' definition of it says: its number first, in the table's order, and with 0 its row and bytes. A refusal writes nothing.
 ghost use mathlib.Core.Path.{_≡_};
 ghost use lib.ListN.{length};
 ghost use Rattle.rules.specs.Outcome.{Gives};
@@ -16,6 +16,7 @@ use sector::buffer::lay;
 use sector::bytes::part;
 use sector::bytes::sector_of;
 use sector::bytes::word;
+use sector::directories::index_at;
 
 fn refused(number: u32) -> Entry
     ensures { λ r. ⌜ (r .answer ≡ Answer.Refused number) × (r .row ≡ noRow) ⌝ }
@@ -26,17 +27,27 @@ fn refused(number: u32) -> Entry
     }
 }
 
-pub fn entry(layout: Layout, image: &[u8], place: usize, header: &mut [u8]) -> Entry
-    ensures { λ r. ⌜ Gives (EntrySays (entryRow layout (now (image .entry)) place (length (now (header .entry))))) (entryOf layout (now (image .entry)) place (length (now (header .entry)))) r (now (header .entry)) (now (header .exit)) ⌝ }
+pub fn entry(
+    layout: Layout,
+    image: &[u8],
+    directory: usize,
+    place: usize,
+    header: &mut [u8],
+) -> Entry
+    ensures { λ r. ⌜ Gives (EntrySays (entryRow layout (now (image .entry)) directory place (length (now (header .entry))))) (entryOf layout (now (image .entry)) directory place (length (now (header .entry)))) r (now (header .entry)) (now (header .exit)) ⌝ }
 {
     let number = judge::judge(layout, image);
     if number != 0 {
         return refused(number);
     }
+    let i = index_at(layout, image, directory);
+    if i == 0 {
+        return refused(8);
+    }
     if place >= 128 {
         return refused(8);
     }
-    let k = word(sector_of(image, 1), 2 * place);
+    let k = word(sector_of(image, i), 2 * place);
     if k == 0 {
         return refused(8);
     }

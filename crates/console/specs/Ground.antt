@@ -11,7 +11,7 @@ groundOf mark =
     cond (eqb mark 0x30) (letters "a sound volume")
     (cond (eqb mark 0x31) (letters "the image's length is not that of a volume")
     (cond (eqb mark 0x32) (letters "sector 0 is no label")
-    (cond (eqb mark 0x33) (letters "sector 1 is no list of files")
+    (cond (eqb mark 0x33) (letters "a directory is no list of files")
     (cond (eqb mark 0x34) (letters "a file's descriptor breaks a rule")
     (cond (eqb mark 0x35) (letters "a sector has two holders")
     (cond (eqb mark 0x36) (letters "the map is not that of the files")

@@ -7,7 +7,7 @@ use lib.ListN.{length}
 use Rattle.rules.specs.Bytes.{byteAt, same}
 use Rattle.line.specs.Letters.{letters}
 use Rattle.console.specs.declared.options.Word.{Word}
-use Rattle.console.specs.declared.options.Word.the-variants.{Help, Verbose, Sums, Marks, End, Unknown, Image}
+use Rattle.console.specs.declared.options.Word.the-variants.{Help, Verbose, Sums, Marks, Directories, End, Unknown, Image}
 
 -- an image is what does not begin with a hyphen, and the hyphen alone
 unfoldable pub imageOr : List ℕ → Word
@@ -20,5 +20,6 @@ wordOf argument =
     (cond (same argument (letters "-v")) Verbose
     (cond (same argument (letters "--sums")) Sums
     (cond (same argument (letters "--marks")) Marks
+    (cond (same argument (letters "--directories")) Directories
     (cond (same argument (letters "--")) End
-    (imageOr argument))))))
+    (imageOr argument)))))))

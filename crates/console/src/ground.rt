@@ -13,7 +13,7 @@ pub fn put_ground(text: &mut [u8], at: usize, mark: u8) -> usize
         b'0' => put(text, at, b"a sound volume"),
         b'1' => put(text, at, b"the image's length is not that of a volume"),
         b'2' => put(text, at, b"sector 0 is no label"),
-        b'3' => put(text, at, b"sector 1 is no list of files"),
+        b'3' => put(text, at, b"a directory is no list of files"),
         b'4' => put(text, at, b"a file's descriptor breaks a rule"),
         b'5' => put(text, at, b"a sector has two holders"),
         b'6' => put(text, at, b"the map is not that of the files"),

@@ -11,13 +11,14 @@ use sector::bytes::same;
 // One byte more than the longest argument that Linux passes where a page has 4,096 bytes.
 pub const ARGUMENT_ROOM: usize = 131072;
 
-// What an argument asks for: the usage, grounds in words, sums, the rule with marks; that the options end here; nothing that is known; or an
-// image, behind which there are no options.
+// What an argument asks for: the usage, grounds in words, sums, the rule with marks, the edition with directories; that the options end here;
+// nothing that is known; or an image, behind which there are no options.
 enum Word {
     Help,
     Verbose,
     Sums,
     Marks,
+    Directories,
     End,
     Unknown,
     Image,
@@ -29,6 +30,7 @@ pub struct Options {
     pub verbose: bool,
     pub sums: bool,
     pub marks: bool,
+    pub directories: bool,
     pub unknown: bool,
     pub first: usize,
 }
@@ -50,6 +52,9 @@ fn word_of(argument: &[u8]) -> Word
     }
     if same(argument, b"--marks") {
         return Word::Marks;
+    }
+    if same(argument, b"--directories") {
+        return Word::Directories;
     }
     if same(argument, b"--") {
         return Word::End;
@@ -81,6 +86,7 @@ pub fn read_options(count: usize, argument: &mut [u8; ARGUMENT_ROOM]) -> Options
         verbose: false,
         sums: false,
         marks: false,
+        directories: false,
         unknown: false,
         first: 1,
     };
@@ -92,6 +98,7 @@ pub fn read_options(count: usize, argument: &mut [u8; ARGUMENT_ROOM]) -> Options
             Word::Verbose => options.verbose = true,
             Word::Sums => options.sums = true,
             Word::Marks => options.marks = true,
+            Word::Directories => options.directories = true,
             Word::Unknown => options.unknown = true,
             Word::End => {
                 options.first = position + 1;

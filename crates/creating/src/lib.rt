@@ -7,7 +7,7 @@ ghost use lib.ListN.{length};
 ghost use Rattle.rules.specs.Bytes.{splice};
 ghost use Rattle.rules.specs.Name.{nameRule, wrongPlace};
 ghost use Rattle.rules.specs.Descriptor.{newDescriptor};
-ghost use Rattle.rules.specs.Sound.{Sound};
+ghost use Rattle.rules.specs.Sound.{IsIndexed, Sound};
 ghost use Rattle.rules.specs.Outcome.{NamedSays, Meets};
 ghost use Rattle.rules.specs.Calls.Create.{createStatus, creating, createOf};
 ghost use Rattle.rules.specs.declared.WrongPlace.the-variants.{None};
@@ -65,23 +65,24 @@ fn write_descriptor(
     write_sector(image, k, &descriptor);
 }
 
-// On a sound volume, under a name that keeps the rule and is not there.
+// On a sound volume, under a name that keeps the rule and is not there in the index in sector i.
 fn create_new(
     layout: Layout,
     image: &mut [u8],
+    i: usize,
     name: &[u8],
     status: u8,
     record_length: u8,
     records_per_sector: u8,
 ) -> NamedAnswer
-    requires { ⌜ Sound layout (now image) × (nameRule (now name) ≡ true) ⌝ }
-    ensures { λ r. ⌜ Meets (NamedSays None) (creating layout (now (image .entry)) (now (name .entry)) status «record_length» «records_per_sector») r (now (image .entry)) (now (image .exit)) ⌝ }
+    requires { ⌜ Sound layout (now image) × IsIndexed layout (now image) i × (nameRule (now name) ≡ true) ⌝ }
+    ensures { λ r. ⌜ Meets (NamedSays None) (creating layout (now (image .entry)) (now (name .entry)) status «record_length» «records_per_sector» i) r (now (image .entry)) (now (image .exit)) ⌝ }
 {
     if !create_status(status) {
         return NamedAnswer::Refused(15);
     }
-    // the 127th number of sector 1
-    if word(image, 508) != 0 {
+    // the 127th number of the index
+    if word(sector_of(image, i), 252) != 0 {
         return NamedAnswer::Refused(11);
     }
     if free_count_of(sector_of(image, 0)) == 0 {
@@ -91,28 +92,30 @@ fn create_new(
     let marked = marking(layout, status);
     write_descriptor(image, k, name, marked, records_per_sector, record_length);
     mark(&mut image[0..256], k);
-    enter(image, name, k);
+    enter(image, i, name, k);
     NamedAnswer::Done
 }
 
 pub fn create(
     layout: Layout,
     image: &mut [u8],
+    directory: usize,
     name: &[u8],
     status: u8,
     record_length: u8,
     records_per_sector: u8,
 ) -> NamedAnswer
-    ensures { λ r. ⌜ Meets (NamedSays (wrongPlace (now (name .entry)))) (createOf layout (now (image .entry)) (now (name .entry)) status «record_length» «records_per_sector») r (now (image .entry)) (now (image .exit)) ⌝ }
+    ensures { λ r. ⌜ Meets (NamedSays (wrongPlace (now (name .entry)))) (createOf layout (now (image .entry)) directory (now (name .entry)) status «record_length» «records_per_sector») r (now (image .entry)) (now (image .exit)) ⌝ }
 {
-    let opened = find(layout, image, name);
+    let opened = find(layout, image, directory, name);
     match opened {
         Opened::Refused(number) => NamedAnswer::Refused(number),
         Opened::Misnamed(place) => NamedAnswer::Misnamed(place),
-        Opened::At(_, _) => NamedAnswer::Refused(9),
-        Opened::Absent => create_new(
+        Opened::At(_, _, _) => NamedAnswer::Refused(9),
+        Opened::Absent(i) => create_new(
             layout,
             image,
+            i,
             name,
             status,
             record_length,

@@ -1,7 +1,8 @@
-// Deleting: the file's number leaves sector 1, and its sectors are free; they keep their bytes. The call takes any image and any arguments,
+// Deleting: the file's number leaves its index, and its sectors are free; they keep their bytes. The call takes any image and any arguments,
 // answers with its number, and leaves the image with the writes of the rules' definition laid over it; a refusal has none.
 ghost use mathlib.Core.Path.{_≡_};
 ghost use mathlib.Core.List.{_∷_};
+ghost use Prim.Native.Nat.{ℕ};
 ghost use lib.ListN.{length};
 ghost use Rattle.rules.specs.Name.{wrongPlace};
 ghost use Rattle.rules.specs.Sectors.{sectorOf};
@@ -25,38 +26,38 @@ use sector::bytes::sector_of;
 
 // Sector 0 without the sectors of the file whose descriptor is in sector k.
 fn map_without(layout: Layout, sector0: &mut [u8], image: &[u8], k: usize)
-    requires { ⌜ (length (now sector0) ≡ 256) × IsFile layout (now image) k ⌝ }
+    requires { ⌜ (length (now sector0) ≡ 256) × ((i : ℕ) × IsFile layout (now image) i k) ⌝ }
     ensures { λ _. ⌜ now (sector0 .exit) ≡ markedAll 0 (sectorOf (now (image .entry)) 0) (k ∷ placesIn (now (image .entry)) k) ⌝ }
 {
     copy(sector0, sector_of(image, 0));
     clear_file(sector0, k, part(sector_of(image, k), 28, 228));
 }
 
-// Of that file.
-fn delete_at(layout: Layout, image: &mut [u8], k: usize) -> NamedAnswer
-    requires { ⌜ IsFile layout (now image) k ⌝ }
-    ensures { λ r. ⌜ Meets (NamedSays None) (deleting (now (image .entry)) k) r (now (image .entry)) (now (image .exit)) ⌝ }
+// Of that file, which the index in sector i lists.
+fn delete_at(layout: Layout, image: &mut [u8], i: usize, k: usize) -> NamedAnswer
+    requires { ⌜ IsFile layout (now image) i k ⌝ }
+    ensures { λ r. ⌜ Meets (NamedSays None) (deleting (now (image .entry)) i k) r (now (image .entry)) (now (image .exit)) ⌝ }
 {
     if byte(sector_of(image, k), 12) / 8 % 2 == 1 {
         return NamedAnswer::Refused(10);
     }
     let mut index = [0u8; 256];
-    index_without(&mut index, sector_of(image, 1), k);
+    index_without(&mut index, sector_of(image, i), k);
     let mut sector0 = [0u8; 256];
     map_without(layout, &mut sector0, image, k);
-    write_sector(image, 1, &index);
+    write_sector(image, i, &index);
     write_sector(image, 0, &sector0);
     NamedAnswer::Done
 }
 
-pub fn delete(layout: Layout, image: &mut [u8], name: &[u8]) -> NamedAnswer
-    ensures { λ r. ⌜ Meets (NamedSays (wrongPlace (now (name .entry)))) (deleteOf layout (now (image .entry)) (now (name .entry))) r (now (image .entry)) (now (image .exit)) ⌝ }
+pub fn delete(layout: Layout, image: &mut [u8], directory: usize, name: &[u8]) -> NamedAnswer
+    ensures { λ r. ⌜ Meets (NamedSays (wrongPlace (now (name .entry)))) (deleteOf layout (now (image .entry)) directory (now (name .entry))) r (now (image .entry)) (now (image .exit)) ⌝ }
 {
-    let opened = find(layout, image, name);
+    let opened = find(layout, image, directory, name);
     match opened {
         Opened::Refused(number) => NamedAnswer::Refused(number),
         Opened::Misnamed(place) => NamedAnswer::Misnamed(place),
-        Opened::Absent => NamedAnswer::Refused(8),
-        Opened::At(_, k) => delete_at(layout, image, k),
+        Opened::Absent(_) => NamedAnswer::Refused(8),
+        Opened::At(i, _, k) => delete_at(layout, image, i, k),
     }
 }

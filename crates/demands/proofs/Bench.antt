@@ -23,15 +23,15 @@ holds-at (row ∷ rows) none e (suc p) h = holds-at rows none (both (same (row .
 
 pub case-listed : (layout : Layout) → CaseListed layout
 unfolding CaseListed
-case-listed layout = same-is (listingText layout (caseM layout)) (printed layout) (computed layout .listed)
+case-listed layout = same-is (listingText layout (caseM layout) 1) (printed layout) (computed layout .listed)
 
 -- of equal sectors
-moved : (a a′ b b′ m : List ℕ) → a ≡ a′ → b ≡ b′ → holds (tableOf a′ b′ m) ≡ true → holds (tableOf a b m) ≡ true
-moved a a′ b b′ m e f h = rw (e, f) h
+moved : (layout : Layout) (a a′ b b′ m : List ℕ) → a ≡ a′ → b ≡ b′ → holds (tableOf layout a′ b′ m) ≡ true → holds (tableOf layout a b m) ≡ true
+moved layout a a′ b b′ m e f h = rw (e, f) h
 
 table-holds : (layout : Layout) → holds (table layout) ≡ true
 unfolding table
-table-holds layout = moved _ _ _ _ (caseM layout) (formatted-sector0 35 diskX geometry refl) (formatted-sector0 360 diskX geometry refl) (computed layout .tabled)
+table-holds layout = moved layout _ _ _ _ (caseM layout) (formatted-sector0 35 diskX geometry refl) (formatted-sector0 360 diskX geometry refl) (computed layout .tabled)
 
 pub bench : (layout : Layout) → Bench layout
 unfolding Bench

@@ -11,7 +11,7 @@ use borrow.Author.Tests.{eqb-true, eqb-false}
 use Rattle.rules.specs.Sectors.{sectorOf, sectorCount}
 use Rattle.rules.specs.Name.{wrongPlace, IsName}
 use Rattle.rules.specs.Map.{freeCount}
-use Rattle.rules.specs.Volume.{files}
+use Rattle.rules.specs.Volume.{indexes, filesOf}
 use Rattle.rules.specs.Tests.{unlessMet}
 use Rattle.rules.specs.Verdict.{verdict}
 use Rattle.rules.specs.Outcome.{Report, answerOf, amountOf, namedAnswerOf, namedAmountOf, renameAnswerOf}
@@ -33,7 +33,7 @@ use Rattle.rules.proofs.Outcome.{by-cases, wrong-cases}
 use Rattle.demands.specs.Call as call
 use Rattle.demands.specs.Call.{Names, Form, Look, Change, Call, namesOf, changeRule, ruleOf, formOf, numberOf, numberIn, answerNumber, amountNumber, summaryNumber, namedNumber, loadedNumber, NamedCarries, LoadCarries, Carries}
 use Rattle.demands.specs.Ours.{answered, seen, outcome, ours}
-use Rattle.demands.specs.Grounds.{Ground, ground, First, faults, lookGrounds, changeGrounds, grounds}
+use Rattle.demands.specs.Grounds.{Ground, ground, First, faults, lookGrounds, changeGrounds, nameGrounds, grounds}
 
 pub answer-number : (number : ℕ) → answerNumber (answerOf number) ≡ number
 unfolding answerOf answerNumber
@@ -56,7 +56,7 @@ unfolding summaryAnswer summaryNumber verdict unlessMet
 summary-number layout image = go (eqb (verdict layout image) 0) refl
   where
     go : (t : Bool) → eqb (verdict layout image) 0 ≡ t
-        → summaryNumber (cond t (summary.Given (sectorCount image) (length (files image)) (freeCount (sectorOf image 0))) (summary.Refused (verdict layout image))) ≡ verdict layout image
+        → summaryNumber (cond t (summary.Given (sectorCount image) (length (filesOf image (indexes layout image))) (freeCount (sectorOf image 0))) (summary.Refused (verdict layout image))) ≡ verdict layout image
     go true e = sym (eqb-true (verdict layout image) 0 e)
     go false e = refl
 
@@ -95,16 +95,16 @@ amount-carries report = go (eqb (report .number) 0) refl
 
 summary-carries : (layout : Layout) (image : List ℕ) → summaryAnswer layout image ≡ summary.Refused 0 → ⊥
 unfolding summaryAnswer unlessMet verdict
-summary-carries layout image = go (sectorCount image) (length (files image)) (freeCount (sectorOf image 0)) (eqb (verdict layout image) 0) refl
+summary-carries layout image = go (sectorCount image) (length (filesOf image (indexes layout image))) (freeCount (sectorOf image 0)) (eqb (verdict layout image) 0) refl
   where
     go : (n listed free : ℕ) (t : Bool) → eqb (verdict layout image) 0 ≡ t → cond t (summary.Given n listed free) (summary.Refused (verdict layout image)) ≡ summary.Refused 0 → ⊥
     go n listed free true e is = let z : _≡_ {A = ℕ} 0 1 = cc in omega arith
     go n listed free false e is = let z : verdict layout image ≡ 0 = cc in eqb-false (verdict layout image) 0 e z
 
 -- beside a refused entry stands no row
-row-carries : (layout : Layout) (image : List ℕ) (place room : ℕ) → (answerOf (entryOf layout image place room .number) ≡ answer.Done → ⊥) → entryRow layout image place room ≡ noRow
+row-carries : (layout : Layout) (image : List ℕ) (directory place room : ℕ) → (answerOf (entryOf layout image directory place room .number) ≡ answer.Done → ⊥) → entryRow layout image directory place room ≡ noRow
 unfolding entryOf entryRow answerOf
-row-carries layout image place room other = unless-met (entryTests layout image place room) _ noRow (λ none. other (rw none))
+row-carries layout image directory place room other = unless-met (entryTests layout image directory place room) _ noRow (λ none. other (rw none))
 
 -- 7 is the number of a name that is wrong, and of no other ground: where that number is the first, a name is
 unfoldable Only : Bool → Type 0 → Type 0
@@ -163,17 +163,22 @@ load-carries name report wrong =
     (λ some other. (some, other))
 
 -- so with 7 a name of the call is wrong: of a change
-change-sevens : (change : Change) (image name : List ℕ) → Sevens (Misnamed (namesOf name change)) (ground 7 (IsName name → ⊥) ∷ changeGrounds change image name)
+change-sevens : (change : Change) (image : List ℕ) (i : ℕ) (name : List ℕ) (wrong : Type 0) → Sevens wrong (changeGrounds change image i name)
 unfolding Sevens Only changeGrounds
-change-sevens (call.create status recordLength recordsPerSector) image name = ((λ wrong. wrong), (tt, (tt, (tt, (tt, tt)))))
-change-sevens (call.append bytes) image name = ((λ wrong. wrong), (tt, (tt, (tt, (tt, (tt, (tt, tt)))))))
-change-sevens (call.overwrite offset bytes) image name = ((λ wrong. wrong), (tt, (tt, (tt, (tt, (tt, tt))))))
-change-sevens call.protect image name = ((λ wrong. wrong), (tt, tt))
-change-sevens call.unprotect image name = ((λ wrong. wrong), (tt, tt))
-change-sevens call.clear image name = ((λ wrong. wrong), (tt, tt))
-change-sevens (call.store bytes) image name = ((λ wrong. wrong), (tt, (tt, (tt, (tt, (tt, tt))))))
-change-sevens call.delete image name = ((λ wrong. wrong), (tt, (tt, tt)))
-change-sevens (call.rename new) image name = (inl, (inr, (tt, (tt, (tt, tt)))))
+change-sevens (call.create status recordLength recordsPerSector) image i name wrong = (tt, (tt, (tt, (tt, tt))))
+change-sevens (call.append bytes) image i name wrong = (tt, (tt, (tt, (tt, (tt, (tt, tt))))))
+change-sevens (call.overwrite offset bytes) image i name wrong = (tt, (tt, (tt, (tt, (tt, tt)))))
+change-sevens call.protect image i name wrong = (tt, tt)
+change-sevens call.unprotect image i name wrong = (tt, tt)
+change-sevens call.clear image i name wrong = (tt, tt)
+change-sevens (call.store bytes) image i name wrong = (tt, (tt, (tt, (tt, (tt, tt)))))
+change-sevens call.delete image i name wrong = (tt, (tt, tt))
+change-sevens (call.rename new) image i name wrong = (tt, (tt, (tt, tt)))
+
+name-sevens : (names : Names) (more : List {1} Ground) → Sevens (Misnamed names) more → Sevens (Misnamed names) (nameGrounds names more)
+unfolding Sevens Only
+name-sevens (call.one name) more sevens = ((λ wrong. wrong), sevens)
+name-sevens (call.both old new) more sevens = (inl, (inr, sevens))
 
 -- of a look that takes a name
 look-carries : (layout : Layout) {form : Form} (look : Look form) (buffer image : List ℕ) → First (numberIn form (seen layout look buffer image .answer)) (faults layout image ++ lookGrounds layout look buffer image)
@@ -182,27 +187,27 @@ unfolding seen lookGrounds Sevens Only
 look-carries layout call.judge buffer image first = tt
 look-carries layout call.freeCount buffer image first = amount-carries _
 look-carries layout call.summarize buffer image first = summary-carries layout image
-look-carries layout (call.entry place) buffer image first = (answer-carries _, row-carries layout image place (length buffer))
-look-carries layout (call.read name offset) buffer image first =
-    let number = readOf layout image name offset (length buffer) .number in
+look-carries layout (call.entry directory place) buffer image first = (answer-carries _, row-carries layout image directory place (length buffer))
+look-carries layout (call.read directory name offset) buffer image first =
+    let number = readOf layout image directory name offset (length buffer) .number in
     named-carries (call.one name) number
-    (λ seven. first-seven (IsName name → ⊥) _ _ (faults-seven layout _ image _ ((λ wrong. wrong), (tt, (tt, (tt, tt))))) (named-number (call.one name) number ∙ seven) first)
-look-carries layout (call.load name) buffer image first =
-    let report = loadOf layout image name (length buffer) in
+    (λ seven. first-seven (IsName name → ⊥) _ _ (faults-seven layout _ image _ ((λ wrong. wrong), (tt, (tt, (tt, (tt, tt)))))) (named-number (call.one name) number ∙ seven) first)
+look-carries layout (call.load directory name) buffer image first =
+    let report = loadOf layout image directory name (length buffer) in
     load-carries name report
-    (λ seven. first-seven (IsName name → ⊥) _ _ (faults-seven layout _ image _ ((λ wrong. wrong), (tt, (tt, (tt, tt))))) (loaded-number (wrongPlace name) report ∙ seven) first)
-look-carries layout call.list buffer image first = amount-carries _
+    (λ seven. first-seven (IsName name → ⊥) _ _ (faults-seven layout _ image _ ((λ wrong. wrong), (tt, (tt, (tt, (tt, tt)))))) (loaded-number (wrongPlace name) report ∙ seven) first)
+look-carries layout (call.list directory) buffer image first = amount-carries _
 look-carries layout call.pack buffer image first = answer-carries _
 
 -- each call
 pub carried : (layout : Layout) (c : Call) (image : List ℕ) → First (numberOf (ours layout) c image) (grounds (ruleOf layout c) c image) → Carries (formOf c) (ours layout c image .answer)
 unfolding ours grounds Sevens Only
 carried layout (call.look look buffer) image first = look-carries layout look buffer image first
-carried layout (call.change name change) image first =
+carried layout (call.change directory name change) image first =
     let names = namesOf name change in
-    let number = outcome layout change image name .number in
+    let number = outcome layout change image directory name .number in
     named-carries names number
-    (λ seven. first-seven (Misnamed names) _ _ (faults-seven (changeRule layout change) _ image _ (change-sevens change image name)) (named-number names number ∙ seven) first)
+    (λ seven. first-seven (Misnamed names) _ _ (faults-seven (changeRule layout change) _ image _ (name-sevens names _ (tt, change-sevens change image _ name _))) (named-number names number ∙ seven) first)
 carried layout (call.format n name geometry) image first =
     let number = formatNumber image n name in
     named-carries (call.one name) number

@@ -8,7 +8,8 @@ use native.Mathlib.Omega.{arith}
 use native.Mathlib.Decide.{ℕ-discrete}
 use lib.ListN.{length}
 use Rattle.rules.specs.Sectors.{sectorCount}
-use Rattle.rules.specs.Volume.{catalogue}
+use Rattle.rules.specs.Volume.{indexAt, catalogues}
+use Rattle.rules.specs.Calls.Pack.{together}
 use Rattle.rules.specs.Sound.{Sound}
 use Rattle.rules.specs.Verdict.{verdict}
 use Rattle.rules.specs.declared.Layout.{Layout}
@@ -36,7 +37,7 @@ use Rattle.demands.proofs.Demand2.{demand2}
 use Rattle.demands.proofs.Formatting.{formats-one}
 use Rattle.demands.proofs.Lines.{lists-one}
 use Rattle.demands.proofs.PackedOne.{packs-one}
-use Rattle.demands.proofs.Touched.{touches-one}
+use Rattle.demands.proofs.Touched.{directory-there, touches-one}
 use Rattle.demands.proofs.Unique.{same-result}
 
 -- the first ground fixes the number
@@ -147,24 +148,24 @@ refused-one (call.named names) a b e some p q = named-one names a b e p q
 refused-one (call.loaded name) a b e some p q = loaded-one name a b e some p q
 
 -- a look that was done, by what it shows
-free-one : (image : List ℕ) (a b : ℕ) → FreeIs image a → FreeIs image b → a ≡ b
-free-one image a b one two = omega (arith, one .is, two .is)
+free-one : (layout : Layout) (image : List ℕ) (a b : ℕ) → FreeIs layout image a → FreeIs layout image b → a ≡ b
+free-one layout image a b one two = omega (arith, one .is, two .is)
 
 shown-one : (layout : Layout) {form : Form} (look : Look form) (buffer image : List ℕ) → Sound layout image → (r r′ : Result form) → numberIn form (r .answer) ≡ numberIn form (r′ .answer)
     → Carries form (r .answer) → Carries form (r′ .answer) → Shows layout look buffer image r → Shows layout look buffer image r′ → (r .answer ≡ r′ .answer) × (r .buffer ≡ r′ .buffer)
 unfolding Shows
 shown-one layout call.judge buffer image is r r′ e p q s t = (e, s ∙ sym t)
 shown-one layout call.freeCount buffer image is r r′ e p q s t =
-    (s .0 .is ∙ ap amounts.Given (free-one image (s .0 .free) (t .0 .free) (s .0 .count) (t .0 .count)) ∙ sym (t .0 .is), s .1 ∙ sym (t .1))
+    (s .0 .is ∙ ap amounts.Given (free-one layout image (s .0 .free) (t .0 .free) (s .0 .count) (t .0 .count)) ∙ sym (t .0 .is), s .1 ∙ sym (t .1))
 shown-one layout call.summarize buffer image is r r′ e p q s t = (
-  s .0 .is ∙ ap (summaries.Given (sectorCount image) (length (catalogue image))) (free-one image (s .0 .free) (t .0 .free) (s .0 .count) (t .0 .count)) ∙ sym (t .0 .is),
+  s .0 .is ∙ ap (summaries.Given (sectorCount image) (length (together (catalogues layout image)))) (free-one layout image (s .0 .free) (t .0 .free) (s .0 .count) (t .0 .count)) ∙ sym (t .0 .is),
   s .1 ∙ sym (t .1),
 )
-shown-one layout (call.entry place) buffer image is r r′ e p q s t = (s .0 ∙ sym (t .0), s .1 ∙ sym (t .1))
-shown-one layout (call.read name offset) buffer image is r r′ e p q s t = (named-one (call.one name) (r .answer) (r′ .answer) e p q, s ∙ sym t)
-shown-one layout (call.load name) buffer image is r r′ e p q s t = (s .0 ∙ sym (t .0), s .1 ∙ sym (t .1))
-shown-one layout call.list buffer image is r r′ e p q s t =
-    let same = lists-one layout image (s .text) (t .text) (s .lists) (t .lists) in
+shown-one layout (call.entry directory place) buffer image is r r′ e p q s t = (s .0 ∙ sym (t .0), s .1 ∙ sym (t .1))
+shown-one layout (call.read directory name offset) buffer image is r r′ e p q s t = (named-one (call.one name) (r .answer) (r′ .answer) e p q, s ∙ sym t)
+shown-one layout (call.load directory name) buffer image is r r′ e p q s t = (s .0 ∙ sym (t .0), s .1 ∙ sym (t .1))
+shown-one layout (call.list directory) buffer image is r r′ e p q s t =
+    let same = lists-one layout image (indexAt layout image directory) (s .text) (t .text) (s .lists) (t .lists) in
     (s .is ∙ rw same (sym (t .is)), s .put ∙ rw same (sym (t .put)))
 shown-one layout call.pack buffer image is r r′ e p q s t = (answer-one (r .answer) (r′ .answer) e p q, packs-one layout image (r .buffer) (r′ .buffer) is (s .1) (t .1))
 
@@ -198,14 +199,15 @@ module _ (layout : Layout) (v w : Version) (meets : Demand2 layout v) (meets′ 
       (meets .means c image is zero) (meets′ .means c image is (sym (number-one c) ∙ zero))
       in
       result-one c (shown .0) (shown .1) (meets .frame c image is ∙ sym (meets′ .frame c image is))
-  done (call.change name change) zero =
-      let c = call.change name change in
+  done (call.change directory name change) zero =
+      let c = call.change directory name change in
+      let rule = changeRule layout change in
       let is = done-sound (changeRule layout change) image (numberOf v c image) _ zero (meets .progress c image) in
       let first = meets .means c image is zero in
       let second = meets′ .means c image is (sym (number-one c) ∙ zero) in
       result-one c (named-one (namesOf name change) (v c image .answer) (w c image .answer) (number-one c) (meets .carries c image) (meets′ .carries c image))
       (nothing-one (v c image .buffer) (w c image .buffer) (meets .lengths c image .1) (meets′ .lengths c image .1))
-      (touches-one (changeRule layout change) image (v c image .image) (w c image .image) name _ (first .0) (second .0) is change (first .1) (second .1))
+      (touches-one rule image (v c image .image) (w c image .image) (indexAt rule image directory) name _ (first .0) (second .0) is (directory-there rule directory name change image (numberOf v c image) zero (meets .progress c image)) change (first .1) (second .1))
   done (call.format n name geometry) zero =
       let c = call.format n name geometry in
       let first = meets .formats n name geometry image zero in

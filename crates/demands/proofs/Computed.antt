@@ -16,13 +16,14 @@ use Rattle.rules.specs.Chain.{blockBytes, blockOf, endsChain, blocks, blocksRul
 use Rattle.rules.specs.Kind.{allowedBits, within, statusRule, marking, programLength, kindOf, kindRule}
 use Rattle.rules.specs.Descriptor.{nameOf, chainOf, fileKind, descriptorRule, newDescriptor, withChain, markedBy}
 use Rattle.rules.specs.Index.{numbers, rangeRule, indexRule, numbersBytes, indexOf, without}
-use Rattle.rules.specs.Volume.{files, nameIn, placesIn, fileHolders, holders, placed, headerIn, contentsIn, fileIn, catalogue}
-use Rattle.rules.specs.Calls.Pack.{labelArea, oneBlock, packedDescriptor, packedDescriptors, packedData, dataSectors, packedSectors, packed}
+use Rattle.rules.specs.Volume.{directories, indexAt, present, indexes, every, filesIn, filesOf, nameIn, placesIn, fileHolders, holders, placed, headerIn, contentsIn, fileIn, catalogue, catalogues}
+use Rattle.rules.specs.Directory.{entries, entryName, isAbsent, isNamed, entryRule, entriesRule}
+use Rattle.rules.specs.Calls.Pack.{withIndexes, labelArea, newIndexes, packedLabel, together, packedIndexes, oneBlock, packedDescriptor, packedDescriptors, packedData, dataSectors, packedSectors, packed}
 use Rattle.rules.specs.Verdict.{sizeRule, descriptorsRule, heldTwice, volumeTests, verdict}
 use Rattle.rules.specs.Choice.{lowestFree, descriptorChoice, dataChoice, dataChoices}
 use Rattle.rules.specs.Tests.{firstOf, unlessMet}
 use Rattle.rules.specs.Outcome.{ifWrong}
-use Rattle.rules.specs.Opening.{findIn, onSound, underName, openOf, changing, adding}
+use Rattle.rules.specs.Opening.{findFrom, findIn, inDirectory, onSound, underName, openOf, changing, adding}
 use Rattle.rules.specs.Calls.Format.{newLabel, formatted}
 use Rattle.rules.specs.Calls.Create.{createStatus, entered, createTests, creating, createOf}
 use Rattle.rules.specs.Calls.Append.{longerBlocks, appendTests, appendWrites, appending, appendOf}
@@ -43,43 +44,45 @@ abbrev pub secondSector : List ℕ
 secondSector = replicate 256 0x43
 
 -- the table with the sectors 0 of the empty volumes as they are known to be
-abbrev pub rows : List ℕ → List Case
-rows m = tableOf (newLabel 35 diskX geometry ++ mapOf 35 (0 ∷ (1 ∷ []))) (newLabel 360 diskX geometry ++ mapOf 360 (0 ∷ (1 ∷ []))) m
+abbrev pub rows : Layout → List ℕ → List Case
+rows layout m = tableOf layout (newLabel 35 diskX geometry ++ mapOf 35 (0 ∷ (1 ∷ []))) (newLabel 360 diskX geometry ++ mapOf 360 (0 ∷ (1 ∷ []))) m
 
 unfoldable ready : (layout : Layout) → List ℕ → Bool
-ready layout m = eqb (verdict layout m) 0 && (eqb (appendOf layout m notes secondSector .number) 0 && ltb 0 (length (named notes (catalogue m) .contents)))
+ready layout m = eqb (verdict layout m) 0 && (eqb (appendOf layout m 0 notes secondSector .number) 0 && ltb 0 (length (named notes (catalogue m 1) .contents)))
 
 unfoldable tests : (layout : Layout) → List ℕ → Bool
-tests layout m = holds (rows m) && (same (listingText layout m) (printed layout) && ready layout m)
+tests layout m = holds (rows layout m) && (same (listingText layout m 1) (printed layout) && ready layout m)
 
 -- what the tests say of an image that passes them
 pub record Shown (layout : Layout) (m : List ℕ) : Type 0 where
-  pub tabled : holds (rows m) ≡ true
-  pub listed : same (listingText layout m) (printed layout) ≡ true
+  pub tabled : holds (rows layout m) ≡ true
+  pub listed : same (listingText layout m 1) (printed layout) ≡ true
   pub judged : verdict layout m ≡ 0
-  pub appended : appendOf layout m notes secondSector .number ≡ 0
-  pub held : 1 ≤ length (named notes (catalogue m) .contents)
+  pub appended : appendOf layout m 0 notes secondSector .number ≡ 0
+  pub held : 1 ≤ length (named notes (catalogue m 1) .contents)
 
 passed : (layout : Layout) (m : List ℕ) → tests layout m ≡ true → Shown layout m
 unfolding tests ready
 passed layout m e =
-    let first = both (holds (rows m)) (same (listingText layout m) (printed layout) && ready layout m) e in
-    let next = both (same (listingText layout m) (printed layout)) (ready layout m) (first .1) in
-    let sound = both (eqb (verdict layout m) 0) (eqb (appendOf layout m notes secondSector .number) 0 && ltb 0 (length (named notes (catalogue m) .contents))) (next .1) in
-    let last = both (eqb (appendOf layout m notes secondSector .number) 0) (ltb 0 (length (named notes (catalogue m) .contents))) (sound .1) in
+    let first = both (holds (rows layout m)) (same (listingText layout m 1) (printed layout) && ready layout m) e in
+    let next = both (same (listingText layout m 1) (printed layout)) (ready layout m) (first .1) in
+    let sound = both (eqb (verdict layout m) 0) (eqb (appendOf layout m 0 notes secondSector .number) 0 && ltb 0 (length (named notes (catalogue m 1) .contents))) (next .1) in
+    let last = both (eqb (appendOf layout m 0 notes secondSector .number) 0) (ltb 0 (length (named notes (catalogue m 1) .contents))) (sound .1) in
     record {
       tabled = first .0;
       listed = next .0;
       judged = eqb-true (verdict layout m) 0 (sound .0);
-      appended = eqb-true (appendOf layout m notes secondSector .number) 0 (last .0);
-      held = ltb-true 0 (length (named notes (catalogue m) .contents)) (last .1);
+      appended = eqb-true (appendOf layout m 0 notes secondSector .number) 0 (last .0);
+      held = ltb-true 0 (length (named notes (catalogue m 1) .contents)) (last .1);
     }
 
--- by either rule
-all-pass : (marks : Bool) → tests (record { marks = marks }) (caseM (record { marks = marks })) ≡ true
-unfolding headerIn contentsIn fileIn catalogue joined labelArea oneBlock packedDescriptor packedDescriptors packedData dataSectors packedSectors packed same holds tableOf caseM over splice allAre withBit sectorOf written nameByte padded nameRule precedes labelRule mapBit count taken bitsRule mapRule byteOf bytesOf mapOf zeroBits freeCount marked markedAll blockBytes blockOf endsChain blocks blocksRule chainRule run placesFrom places extended extendedAll blocksBytes allowedBits within statusRule marking programLength kindOf kindRule nameOf chainOf fileKind descriptorRule newDescriptor withChain markedBy numbers rangeRule indexRule numbersBytes indexOf without files nameIn placesIn fileHolders holders placed sizeRule descriptorsRule heldTwice volumeTests verdict firstOf unlessMet lowestFree descriptorChoice dataChoice dataChoices wrongFrom wrongPlace ifWrong findIn onSound underName openOf changing adding newLabel formatted createStatus entered createTests creating createOf longerBlocks appendTests appendWrites appending appendOf dataWrites newSectors newBlocks storeTests storing storeOf digits decimal unpadded kindWord kindLength diskLine markField fileLine fileLines listingText named tests ready
-all-pass true = refl
-all-pass false = refl
+-- by either rule, in either edition
+all-pass : (marks directories : Bool) → tests (record { marks = marks; directories = directories }) (caseM (record { marks = marks; directories = directories })) ≡ true
+unfolding headerIn contentsIn fileIn catalogue joined withIndexes labelArea newIndexes packedLabel together packedIndexes oneBlock packedDescriptor packedDescriptors packedData dataSectors packedSectors packed same holds tableOf caseM over splice allAre withBit sectorOf written nameByte padded nameRule precedes labelRule mapBit count taken bitsRule mapRule byteOf bytesOf mapOf zeroBits freeCount marked markedAll blockBytes blockOf endsChain blocks blocksRule chainRule run placesFrom places extended extendedAll blocksBytes allowedBits within statusRule marking programLength kindOf kindRule nameOf chainOf fileKind descriptorRule newDescriptor withChain markedBy numbers rangeRule indexRule numbersBytes indexOf without entries entryName isAbsent isNamed entryRule entriesRule directories indexAt present indexes every filesIn filesOf catalogues nameIn placesIn fileHolders holders placed sizeRule descriptorsRule heldTwice volumeTests verdict firstOf unlessMet lowestFree descriptorChoice dataChoice dataChoices wrongFrom wrongPlace ifWrong findFrom findIn inDirectory onSound underName openOf changing adding newLabel formatted createStatus entered createTests creating createOf longerBlocks appendTests appendWrites appending appendOf dataWrites newSectors newBlocks storeTests storing storeOf digits decimal unpadded kindWord kindLength diskLine markField fileLine fileLines listingText named tests ready
+all-pass true true = refl
+all-pass true false = refl
+all-pass false true = refl
+all-pass false false = refl
 
 pub computed : (layout : Layout) → Shown layout (caseM layout)
-computed layout = passed layout (caseM layout) (all-pass (layout .marks))
+computed layout = passed layout (caseM layout) (all-pass (layout .marks) (layout .directories))

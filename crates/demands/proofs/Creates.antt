@@ -13,7 +13,7 @@ use Rattle.rules.specs.Map.{freeCount, marked, markedAll}
 use Rattle.rules.specs.Chain.{extendedAll}
 use Rattle.rules.specs.Kind.{allowedBits, marking, kindOf, IsStatus, IsKind}
 use Rattle.rules.specs.Descriptor.{newDescriptor}
-use Rattle.rules.specs.Volume.{files, catalogue}
+use Rattle.rules.specs.Volume.{filesIn, catalogue}
 use Rattle.rules.specs.Choice.{descriptorChoice}
 use Rattle.rules.specs.Tests.{Passed}
 use Rattle.rules.specs.Opening.{openOf}
@@ -25,14 +25,14 @@ use Rattle.rules.proofs.Name.{name-is}
 use Rattle.rules.proofs.Map.{only-one, one-once}
 use Rattle.rules.proofs.Marks.{HoldsFour, allowed-four, marking-status, marking-kind, records-status}
 use Rattle.rules.proofs.Choice.{Chosen, sound-fenced, descriptor-choice-free}
-use Rattle.rules.proofs.Opening.{IsAbsent, absent-is, open-refused, added-done}
+use Rattle.rules.proofs.Opening.{IsAbsent, absent-at, open-refused, added-done}
 use Rattle.demands.specs.Catalogue.{putIn}
 use Rattle.demands.specs.Call.{create}
 use Rattle.demands.specs.Ours.{outcome}
 use Rattle.demands.specs.Grounds.{CreateStatus}
 use Rattle.demands.specs.Effects.{effect, Done, newHeader, pieces}
 use Rattle.demands.specs.Taking.{Takes}
-use Rattle.demands.specs.Touches.{Enters, Touches}
+use Rattle.demands.specs.Touches.{Enters, TouchesIn}
 use Rattle.demands.specs.Does.{Does}
 use Rattle.demands.proofs.NewFile.{new-is}
 use Rattle.demands.proofs.Taking.{descriptor-lowest}
@@ -73,33 +73,35 @@ kind-rules : (c endOffset recordLength status : ℕ) → CreateStatus status →
 unfolding kindOf IsKind
 kind-rules c endOffset recordLength = by-status (λ (status : ℕ). IsKind (kindOf status c endOffset recordLength) c endOffset) tt tt tt tt
 
-module _ (layout : Layout) (image name : List ℕ) (status recordLength recordsPerSector : ℕ) where
+module _ (layout : Layout) (image : List ℕ) (i : ℕ) (name : List ℕ) (status recordLength recordsPerSector : ℕ) where
   abbrev k : ℕ
   k = descriptorChoice (sectorOf image 0)
 
   abbrev writes : List Write
-  writes = entered image name k (newDescriptor name (marking layout status) recordsPerSector 0 recordLength) (marked 1 (sectorOf image 0) k)
+  writes = entered image i name k (newDescriptor name (marking layout status) recordsPerSector 0 recordLength) (marked 1 (sectorOf image 0) k)
 
-  module _ (absent : IsAbsent layout image name) (allowed : CreateStatus status) (place : length (files image) < 127) (room : 1 ≤ freeCount (sectorOf image 0)) where
+  module _ (absent : IsAbsent layout image name i) (allowed : CreateStatus status) (place : length (filesIn image i) < 127) (room : 1 ≤ freeCount (sectorOf image 0)) where
     chosen : Chosen (sectorCount image) (sectorOf image 0) k
     chosen = descriptor-choice-free (sectorCount image) (sectorOf image 0) (sound-fenced layout image (absent .whole)) room
 
     created-done :
         let after = written image writes in
-        Done layout image after name (effect (putIn (record { header = newHeader name (marking layout status) recordsPerSector 0 0 recordLength; contents = [] }) (catalogue image)) 1 0) × Enters image after name 0
+        Done layout image after i name (effect (putIn (record { header = newHeader name (marking layout status) recordsPerSector 0 0 recordLength; contents = [] }) (catalogue image i)) 1 0) × Enters image after i name 0
     unfolding markedAll dataWrites pieces extendedAll Takes
     created-done =
-        new-file-done layout image name [] k [] (marking layout status) recordsPerSector 0 recordLength absent place (one-once k) (λ j some. rw (← only-one k j some) chosen) (omega arith) (omega arith)
+        new-file-done layout image i name [] k [] (marking layout status) recordsPerSector 0 recordLength absent place (one-once k) (λ j some. rw (← only-one k j some) chosen) (omega arith) (omega arith)
         (marking-status layout status (status-rules (allowedBits layout) (allowed-four layout) status allowed)) (rw (marking-kind layout status 0 0 recordLength) (kind-rules 0 0 recordLength status allowed))
         (newDescriptor name (marking layout status) recordsPerSector 0 recordLength) (new-is name (marking layout status) recordsPerSector 0 recordLength (name-is name (absent .rule) .ten))
         (descriptor-lowest layout image (absent .whole) room) refl
 
 pub creates : (layout : Layout) (status recordLength recordsPerSector : ℕ) → Does layout (create status recordLength recordsPerSector)
-unfolding outcome createOf creating createTests Passed Touches
-creates layout status recordLength recordsPerSector image name e =
-    let added = added-done (openOf layout image name) (creating layout image name status recordLength recordsPerSector) (open-refused layout image name) e in
-    let tests = createTests image status in
+unfolding outcome createOf creating createTests Passed TouchesIn
+creates layout status recordLength recordsPerSector image directory name e =
+    let added = added-done (openOf layout image directory name) (creating layout image name status recordLength recordsPerSector) (open-refused layout image directory name) e in
+    let i = added .index in
+    let tests = createTests image status i in
     let passed = all-passed tests (added .number) in
-    rw (added .is, unless-passed tests (writes layout image name status recordLength recordsPerSector) [] (added .number))
-    (created-done layout image name status recordLength recordsPerSector (absent-is layout image name (added .absent)) (status-among status (not-false _ (passed .0)))
-    (leb-false 127 (length (files image)) (passed .1 .0)) (ltb-false (freeCount (sectorOf image 0)) 1 (passed .1 .1 .0)))
+    let absent = absent-at layout image directory name i (added .absent) in
+    rw (added .is, unless-passed tests (writes layout image i name status recordLength recordsPerSector) [] (added .number), absent .0)
+    (created-done layout image i name status recordLength recordsPerSector (absent .1) (status-among status (not-false _ (passed .0)))
+    (leb-false 127 (length (filesIn image i)) (passed .1 .0)) (ltb-false (freeCount (sectorOf image 0)) 1 (passed .1 .1 .0)))

@@ -1,15 +1,16 @@
 -- Packing meets demand 3. The number is read off its two tests; the rest follows from what the packed image of a sound volume keeps, since the bytes are a function of
--- label area and catalogue: the label area holds n, in bytes 10 and 11. Two versions that meet it do the same: numbers and refusals are fixed, and the laid down form is one.
+-- label area and catalogues: the label area holds n, in bytes 10 and 11. Two versions that meet it do the same: numbers and refusals are fixed, and the laid down form is one.
 use mathlib.Core.Path.{_≡_, refl, sym, ap, _∙_}
 use mathlib.Core.List.{List}
 use Prim.Native.Nat.{ℕ}
 use native.Mathlib.Omega.{arith}
 use native.Mathlib.Decide.{ℕ-discrete}
-use lib.ListN.{length}
+use lib.ListN.{length, length-map}
 use borrow.Author.Tests.{not-false, eq-eqb, ne-eqb, eqb-true}
 use Rattle.rules.specs.Bytes.{wordAt}
-use Rattle.rules.specs.Sectors.{sectorCount}
-use Rattle.rules.specs.Volume.{File, catalogue}
+use Rattle.rules.specs.Sectors.{sectorOf, sectorCount}
+use Rattle.rules.specs.Directory.{entries, entryIndex}
+use Rattle.rules.specs.Volume.{File, catalogues}
 use Rattle.rules.specs.Tests.{firstOf, Passed}
 use Rattle.rules.specs.Verdict.{volumeTests, verdict}
 use Rattle.rules.specs.Sound.{Sound}
@@ -17,9 +18,10 @@ use Rattle.rules.specs.Calls.Pack.{labelArea, packed, packTests, packNumber, af
 use Rattle.rules.specs.declared.Layout.{Layout}
 use Rattle.rules.proofs.Tests.{all-passed, none-met, passed-both, unless-passed, unless-met}
 use Rattle.rules.proofs.Verdict.{sound, passes, unsound-first, sound-first}
+use Rattle.rules.proofs.Pack.{label-byte, label-again}
 use Rattle.demands.specs.Packing.{Packs}
 use Rattle.demands.specs.Demand3.{Packed, Packer, Packable, Demand3, OnePacking, packs}
-use Rattle.demands.proofs.PackedSound.{label-byte, packedImage, packed-sound, laid-packs}
+use Rattle.demands.proofs.PackedSound.{packedImage, packed-sound, laid-packs}
 use Rattle.demands.proofs.PackedOne.{packs-one}
 
 -- the number
@@ -46,7 +48,7 @@ module _ (layout : Layout) (source target : List ℕ) where
       }
 
   -- the target afterwards
-  after-packed : Packable layout source target → afterPack layout source target ≡ packedImage source
+  after-packed : Packable layout source target → afterPack layout source target ≡ packedImage layout source
   unfolding afterPack
   after-packed can = unless-passed (packTests layout source target) _ target (packable-number can)
 
@@ -54,34 +56,34 @@ module _ (layout : Layout) (source target : List ℕ) where
   unfolding afterPack
   after-refused not = unless-met (packTests layout source target) _ target not
 
--- label area and catalogue determine the packed bytes
-sectors-labelled : (layout : Layout) (source : List ℕ) (is : Sound layout source) → wordAt (labelArea source) 10 ≡ sectorCount source
-sectors-labelled layout source is = omega (arith, label-byte source 10 (omega arith), label-byte source 11 (omega arith), is .label .count)
+-- label area and catalogues determine the packed bytes
+sectors-labelled : (layout : Layout) (source : List ℕ) (is : Sound layout source) → wordAt (labelArea layout source) 10 ≡ sectorCount source
+sectors-labelled layout source is = omega (arith, label-byte layout source is 10 (omega arith), label-byte layout source is 11 (omega arith), is .label .count)
 
-same-packed : (n n′ : ℕ) (label label′ : List ℕ) (files files′ : List File) → n ≡ n′ → label ≡ label′ → files ≡ files′ → packed n label files ≡ packed n′ label′ files′
-same-packed n n′ label label′ files files′ p q r = rw (p, q, r)
+same-packed : (layout : Layout) (n n′ : ℕ) (label label′ : List ℕ) (all all′ : List (List File)) → n ≡ n′ → label ≡ label′ → all ≡ all′ → packed layout n label all ≡ packed layout n′ label′ all′
+same-packed layout n n′ label label′ all all′ p q r = rw (p, q, r)
 
-packed-form : (layout : Layout) (first second : List ℕ) (is : Sound layout first) (is′ : Sound layout second) → labelArea first ≡ labelArea second → catalogue first ≡ catalogue second
-    → packedImage first ≡ packedImage second
+packed-form : (layout : Layout) (first second : List ℕ) (is : Sound layout first) (is′ : Sound layout second) → labelArea layout first ≡ labelArea layout second
+    → catalogues layout first ≡ catalogues layout second → packedImage layout first ≡ packedImage layout second
 packed-form layout first second is is′ label listed =
-    same-packed (sectorCount first) (sectorCount second) (labelArea first) (labelArea second) (catalogue first) (catalogue second)
+    same-packed layout (sectorCount first) (sectorCount second) (labelArea layout first) (labelArea layout second) (catalogues layout first) (catalogues layout second)
     (sym (sectors-labelled layout first is) ∙ ap (λ (l : List ℕ). wordAt l 10) label ∙ sectors-labelled layout second is′) label listed
 
 module _ (layout : Layout) (source target : List ℕ) (can : Packable layout source target) where
   after-sound : Sound layout (afterPack layout source target)
   after-sound = rw (after-packed layout source target can) (packed-sound layout source (can .sound))
 
-  after-laid : Packs source (afterPack layout source target)
+  after-laid : Packs layout source (afterPack layout source target)
   after-laid = rw (after-packed layout source target can) (laid-packs layout source (can .sound))
 
-  after-label : labelArea (afterPack layout source target) ≡ labelArea source
-  unfolding labelArea
-  after-label = after-laid .label
+  after-label : labelArea layout (afterPack layout source target) ≡ labelArea layout source
+  after-label = label-again layout source (afterPack layout source target) _ (length-map (entries layout (sectorOf (afterPack layout source target) 0)) entryIndex) (after-laid .label)
 
   after-packable : (other : List ℕ) → length other ≡ length source → Packable layout (afterPack layout source target) other
   after-packable other long = record { sound = after-sound; long = long ∙ sym (after-laid .size) }
 
-after-form : (layout : Layout) (first second target other : List ℕ) → Packable layout first target → Packable layout second other → labelArea first ≡ labelArea second → catalogue first ≡ catalogue second
+after-form : (layout : Layout) (first second target other : List ℕ) → Packable layout first target → Packable layout second other → labelArea layout first ≡ labelArea layout second
+    → catalogues layout first ≡ catalogues layout second
     → afterPack layout first target ≡ afterPack layout second other
 after-form layout first second target other can can′ label listed =
     after-packed layout first target can ∙ packed-form layout first second (can .sound) (can′ .sound) label listed ∙ sym (after-packed layout second other can′)
@@ -101,8 +103,8 @@ packing-demand layout =
           (packable-number layout (afterPack layout source target) other next, after-form layout (afterPack layout source target) source other target next can (after-label layout source target can) (after-laid layout source target can .listed));
       form = λ first second target other can can′. (
         (λ e. (
-          sym (after-label layout first target can) ∙ ap labelArea e ∙ after-label layout second other can′,
-          sym (after-laid layout first target can .listed) ∙ ap catalogue e ∙ after-laid layout second other can′ .listed,
+          sym (after-label layout first target can) ∙ ap (labelArea layout) e ∙ after-label layout second other can′,
+          sym (after-laid layout first target can .listed) ∙ ap (catalogues layout) e ∙ after-laid layout second other can′ .listed,
         )),
         (λ both. after-form layout first second target other can can′ (both .0) (both .1)),
       );

@@ -1,4 +1,4 @@
--- The file of a name, in the catalogue and in sector 1. No other file has its name, so a number put in, taken out or found among the files is that file put in, taken out or found in the
+-- The file of a name, in the catalogue and in its index. No other file has its name, so a number put in, taken out or found among the files is that file put in, taken out or found in the
 -- catalogue; and where one file is changed, the catalogue has that one changed.
 use mathlib.Core.Path.{_≡_, refl, ap, sym, _∙_}
 use mathlib.Core.Bool.{Bool, true, false, cond}
@@ -10,10 +10,10 @@ use native.Mathlib.Decide.{ℕ-discrete}
 use Rattle.rules.specs.Name.{precedes}
 use Rattle.rules.specs.Map.{count}
 use Rattle.rules.specs.Descriptor.{nameOf}
-use Rattle.rules.specs.Volume.{File, nameIn, fileIn, placed, files, catalogue}
+use Rattle.rules.specs.Volume.{File, nameIn, fileIn, placed, filesIn, catalogue}
 use Rattle.rules.specs.Bytes.{same}
 use Rattle.rules.specs.Index.{without}
-use Rattle.rules.specs.Sound.{Sound, fileAt}
+use Rattle.rules.specs.Sound.{fileAt, IsIndexed, Sound}
 use Rattle.rules.specs.declared.Layout.{Layout}
 use Rattle.rules.proofs.Map.{count-here, count-more, count-none, count-other}
 use Rattle.rules.proofs.Volume.{get-mapped, header-name}
@@ -24,9 +24,9 @@ use Rattle.rules.proofs.Listed.{listed-name}
 use Rattle.demands.specs.Catalogue.{fileName, noFile, fileOf, putIn, takenOut, changed, named}
 
 -- the file at a place of the catalogue
-pub file-of : (image : List ℕ) (p : ℕ) → p < length (files image) → fileOf image p ≡ fileIn image (fileAt image p)
+pub file-of : (image : List ℕ) (i p : ℕ) → p < length (filesIn image i) → fileOf image i p ≡ fileIn image (fileAt image i p)
 unfolding catalogue
-file-of image p h = get-mapped (fileIn image) (files image) p 0 noFile h
+file-of image i p h = get-mapped (fileIn image) (filesIn image i) p 0 noFile h
 
 -- the name in the catalogue is the descriptor's: both are its first ten bytes
 pub file-name : (image : List ℕ) (k : ℕ) → fileName (fileIn image k) ≡ nameIn image k
@@ -97,6 +97,6 @@ module _ (image name : List ℕ) (k : ℕ) (is : name ≡ nameIn image k) where
       ]
 
 -- the file of that name in the catalogue of a sound volume
-pub named-file : (layout : Layout) (image name : List ℕ) (k : ℕ) → Sound layout image → 1 ≤ count k (files image) → name ≡ nameIn image k → named name (catalogue image) ≡ fileIn image k
+pub named-file : (layout : Layout) (image : List ℕ) (i : ℕ) (name : List ℕ) (k : ℕ) → Sound layout image → IsIndexed layout image i → 1 ≤ count k (filesIn image i) → name ≡ nameIn image k → named name (catalogue image i) ≡ fileIn image k
 unfolding catalogue
-named-file layout image name k sound there is = named-is image name k is (files image) there (λ j listed. listed-name layout image sound j k listed there)
+named-file layout image i name k sound indexed there is = named-is image name k is (filesIn image i) there (λ j listed. listed-name layout image sound i indexed j k listed there)

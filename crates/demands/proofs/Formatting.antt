@@ -1,10 +1,12 @@
--- A formatted volume is sound and its catalogue is empty: sector 0 is the new label and the map of sectors 0 and 1, sector 1 is zeros, so there are no files and no other holders.
+-- A formatted volume is sound and its catalogue is empty: sector 0 is the new label, with no entries, and the map of sectors 0 and 1; sector 1 is zeros, so there are no files and no other holders.
 use mathlib.Core.Path.{_≡_, refl, sym, ap, _∙_}
-use mathlib.Core.Bool.{true}
+use mathlib.Core.Bool.{Bool, true, false, cond}
 use mathlib.Core.List.{List, [], _∷_, _++_, append-assoc}
-use Prim.Native.Nat.{ℕ, _+_, _-_, _*_, _/_, _%_, _≤_, _<_}
+use Prim.Native.Nat.{ℕ, zero, suc, _+_, _-_, _*_, _/_, _%_, _≤_, _<_}
+use mathlib.Core.Logic.{inl}
 use native.Mathlib.Omega.{arith}
-use lib.ListN.{length, take, drop, replicate}
+use native.Mathlib.Decide.{decLt}
+use lib.ListN.{length, take, drop, getD, replicate, getD-replicate, List·getD-append, List·getD-eq-default}
 use lib.Seq.{take-at, drop-at, take-all, drop-drop, getD-append-add}
 use borrow.Author.Tests.{not-false, eqb-true}
 use Rattle.rules.specs.Bytes.{byteAt, wordAt, part}
@@ -13,16 +15,19 @@ use Rattle.rules.specs.Name.{nameRule, IsName}
 use Rattle.rules.specs.Label.{IsLabel}
 use Rattle.rules.specs.Map.{mapBit, taken, mapOf}
 use Rattle.rules.specs.Index.{numbers}
-use Rattle.rules.specs.Volume.{files, fileHolders, holders, catalogue}
+use Rattle.rules.specs.Volume.{indexes, filesIn, filesOf, fileHolders, holders, catalogue, catalogues}
 use Rattle.rules.specs.Verdict.{sizeRule}
-use Rattle.rules.specs.Sound.{Sound}
+use Rattle.rules.specs.Sound.{SoundIndex, Sound}
+use Rattle.rules.specs.Directory.{entries, IsAbsent}
 use Rattle.rules.specs.Calls.Format.{Geometry, newLabel, formatted, formatTests, formatNumber, afterFormat}
 use Rattle.rules.specs.Tests.{Passed}
 use Rattle.rules.specs.declared.Layout.{Layout}
 use Rattle.rules.proofs.Tests.{all-passed, unless-passed}
-use Rattle.rules.proofs.Bytes.{part-behind, part-and-rest}
+use Rattle.rules.proofs.Bytes.{part-short, part-at, part-behind, part-and-rest}
 use Rattle.rules.proofs.Name.{name-is}
-use Rattle.rules.proofs.Map.{taken-below, taken-past, map-of-bits}
+use Rattle.rules.proofs.Map.{only-one, taken-below, taken-past, map-of-bits}
+use Rattle.rules.proofs.Directory.{absent-no-entry}
+use Rattle.rules.proofs.Indexes.{only-root}
 use Rattle.rules.proofs.Verdict.{size-is, passes}
 use Rattle.rules.proofs.Formatted.{zero-index, system-once, map-length, label-length, sector0-length, formatted-parts, formatted-length, formatted-sector0, formatted-sector1}
 use Rattle.demands.specs.Formatting.{EmptyVolume, Formats}
@@ -60,13 +65,48 @@ module _ (n : ℕ) (name : List ℕ) (g : Geometry) (large : 3 ≤ n) (small : n
       map-of-bits n (0 ∷ (1 ∷ [])) (newLabel n name g ++ mapOf n (0 ∷ (1 ∷ []))) system-once
       (ap (take 200) (drop-at (newLabel n name g) (mapOf n (0 ∷ (1 ∷ []))) 56 long) ∙ take-all 200 (mapOf n (0 ∷ (1 ∷ []))) (omega (arith, map-length n (0 ∷ (1 ∷ [])))))
 
-  no-files : files (formatted n name g) ≡ []
-  unfolding files numbers
+  no-files : filesIn (formatted n name g) 1 ≡ []
+  unfolding filesIn numbers
   no-files = rw (formatted-sector1 n name g (named .ten))
 
-  new-holders : holders (formatted n name g) ≡ 0 ∷ (1 ∷ [])
-  unfolding holders fileHolders
-  new-holders = rw no-files
+  -- the label has no entries: bytes 20 to 55 are zeros
+  label-zeros : (i : ℕ) → i < 36 → byteAt (newLabel n name g ++ mapOf n (0 ∷ (1 ∷ []))) (20 + i) ≡ 0
+  unfolding newLabel
+  label-zeros i low =
+      let e : 20 + i ≡ 10 + (10 + i) = omega arith in
+      rw (append-assoc name (fields ++ replicate 36 0) (mapOf n (0 ∷ (1 ∷ []))), append-assoc fields (replicate 36 0) (mapOf n (0 ∷ (1 ∷ []))), e)
+      (rw (named .ten) at (getD-append-add name (fields ++ (replicate 36 0 ++ mapOf n (0 ∷ (1 ∷ [])))) (10 + i) 0)
+      ∙ getD-append-add fields (replicate 36 0 ++ mapOf n (0 ∷ (1 ∷ []))) i 0
+      ∙ List·getD-append (replicate 36 0) (mapOf n (0 ∷ (1 ∷ []))) 0 i low
+      ∙ getD-replicate 36 i 0 0 low)
+
+  absent-entry : (at : ℕ) → at + 12 ≤ 36 → IsAbsent (part (newLabel n name g ++ mapOf n (0 ∷ (1 ∷ []))) (20 + at) 12)
+  absent-entry at inside i =
+      elim (decLt i 12) [
+        | yes low ↦
+            let e : 20 + at + i ≡ 20 + (at + i) = omega arith in
+            part-at (newLabel n name g ++ mapOf n (0 ∷ (1 ∷ []))) (20 + at) 12 i low ∙ rw e (label-zeros (at + i) (omega arith))
+        | no past ↦ List·getD-eq-default (part (newLabel n name g ++ mapOf n (0 ∷ (1 ∷ []))) (20 + at) 12) 0 {n = i} (omega (arith, part-short (newLabel n name g ++ mapOf n (0 ∷ (1 ∷ []))) (20 + at) 12))
+      ]
+
+  no-entries : (layout : Layout) (d : ℕ) → IsAbsent (getD (entries layout (newLabel n name g ++ mapOf n (0 ∷ (1 ∷ [])))) d [])
+  unfolding entries
+  no-entries layout d = go (layout .directories) d
+    where
+      go : (t : Bool) (d : ℕ)
+          → IsAbsent (getD (cond t (part (newLabel n name g ++ mapOf n (0 ∷ (1 ∷ []))) 20 12 ∷ (part (newLabel n name g ++ mapOf n (0 ∷ (1 ∷ []))) 32 12 ∷ (part (newLabel n name g ++ mapOf n (0 ∷ (1 ∷ []))) 44 12 ∷ []))) []) d [])
+      go true zero = absent-entry 0 (omega arith)
+      go true (suc zero) = absent-entry 12 (omega arith)
+      go true (suc (suc zero)) = absent-entry 24 (omega arith)
+      go true (suc (suc (suc d))) = λ i. refl
+      go false d = λ i. refl
+
+  root-alone : (layout : Layout) → indexes layout (formatted n name g) ≡ 1 ∷ []
+  root-alone layout = only-root layout (formatted n name g) (λ d. rw (formatted-sector0 n name g (named .ten)) (no-entries layout d))
+
+  new-holders : (layout : Layout) → holders layout (formatted n name g) ≡ 0 ∷ (1 ∷ [])
+  unfolding holders filesOf fileHolders
+  new-holders layout = rw (root-alone layout, no-files)
 
   new-count : sectorCount (formatted n name g) ≡ n
   new-count = rw (formatted-length n name g (named .ten) (omega arith)) (omega arith)
@@ -78,17 +118,24 @@ module _ (n : ℕ) (name : List ℕ) (g : Geometry) (large : 3 ≤ n) (small : n
         whole = rw new-count (formatted-length n name g (named .ten) (omega arith));
         size = rw new-count (large, small);
         label = rw (new-count, s0) new-label;
-        index = rw (formatted-sector1 n name g (named .ten)) (zero-index (sectorCount (formatted n name g)) 256);
-        descriptors = rw no-files (λ p h. absurd (omega arith));
-        ascending = rw no-files (λ p q h l. absurd (omega arith));
-        single = rw new-holders system-once;
-        marked = rw (new-count, s0, new-holders) (λ k h. new-map k (omega arith) ∙ taken-below n (0 ∷ (1 ∷ [])) k h);
+        entered = rw s0 (record { each = λ d h. inl (no-entries layout d); differ = λ d e l h is same. absent-no-entry _ _ (no-entries layout d) is });
+        each = λ i indexed. let root : 1 ≡ i = only-one 1 i (rw (root-alone layout) at indexed) in rw (← root) sound-root;
+        single = rw (new-holders layout) system-once;
+        marked = rw (new-count, s0, new-holders layout) (λ k h. new-map k (omega arith) ∙ taken-below n (0 ∷ (1 ∷ [])) k h);
         filled = rw (new-count, s0) (λ k h l. new-map k l ∙ taken-past n (0 ∷ (1 ∷ [])) k h);
       }
+    where
+      sound-root : SoundIndex layout (formatted n name g) 1
+      sound-root =
+          record {
+            index = rw (formatted-sector1 n name g (named .ten)) (zero-index (sectorCount (formatted n name g)) 256);
+            descriptors = rw no-files (λ p h. absurd (omega arith));
+            ascending = rw no-files (λ p q h l. absurd (omega arith));
+          }
 
   empty-volume : (layout : Layout) → EmptyVolume layout (formatted n name g)
-  unfolding catalogue
-  empty-volume layout = record { sound = formatted-sound layout; judged = passes layout (formatted n name g) (formatted-sound layout); empty = rw no-files }
+  unfolding catalogues catalogue
+  empty-volume layout = record { sound = formatted-sound layout; judged = passes layout (formatted n name g) (formatted-sound layout); empty = rw (root-alone layout, no-files) }
 
   -- every byte
   fields-at : (i many : ℕ) → part (formatted n name g) (10 + i) many ≡ part (fields ++ (replicate 36 0 ++ volume)) i many

@@ -7,7 +7,7 @@ use Rattle.rules.specs.Bytes.{byteAt}
 use Rattle.rules.specs.Sectors.{sectorOf, sectorCount}
 use Rattle.rules.specs.Kind.{programLength, sectorsFor}
 use Rattle.rules.specs.Descriptor.{sectorsOf, fileKind}
-use Rattle.rules.specs.Volume.{File, files, fileIn, catalogue}
+use Rattle.rules.specs.Volume.{File, filesIn, fileIn, catalogue}
 use Rattle.rules.specs.Sound.{fileAt}
 use Rattle.rules.specs.declared.Layout.{Layout}
 use Rattle.rules.proofs.Sectors.{sector-below}
@@ -24,18 +24,18 @@ of-length file size sectors end =
 
 pub every-length : (layout : Layout) → EveryLength layout
 unfolding EveryLength catalogue fileIn fileKind
-every-length layout image is small p listed program =
-    let inside : p < length (files image) = omega (arith, listed, length-map (files image) (fileIn image)) in
-    let k = fileAt image p in
+every-length layout image is small i indexed p listed program =
+    let inside : p < length (filesIn image i) = omega (arith, listed, length-map (filesIn image i) (fileIn image)) in
+    let k = fileAt image i p in
     let d = sectorOf image k in
-    let rules = is .descriptors p inside in
+    let rules = is .each i indexed .descriptors p inside in
     let file : File = fileIn image k in
     let c = contents-count layout (sectorCount image) image k rules in
     let end : byteAt (file .header) 16 ≡ byteAt d 16 = header-at image k 16 (omega arith) in
     let status : byteAt (file .header) 12 ≡ byteAt d 12 = header-at image k 12 (omega arith) in
     let below = sector-below image k 256 (omega arith) small 16 in
-    let kind = program-end (byteAt d 12) (sectorsOf d) (byteAt d 16) (byteAt d 17) (rw (file-of image p inside, status) at program) (rules .kind) in
-    rw (file-of image p inside, end, c)
+    let kind = program-end (byteAt d 12) (sectorsOf d) (byteAt d 16) (byteAt d 17) (rw (file-of image i p inside, status) at program) (rules .kind) in
+    rw (file-of image i p inside, end, c)
     (of-length file (programLength (sectorsOf d) (byteAt d 16)) (c ∙ sym (stored-sectors (sectorsOf d) (byteAt d 16) below kind)) (end ∙ sym (stored-end (sectorsOf d) (byteAt d 16) below kind)))
 
 pub length-alone : LengthAlone

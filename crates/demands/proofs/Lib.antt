@@ -34,6 +34,7 @@ mod PackedOne
 pub mod Demand3
 pub mod Complete
 pub mod Rules
+pub mod Editions
 pub mod Lengths
 pub mod StoredLoads
 pub mod Wrong

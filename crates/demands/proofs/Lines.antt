@@ -15,8 +15,8 @@ use Rattle.rules.specs.Name.{IsName}
 use Rattle.rules.specs.Kind.{isProtected, isMarked}
 use Rattle.rules.specs.Map.{freeCount}
 use Rattle.rules.specs.Descriptor.{nameOf, statusOf, sectorsOf, fileKind, IsDescriptor}
-use Rattle.rules.specs.Volume.{File, files, nameIn, fileIn, catalogue}
-use Rattle.rules.specs.Sound.{Sound, fileAt}
+use Rattle.rules.specs.Volume.{File, filesIn, nameIn, fileIn, catalogue}
+use Rattle.rules.specs.Sound.{fileAt, IsIndexed, Sound}
 use Rattle.rules.specs.Calls.Listing.{digits, decimal, unpadded, kindWord, kindLength, diskLine, markField, fileLine, fileLines, listingText}
 use Rattle.rules.specs.declared.Layout.{Layout}
 use Rattle.rules.specs.declared.Kind.{Kind}
@@ -203,7 +203,7 @@ markWords layout status = cond (layout .marks) ((cond (isMarked status) 0x4D 0x2
 
 marks-parted : (layout : Layout) (status : ℕ) (before : List ℕ) → parted (before ∷ markWords layout status) ≡ before ++ (markField layout status ++ (10 ∷ []))
 unfolding parted markField
-marks-parted layout status before = by-rule (λ layout. parted (before ∷ markWords layout status) ≡ before ++ (markField layout status ++ (10 ∷ []))) refl refl layout
+marks-parted layout status before = by-rule (λ layout. parted (before ∷ markWords layout status) ≡ before ++ (markField layout status ++ (10 ∷ []))) (λ edition. refl) (λ edition. refl) layout
 
 marks-are : (layout : Layout) (status : ℕ) → AreMarks layout status (markWords layout status)
 marks-are layout status =
@@ -235,7 +235,7 @@ lines-joined layout image (k ∷ ks) = ap (λ (l : List ℕ). lineIn layout imag
 
 -- the lines of a sound volume
 module _ (layout : Layout) (image : List ℕ) (is : Sound layout image) where
-  disk-line : IsDiskLine image (diskLine image)
+  disk-line : IsDiskLine layout image (diskLine image)
   unfolding diskLine parted
   disk-line =
       record {
@@ -282,25 +282,25 @@ module _ (layout : Layout) (image : List ℕ) (is : Sound layout image) where
           is = rw (kind-in, ← kind-word (fileKind (sectorOf image k)), marks-parted layout (statusOf (sectorOf image k)));
         }
 
-  lines-are : (p : ℕ) → p < length (files image) → IsFileLine layout (fileOf image p) (getD (map (lineIn layout image) (files image)) p [])
-  lines-are p h = rw (file-of image p h, get-mapped (lineIn layout image) (files image) p 0 [] h) (file-line (fileAt image p) (is .descriptors p h))
+  lines-are : (i : ℕ) → IsIndexed layout image i → (p : ℕ) → p < length (filesIn image i) → IsFileLine layout (fileOf image i p) (getD (map (lineIn layout image) (filesIn image i)) p [])
+  lines-are i indexed p h = rw (file-of image i p h, get-mapped (lineIn layout image) (filesIn image i) p 0 [] h) (file-line (fileAt image i p) (is .each i indexed .descriptors p h))
 
-  pub listing-lists : Lists layout image (listingText layout image)
+  pub listing-lists : (i : ℕ) → IsIndexed layout image i → Lists layout image i (listingText layout image i)
   unfolding listingText catalogue
-  listing-lists =
-      let many = length-map (files image) (lineIn layout image) in
+  listing-lists i indexed =
+      let many = length-map (filesIn image i) (lineIn layout image) in
       record {
         first = diskLine image;
         first-is = disk-line;
-        lines = map (lineIn layout image) (files image);
-        many = many ∙ sym (length-map (files image) (fileIn image));
-        each = λ p h. lines-are p (rw many at h);
-        is = ap (λ (l : List ℕ). diskLine image ++ l) (lines-joined layout image (files image));
+        lines = map (lineIn layout image) (filesIn image i);
+        many = many ∙ sym (length-map (filesIn image i) (fileIn image));
+        each = λ p h. lines-are i indexed p (rw many at h);
+        is = ap (λ (l : List ℕ). diskLine image ++ l) (lines-joined layout image (filesIn image i));
       }
 
 -- the facts fix each line
-disk-line-one : (image first second : List ℕ) → IsDiskLine image first → IsDiskLine image second → first ≡ second
-disk-line-one image first second is also =
+disk-line-one : (layout : Layout) (image first second : List ℕ) → IsDiskLine layout image first → IsDiskLine layout image second → first ≡ second
+disk-line-one layout image first second is also =
     let count : is .count ≡ also .count = omega (arith, is .count-is, also .count-is) in
     let name = unpadded-one (part (sectorOf image 0) 0 10) (is .name) (also .name) (is .name-is) (also .name-is) in
     let size = decimal-one (sectorCount image) (is .size) (also .size) (is .size-is) (also .size-is) in
@@ -317,9 +317,9 @@ file-line-one layout file first second is also =
     is .is ∙ rw (name, size, sectors, protection, marks) (sym (also .is))
 
 -- and the text
-pub lists-one : (layout : Layout) (image first second : List ℕ) → Lists layout image first → Lists layout image second → first ≡ second
-lists-one layout image first second is also =
-    let disk = disk-line-one image (is .first) (also .first) (is .first-is) (also .first-is) in
+pub lists-one : (layout : Layout) (image : List ℕ) (i : ℕ) (first second : List ℕ) → Lists layout image i first → Lists layout image i second → first ≡ second
+lists-one layout image i first second is also =
+    let disk = disk-line-one layout image (is .first) (also .first) (is .first-is) (also .first-is) in
     let lines = ext-getD [] (is .lines) (also .lines) (is .many ∙ sym (also .many))
-    (λ p h. file-line-one layout (fileOf image p) (getD (is .lines) p []) (getD (also .lines) p []) (is .each p h) (also .each p (omega (arith, is .many, also .many)))) in
+    (λ p h. file-line-one layout (fileOf image i p) (getD (is .lines) p []) (getD (also .lines) p []) (is .each p h) (also .each p (omega (arith, is .many, also .many)))) in
     is .is ∙ rw (disk, lines) (sym (also .is))

@@ -13,6 +13,7 @@ use Rattle.rules.specs.Map.{freeCount}
 use Rattle.rules.specs.Verdict.{volumeTests, verdict}
 use Rattle.rules.specs.Sound.{Sound}
 use Rattle.rules.specs.Outcome.{Outcome, Report, amountOf, byNumber, namedAmountOf}
+use Rattle.rules.specs.Volume.{indexAt}
 use Rattle.rules.specs.Opening.{openOf}
 use Rattle.rules.specs.Calls.Format.{Geometry, formatted, formatTests, formatNumber, afterFormat}
 use Rattle.rules.specs.Calls.Summary.{freeCountOf, summaryOf, summaryAnswer}
@@ -30,6 +31,7 @@ use Rattle.rules.proofs.Free.{free-holders}
 use Rattle.rules.proofs.Formatted.{formatted-length}
 use Rattle.rules.proofs.Written.{written-length}
 use Rattle.rules.proofs.Outcome.{reported-given}
+use Rattle.rules.proofs.Indexes.{directory-indexed}
 use Rattle.demands.specs.Effects.{Kept}
 use Rattle.demands.specs.Does.{Does, FormatCall}
 use Rattle.demands.specs.Call as call
@@ -50,7 +52,7 @@ use Rattle.demands.proofs.Refusals.{Writes, Puts, reported-puts, on-fil
 use Rattle.demands.proofs.Demand3.{packing-demand}
 use Rattle.demands.proofs.Carried.{answer-number, amount-number, summary-number, named-number, loaded-number, carried}
 use Rattle.demands.proofs.Lines.{listing-lists}
-use Rattle.demands.proofs.Shown.{catalogue-length, entry-bytes, entry-answers, read-is, load-is, listing-is}
+use Rattle.demands.proofs.Shown.{together-length, entry-bytes, entry-answers, read-is, load-is, listing-is}
 
 -- what a refusal leaves: of the image, and of the buffer lent
 refused-image : (names : Names) (image : List ℕ) (outcome : Outcome) → Writes outcome → (namedNumber names (answered names (outcome .number)) ≡ 0 → ⊥) → written image (outcome .writes) ≡ image
@@ -69,20 +71,20 @@ unfolding seen summaryOf entryOf readOf reading loadOf loading listingOf verdict
 look-refuses layout call.judge buffer image some = splice-none buffer 0
 look-refuses layout call.freeCount buffer image some = splice-none buffer 0
 look-refuses layout call.summarize buffer image some = refused-buffer buffer (summaryOf layout image) (reported-puts _ _ _) (λ z. some (summary-number layout image ∙ z))
-look-refuses layout (call.entry place) buffer image some = refused-buffer buffer (entryOf layout image place (length buffer)) (reported-puts _ _ _) (λ z. some (answer-number _ ∙ z))
-look-refuses layout (call.read name offset) buffer image some =
-    refused-buffer buffer (readOf layout image name offset (length buffer)) (on-file-puts (openOf layout image name) (reading image offset (length buffer)) (λ k. reported-puts _ _ _))
+look-refuses layout (call.entry directory place) buffer image some = refused-buffer buffer (entryOf layout image directory place (length buffer)) (reported-puts _ _ _) (λ z. some (answer-number _ ∙ z))
+look-refuses layout (call.read directory name offset) buffer image some =
+    refused-buffer buffer (readOf layout image directory name offset (length buffer)) (on-file-puts (openOf layout image directory name) (reading image offset (length buffer)) (λ k. reported-puts _ _ _))
     (λ z. some (named-number (call.one name) _ ∙ z))
-look-refuses layout (call.load name) buffer image some =
-    refused-buffer buffer (loadOf layout image name (length buffer)) (on-file-puts (openOf layout image name) (loading image (length buffer)) (λ k. reported-puts _ _ _))
+look-refuses layout (call.load directory name) buffer image some =
+    refused-buffer buffer (loadOf layout image directory name (length buffer)) (on-file-puts (openOf layout image directory name) (loading image (length buffer)) (λ k. reported-puts _ _ _))
     (λ z. some (loaded-number (wrongPlace name) _ ∙ z))
-look-refuses layout call.list buffer image some = refused-buffer buffer (listingOf layout image (length buffer)) (reported-puts _ _ _) (λ z. some (amount-number _ ∙ z))
+look-refuses layout (call.list directory) buffer image some = refused-buffer buffer (listingOf layout image directory (length buffer)) (reported-puts _ _ _) (λ z. some (amount-number _ ∙ z))
 look-refuses layout call.pack buffer image some = packing-demand layout .refuses image buffer (λ z. some (answer-number (packNumber layout image buffer) ∙ z))
 
 pub refuses : (layout : Layout) (c : Call) (image : List ℕ) → (numberOf (ours layout) c image ≡ 0 → ⊥) → (ours layout c image .image ≡ image) × (ours layout c image .buffer ≡ lent c)
 unfolding ours
 refuses layout (call.look look buffer) image some = (refl, look-refuses layout look buffer image some)
-refuses layout (call.change name change) image some = (refused-image (namesOf name change) image (outcome layout change image name) (change-writes layout change image name) some, refl)
+refuses layout (call.change directory name change) image some = (refused-image (namesOf name change) image (outcome layout change image directory name) (change-writes layout change image directory name) some, refl)
 refuses layout (call.format n name geometry) image some = (refused-format image n name geometry some, refl)
 
 -- the lengths of what is lent
@@ -91,10 +93,10 @@ unfolding seen packs
 look-length layout call.judge buffer image = splice-length buffer 0 _
 look-length layout call.freeCount buffer image = splice-length buffer 0 _
 look-length layout call.summarize buffer image = splice-length buffer 0 _
-look-length layout (call.entry place) buffer image = splice-length buffer 0 _
-look-length layout (call.read name offset) buffer image = splice-length buffer 0 _
-look-length layout (call.load name) buffer image = splice-length buffer 0 _
-look-length layout call.list buffer image = splice-length buffer 0 _
+look-length layout (call.entry directory place) buffer image = splice-length buffer 0 _
+look-length layout (call.read directory name offset) buffer image = splice-length buffer 0 _
+look-length layout (call.load directory name) buffer image = splice-length buffer 0 _
+look-length layout (call.list directory) buffer image = splice-length buffer 0 _
 look-length layout call.pack buffer image =
     elim (ℕ-discrete (packNumber layout image buffer) 0) [
       | yes zero ↦ let can = packing-demand layout .done image buffer .0 zero in packing-demand layout .laid image buffer can .size ∙ sym (can .long)
@@ -114,7 +116,7 @@ format-length image n name g =
 pub lengths : (layout : Layout) (c : Call) (image : List ℕ) → (length (ours layout c image .image) ≡ length image) × (length (ours layout c image .buffer) ≡ length (lent c))
 unfolding ours
 lengths layout (call.look look buffer) image = (refl, look-length layout look buffer image)
-lengths layout (call.change name change) image = (written-length image (outcome layout change image name .writes), refl)
+lengths layout (call.change directory name change) image = (written-length image (outcome layout change image directory name .writes), refl)
 lengths layout (call.format n name geometry) image = (format-length image n name geometry, refl)
 
 -- what a call that was done means: formatting, whatever the image was
@@ -127,19 +129,19 @@ formats layout n name geometry image e =
     (format-call layout image n name geometry zero, format-bytes image n name geometry zero)
 
 -- the reading calls
-free-is : (layout : Layout) (image : List ℕ) → Sound layout image → FreeIs image (freeCount (sectorOf image 0))
+free-is : (layout : Layout) (image : List ℕ) → Sound layout image → FreeIs layout image (freeCount (sectorOf image 0))
 free-is layout image is = record { is = free-holders layout image is }
 
-free-means : (layout : Layout) (image : List ℕ) → Sound layout image → FreeGiven image (amountOf (freeCountOf layout image))
+free-means : (layout : Layout) (image : List ℕ) → Sound layout image → FreeGiven layout image (amountOf (freeCountOf layout image))
 unfolding amountOf freeCountOf verdict
 free-means layout image is =
     record { free = freeCount (sectorOf image 0); is = ap amountOf (reported-given (volumeTests layout image) (freeCount (sectorOf image 0)) [] (passes layout image is)); count = free-is layout image is }
 
 summary-means : (layout : Layout) (image buffer : List ℕ) → Sound layout image
-    → Summarized image (summaryAnswer layout image) × (splice buffer 0 (summaryOf layout image .bytes) ≡ splice buffer 0 (part (sectorOf image 0) 0 10))
+    → Summarized layout image (summaryAnswer layout image) × (splice buffer 0 (summaryOf layout image .bytes) ≡ splice buffer 0 (part (sectorOf image 0) 0 10))
 unfolding summaryAnswer summaryOf verdict
 summary-means layout image buffer is = (
-  record { free = freeCount (sectorOf image 0); is = unless-passed (volumeTests layout image) _ _ (passes layout image is) ∙ rw (catalogue-length image); count = free-is layout image is },
+  record { free = freeCount (sectorOf image 0); is = unless-passed (volumeTests layout image) _ _ (passes layout image is) ∙ rw (together-length layout image); count = free-is layout image is },
   rw (unless-passed (volumeTests layout image) (part (sectorOf image 0) 0 10) [] (passes layout image is)),
 )
 
@@ -149,17 +151,23 @@ unfolding seen Shows packs amountOf namedAmountOf byNumber
 shows layout call.judge buffer image is e = splice-none buffer 0
 shows layout call.freeCount buffer image is e = (free-means layout image is, splice-none buffer 0)
 shows layout call.summarize buffer image is e = summary-means layout image buffer is
-shows layout (call.entry place) buffer image is e =
-    let zero = sym (answer-number (entryOf layout image place (length buffer) .number)) ∙ e in
-    (entry-answers layout image is place (length buffer) zero, ap (splice buffer 0) (entry-bytes layout image is place (length buffer) zero))
-shows layout (call.read name offset) buffer image is e =
-    ap (splice buffer 0) (read-is layout image name offset (length buffer) (sym (named-number (call.one name) (readOf layout image name offset (length buffer) .number)) ∙ e))
-shows layout (call.load name) buffer image is e =
-    let loaded = load-is layout image name (length buffer) (sym (loaded-number (wrongPlace name) (loadOf layout image name (length buffer))) ∙ e) in
+shows layout (call.entry directory place) buffer image is e =
+    let zero = sym (answer-number (entryOf layout image directory place (length buffer) .number)) ∙ e in
+    (entry-answers layout image is directory place (length buffer) zero, ap (splice buffer 0) (entry-bytes layout image is directory place (length buffer) zero))
+shows layout (call.read directory name offset) buffer image is e =
+    ap (splice buffer 0) (read-is layout image directory name offset (length buffer) (sym (named-number (call.one name) (readOf layout image directory name offset (length buffer) .number)) ∙ e))
+shows layout (call.load directory name) buffer image is e =
+    let loaded = load-is layout image directory name (length buffer) (sym (loaded-number (wrongPlace name) (loadOf layout image directory name (length buffer))) ∙ e) in
     (ap (namedAmountOf (wrongPlace name)) loaded, ap (λ (r : Report). splice buffer 0 (r .bytes)) loaded)
-shows layout call.list buffer image is e =
-    let listed = listing-is layout image (length buffer) (sym (amount-number (listingOf layout image (length buffer))) ∙ e) in
-    record { text = listingText layout image; lists = listing-lists layout image is; is = ap amountOf listed; put = ap (λ (r : Report). splice buffer 0 (r .bytes)) listed }
+shows layout (call.list directory) buffer image is e =
+    let i = indexAt layout image directory in
+    let listed = listing-is layout image directory (length buffer) (sym (amount-number (listingOf layout image directory (length buffer))) ∙ e) in
+    record {
+      text = listingText layout image i;
+      lists = listing-lists layout image is i (directory-indexed layout image directory (listed .0));
+      is = ap amountOf (listed .1);
+      put = ap (λ (r : Report). splice buffer 0 (r .bytes)) (listed .1);
+    }
 shows layout call.pack buffer image is e =
     let can = packing-demand layout .done image buffer .0 (sym (answer-number (packNumber layout image buffer)) ∙ e) in
     (packing-demand layout .sound image buffer can, packing-demand layout .laid image buffer can)
@@ -179,50 +187,57 @@ does layout (call.rename new) = renames layout new
 pub means : (layout : Layout) (c : Call) (image : List ℕ) → Sound (ruleOf layout c) image → numberOf (ours layout) c image ≡ 0 → Means (ruleOf layout c) c image (ours layout c image)
 unfolding ours Means
 means layout (call.look look buffer) image is e = shows layout look buffer image is e
-means layout (call.change name change) image is e = does layout change image name (sym (named-number (namesOf name change) (outcome layout change image name .number)) ∙ e)
+means layout (call.change directory name change) image is e = does layout change image directory name (sym (named-number (namesOf name change) (outcome layout change image directory name .number)) ∙ e)
 means layout (call.format n name geometry) image is e = formats layout n name geometry image e
 
 -- the frame: of a call that was done, and of a refusal
-kept-same : (image after name : List ℕ) → after ≡ image → Kept image after name
-kept-same image after name e =
-    rw e (record { label = λ i low. refl; listed = λ k there other. there; descriptor = λ k there other. refl; contents = λ k p there other placed. refl })
+kept-same : (layout : Layout) (image after : List ℕ) (i : ℕ) (name : List ℕ) → after ≡ image → Kept layout image after i name
+kept-same layout image after i name e =
+    rw e
+    (record {
+      label = λ b low. refl;
+      index = λ j indexed apart. refl;
+      listed = λ j k another. another .listed;
+      descriptor = λ j k another. refl;
+      contents = λ j k p another placed. refl;
+    })
 
-frame-done : (layout : Layout) (c : Call) (image : List ℕ) → Means (ruleOf layout c) c image (ours layout c image) → Frame c image (ours layout c image .image)
+frame-done : (layout : Layout) (c : Call) (image : List ℕ) → Means (ruleOf layout c) c image (ours layout c image) → Frame (ruleOf layout c) c image (ours layout c image .image)
 unfolding ours Means Frame
 frame-done layout (call.look look buffer) image m = refl
-frame-done layout (call.change name change) image m = m .0 .kept
+frame-done layout (call.change directory name change) image m = m .0 .kept
 frame-done layout (call.format n name geometry) image m = tt
 
-frame-same : (c : Call) (image after : List ℕ) → after ≡ image → Frame c image after
+frame-same : (layout : Layout) (c : Call) (image after : List ℕ) → after ≡ image → Frame layout c image after
 unfolding Frame
-frame-same (call.look look buffer) image after same = same
-frame-same (call.change name change) image after same = kept-same image after name same
-frame-same (call.format n name geometry) image after same = tt
+frame-same layout (call.look look buffer) image after same = same
+frame-same layout (call.change directory name change) image after same = kept-same layout image after (indexAt layout image directory) name same
+frame-same layout (call.format n name geometry) image after same = tt
 
-pub frame : (layout : Layout) (c : Call) (image : List ℕ) → Sound (ruleOf layout c) image → Frame c image (ours layout c image .image)
+pub frame : (layout : Layout) (c : Call) (image : List ℕ) → Sound (ruleOf layout c) image → Frame (ruleOf layout c) c image (ours layout c image .image)
 frame layout c image is =
     elim (ℕ-discrete (numberOf (ours layout) c image) 0) [
       | yes zero ↦ frame-done layout c image (means layout c image is zero)
-      | no some ↦ frame-same c image (ours layout c image .image) (refuses layout c image some .0)
+      | no some ↦ frame-same (ruleOf layout c) c image (ours layout c image .image) (refuses layout c image some .0)
     ]
 
 -- a sound volume after a call, and after a list of calls
-change-sound : (layout : Layout) (change : Change) (image name : List ℕ) → Sound layout image → outcome layout change image name .number ≡ 0 → Sound layout (written image (outcome layout change image name .writes))
+change-sound : (layout : Layout) (change : Change) (image : List ℕ) (directory : ℕ) (name : List ℕ) → Sound layout image → outcome layout change image directory name .number ≡ 0 → Sound layout (written image (outcome layout change image directory name .writes))
 unfolding outcome
-change-sound layout (call.create status recordLength recordsPerSector) image name is zero = does layout (call.create status recordLength recordsPerSector) image name zero .0 .sound
-change-sound layout (call.append bytes) image name is zero = does layout (call.append bytes) image name zero .0 .sound
-change-sound layout (call.overwrite offset bytes) image name is zero = does layout (call.overwrite offset bytes) image name zero .0 .sound
-change-sound layout call.protect image name is zero = does layout call.protect image name zero .0 .sound
-change-sound layout call.unprotect image name is zero = does layout call.unprotect image name zero .0 .sound
-change-sound layout call.clear image name is zero = cleared-sound layout image name is zero
-change-sound layout (call.store bytes) image name is zero = does layout (call.store bytes) image name zero .0 .sound
-change-sound layout call.delete image name is zero = does layout call.delete image name zero .0 .sound
-change-sound layout (call.rename new) image name is zero = does layout (call.rename new) image name zero .0 .sound
+change-sound layout (call.create status recordLength recordsPerSector) image directory name is zero = does layout (call.create status recordLength recordsPerSector) image directory name zero .0 .sound
+change-sound layout (call.append bytes) image directory name is zero = does layout (call.append bytes) image directory name zero .0 .sound
+change-sound layout (call.overwrite offset bytes) image directory name is zero = does layout (call.overwrite offset bytes) image directory name zero .0 .sound
+change-sound layout call.protect image directory name is zero = does layout call.protect image directory name zero .0 .sound
+change-sound layout call.unprotect image directory name is zero = does layout call.unprotect image directory name zero .0 .sound
+change-sound layout call.clear image directory name is zero = cleared-sound layout image directory name is zero
+change-sound layout (call.store bytes) image directory name is zero = does layout (call.store bytes) image directory name zero .0 .sound
+change-sound layout call.delete image directory name is zero = does layout call.delete image directory name zero .0 .sound
+change-sound layout (call.rename new) image directory name is zero = does layout (call.rename new) image directory name zero .0 .sound
 
 sound-done : (layout : Layout) (c : Call) (image : List ℕ) → Sound layout image → numberOf (ours layout) c image ≡ 0 → Sound layout (ours layout c image .image)
 unfolding ours Means
 sound-done layout (call.look look buffer) image is e = is
-sound-done layout (call.change name change) image is e = change-sound layout change image name is (sym (named-number (namesOf name change) (outcome layout change image name .number)) ∙ e)
+sound-done layout (call.change directory name change) image is e = change-sound layout change image directory name is (sym (named-number (namesOf name change) (outcome layout change image directory name .number)) ∙ e)
 sound-done layout (call.format n name geometry) image is e = formats layout n name geometry image e .0 .sound
 
 sound-call : (layout : Layout) (c : Call) (image : List ℕ) → Sound layout image → Sound layout (ours layout c image .image)

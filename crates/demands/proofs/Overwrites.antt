@@ -12,7 +12,7 @@ use Rattle.rules.specs.Sectors.{sectorOf, sectorCount}
 use Rattle.rules.specs.Map.{count, markedAll}
 use Rattle.rules.specs.Chain.{places}
 use Rattle.rules.specs.Descriptor.{nameOf, sectorsOf, chainOf, markedBy}
-use Rattle.rules.specs.Volume.{files, nameIn, placesIn, headerIn, contentsIn, fileIn}
+use Rattle.rules.specs.Volume.{filesIn, nameIn, placesIn, headerIn, contentsIn, fileIn}
 use Rattle.rules.specs.Tests.{Passed}
 use Rattle.rules.specs.Opening.{openOf}
 use Rattle.rules.specs.Calls.Overwrite.{overwriteTests, overwriteWrites, overwriting, overwriteOf}
@@ -22,21 +22,21 @@ use Rattle.rules.proofs.Marks.{mark-length, mark-name, mark-chain, mark-rules, 
 use Rattle.rules.proofs.Splice.{splice-length}
 use Rattle.rules.proofs.Volume.{places-count}
 use Rattle.rules.proofs.Tests.{all-passed, unless-passed}
-use Rattle.rules.proofs.Opening.{IsOpened, opened-is, open-refused, changed-done}
+use Rattle.rules.proofs.Opening.{IsOpened, opened-at, open-refused, changed-done}
 use Rattle.rules.proofs.Staying.{map-changed}
 use Rattle.rules.proofs.Written.{sector-same, sector-other}
 use Rattle.rules.proofs.Listed.{sector-inside, opened-listed}
-use Rattle.rules.proofs.Altered.{Altered, own-once, own-inside, place-other}
+use Rattle.rules.proofs.Altered.{Altered, own-once, own-inside, own-other, place-other}
 use Rattle.demands.specs.Call.{overwrite}
 use Rattle.demands.specs.Ours.{outcome}
 use Rattle.demands.specs.Effects.{markedFile, overwritten}
 use Rattle.demands.specs.Grounds.{Has}
-use Rattle.demands.specs.Touches.{Stays, overwriteTouches, Touches}
+use Rattle.demands.specs.Touches.{Stays, overwriteTouches, TouchesIn}
 use Rattle.demands.specs.Does.{Does}
 use Rattle.demands.proofs.Replacing.{altered-done, altered-lies, found-has}
 
 -- the call on the file at sector k: the descriptor marked, then the data; without marks the descriptor stays
-module _ (layout : Layout) (image name : List ℕ) (p k : ℕ) (o : IsOpened layout image name p k) (offset : ℕ) (bytes : List ℕ) (inside : offset < sectorsOf (sectorOf image k)) (long : length bytes ≡ 256) where
+module _ (layout : Layout) (image name : List ℕ) (i p k : ℕ) (o : IsOpened layout image name i p k) (offset : ℕ) (bytes : List ℕ) (inside : offset < sectorsOf (sectorOf image k)) (long : length bytes ≡ 256) where
   abbrev at : ℕ
   at = getD (placesIn image k) offset 0
 
@@ -49,8 +49,8 @@ module _ (layout : Layout) (image name : List ℕ) (p k : ℕ) (o : IsOpened lay
   abbrev after : List ℕ
   after = splice (splice image (256 * k) (markedBy layout (sectorOf image k))) (256 * getD (placesIn image k) offset 0) bytes
 
-  abbrev there : 1 ≤ count k (files image)
-  there = opened-listed layout image name p k o
+  abbrev there : 1 ≤ count k (filesIn image i)
+  there = opened-listed layout image name i p k o
 
   offset-low : offset < length (placesIn image k)
   offset-low = omega (arith, inside, places-count layout (sectorCount image) image k (o .descriptor))
@@ -59,10 +59,13 @@ module _ (layout : Layout) (image name : List ℕ) (p k : ℕ) (o : IsOpened lay
   placed-there = count-at (placesIn image k) offset offset-low
 
   apart : k ≡ at → ⊥
-  apart e = place-other layout image k (o .whole) there at placed-there (sym e)
+  apart e = place-other layout image i k (o .whole) (o .indexed) there at placed-there (sym e)
 
   own : (j : ℕ) → 1 ≤ count j (k ∷ placesIn image k) → (2 ≤ j) × (j < sectorCount image)
-  own = own-inside layout image k (o .whole) there
+  own = own-inside layout image i k (o .whole) (o .indexed) there
+
+  own-apart : (j : ℕ) → 1 ≤ count j (k ∷ placesIn image k) → j ≡ i → ⊥
+  own-apart = own-other layout image i k (o .whole) (o .indexed) there
 
   own-data : (2 ≤ at) × (at < sectorCount image)
   own-data = own at (omega (arith, placed-there, count-more at k (placesIn image k)))
@@ -95,24 +98,25 @@ module _ (layout : Layout) (image name : List ℕ) (p k : ℕ) (o : IsOpened lay
   contents-now =
       ap (map (sectorOf after)) places-now
       ∙ map-changed (sectorOf image) (sectorOf after) (placesIn image k) offset offset-low
-      (omega (arith, own-once layout image k (o .whole) there at, count-more at k (placesIn image k))) (λ j some other. others j (place-other layout image k (o .whole) there j some) other)
+      (omega (arith, own-once layout image i k (o .whole) (o .indexed) there at, count-more at k (placesIn image k))) (λ j some other. others j (place-other layout image i k (o .whole) (o .indexed) there j some) other)
       ∙ ap (set (map (sectorOf image) (placesIn image k)) offset) data-now
 
   file-now : overwritten offset bytes (markedFile layout (fileIn image k)) ≡ fileIn after k
   unfolding overwritten markedFile fileIn headerIn
   file-now = rw (contents-now, descriptor-now, mark-header layout (sectorOf image k))
 
-  changed-there : Altered layout image after k []
+  changed-there : Altered layout image after i k []
   unfolding markedAll nameIn
   changed-there =
       record {
         sound = o .whole;
+        indexed = o .indexed;
         listed = there;
         size = size;
         once = λ j. omega (arith, count-none j);
         free = λ j some. absurd (omega (arith, some, count-none j));
         sector0 = others 0 (λ e. omega (arith, e, own-descriptor .0)) (λ e. omega (arith, e, own-data .0));
-        sector1 = others 1 (λ e. omega (arith, e, own-descriptor .0)) (λ e. omega (arith, e, own-data .0));
+        index = others i (λ e. own-apart k (omega (arith, count-here k (placesIn image k))) (sym e)) (λ e. own-apart at (omega (arith, placed-there, count-more at k (placesIn image k))) (sym e));
         rules = rw descriptor-now (mark-rules layout (sectorOf image k) (o .long) (sectorCount image) (o .descriptor));
         named = ap nameOf descriptor-now ∙ mark-name layout (sectorOf image k);
         places = places-now ∙ sym (append-nil (placesIn image k));
@@ -130,9 +134,9 @@ module _ (layout : Layout) (image name : List ℕ) (p k : ℕ) (o : IsOpened lay
         | no other ↦ others j other (count-apart j at [] none .0)
       ]
 
-  overwritten-stays : Has image name (λ j. (offset < length (placesIn image j)) × Stays image after name j (overwriteTouches layout j (getD (placesIn image j) offset 0)))
+  overwritten-stays : Has image i name (λ j. (offset < length (placesIn image j)) × Stays image after i name j (overwriteTouches layout j (getD (placesIn image j) offset 0)))
   overwritten-stays =
-      found-has layout image name p k o (
+      found-has layout image name i p k o (
         offset-low,
         record {
           lies =
@@ -143,17 +147,19 @@ module _ (layout : Layout) (image name : List ℕ) (p k : ℕ) (o : IsOpened lay
       )
 
 pub overwrites : (layout : Layout) (offset : ℕ) (bytes : List ℕ) → Does layout (overwrite offset bytes)
-unfolding outcome overwriteOf overwriting overwriteTests Passed Touches
-overwrites layout offset bytes image name e =
-    let c = changed-done (openOf layout image name) (overwriting layout image offset bytes) (open-refused layout image name) e in
+unfolding outcome overwriteOf overwriting overwriteTests Passed TouchesIn
+overwrites layout offset bytes image directory name e =
+    let c = changed-done (openOf layout image directory name) (λ i k. overwriting layout image offset bytes k) (open-refused layout image directory name) e in
+    let i = c .index in
     let k = c .sector in
     let tests = overwriteTests image offset bytes k in
     let passed = all-passed tests (c .number) in
-    let o = opened-is layout image name (c .place) k (c .found-at) in
+    let opened = opened-at layout image directory name i (c .place) k (c .found-at) in
+    let o = opened .1 in
     let inside = leb-false (sectorsOf (sectorOf image k)) offset (passed .1 .1 .0) in
     let long = eqb-true (length bytes) 256 (not-false _ (passed .1 .1 .1 .0)) in
-    rw (c .is, unless-passed tests (overwriteWrites layout image offset bytes k) [] (c .number), overwrite-written layout image bytes offset k) (
-      altered-done layout (changed-there layout image name (c .place) k o offset bytes inside long) name (o .named) (λ file. overwritten offset bytes (markedFile layout file))
-          (file-now layout image name (c .place) k o offset bytes inside long),
-      overwritten-stays layout image name (c .place) k o offset bytes inside long,
+    rw (c .is, unless-passed tests (overwriteWrites layout image offset bytes k) [] (c .number), overwrite-written layout image bytes offset k, opened .0) (
+      altered-done layout (changed-there layout image name i (c .place) k o offset bytes inside long) name (o .named) (λ file. overwritten offset bytes (markedFile layout file))
+          (file-now layout image name i (c .place) k o offset bytes inside long),
+      overwritten-stays layout image name i (c .place) k o offset bytes inside long,
     )

@@ -1,10 +1,11 @@
--- A packed image, sector by sector: a packed descriptor keeps the rules and has its data at consecutive places; the descriptors and the data laid end to end are
--- read back as sectors, so the catalogue of such an image is the list of files that was laid down, each of one block, and its holders are two runs of sectors.
+-- A packed image, sector by sector: a packed descriptor keeps the rules and has its data at consecutive places; the indexes, the descriptors and the data laid end to end are
+-- read back as sectors, so the catalogues of such an image are the lists of files that were laid down, each file of one block, and its holders are runs of sectors.
 use mathlib.Core.Path.{_≡_, refl, sym, ap, _∙_}
-use mathlib.Core.List.{List, [], _∷_, _++_, map, append-assoc, append-nil}
+use mathlib.Core.List.{List, [], _∷_, _++_, map, append-assoc, append-nil, map-append}
 use Prim.Native.Nat.{ℕ, zero, suc, _+_, _-_, _*_, _≤_, _<_}
 use native.Mathlib.Omega.{arith}
-use lib.ListN.{length, take, replicate, length-append, length-replicate, replicate-append-replicate, List·getD-append}
+use native.Mathlib.Decide.{ℕ-discrete}
+use lib.ListN.{length, take, drop, replicate, length-append, length-map, length-replicate, replicate-append-replicate, List·getD-append}
 use lib.Seq.{take-at, drop-at, take-all, take-append-le}
 use Rattle.rules.specs.Bytes.{byteAt, wordAt, part}
 use Rattle.rules.specs.Sectors.{sectorOf, joined}
@@ -13,12 +14,14 @@ use Rattle.rules.specs.Map.{count}
 use Rattle.rules.specs.Chain.{blocks, run, placesFrom, places, Linked, chainWith}
 use Rattle.rules.specs.Kind.{allowedBits, kindOf, IsStatus, IsKind}
 use Rattle.rules.specs.Descriptor.{nameOf, sectorsOf, chainOf, fileKind, IsDescriptor}
-use Rattle.rules.specs.Volume.{File, placesIn, fileHolders, headerIn, contentsIn, fileIn}
-use Rattle.rules.specs.Calls.Pack.{oneBlock, packedDescriptor, packedDescriptors, packedData, dataSectors}
+use Rattle.rules.specs.Index.{indexOf}
+use Rattle.rules.specs.Volume.{File, filesIn, filesOf, placesIn, fileHolders, headerIn, contentsIn, fileIn, catalogue}
+use Rattle.rules.specs.Calls.Pack.{oneBlock, packedDescriptor, packedDescriptors, packedData, dataSectors, together, packedIndexes}
 use Rattle.rules.specs.declared.Layout.{Layout}
 use Rattle.rules.specs.declared.Block.{Block}
-use Rattle.rules.proofs.Map.{count-append}
-use Rattle.rules.proofs.Chain.{run-parts}
+use Rattle.rules.proofs.Map.{count-none, count-other, count-append}
+use Rattle.rules.proofs.Chain.{run-length, run-at, run-parts}
+use Rattle.rules.proofs.Indexed.{index-length, numbers-index}
 use Rattle.rules.proofs.Extended.{chain-with-length, chain-with-past, blocks-over, linked-writable}
 use Rattle.rules.proofs.Pack.{Full, joined-length, Whole, AllWhole, descriptor-length}
 use Rattle.demands.specs.Packing.{placesOf, OneBlock}
@@ -252,3 +255,85 @@ module _ (layout : Layout) (n : ℕ) (image : List ℕ) (small : n ≤ 1600) whe
       let places = laid-places d s file (each .0) low (omega arith) (is .0) in
       let split = count-append k (run s c) (fileHolders image (run (d + 1) (length more))) in
       rw places (omega (arith, rest, split, count-runs k s c (dataSectors more)))
+
+-- Indexes laid down in an image: from sector i on, for descriptors from sector s on.
+unfoldable pub Indexed : List ℕ → ℕ → ℕ → List (List File) → Type 0
+Indexed image i s [] = Unit {0}
+Indexed image i s (files ∷ more) = (sectorOf image i ≡ indexOf (run s (length files))) × Indexed image (i + 1) (s + length files) more
+
+pub indexed : (image front rest : List ℕ) (i s : ℕ) (all : List (List File)) → image ≡ front ++ (packedIndexes s all ++ rest) → length front ≡ 256 * i → Indexed image i s all
+unfolding Indexed packedIndexes
+indexed image front rest i s [] e long = tt
+indexed image front rest i s (files ∷ more) e long =
+    let first = indexOf (run s (length files)) in
+    let later = packedIndexes (s + length files) more in
+    let size = index-length (run s (length files)) in (
+      sector-behind image front first (later ++ rest) i (move-front image front first later rest e) long size,
+      indexed image (front ++ first) rest (i + 1) (s + length files) more (moved-front image front first later rest e) (length-append front first ∙ omega (arith, long, size)),
+    )
+
+-- no index has more than 127 numbers
+unfoldable pub Few : List (List File) → Type 0
+Few [] = Unit {0}
+Few (files ∷ more) = (length files ≤ 127) × Few more
+
+-- two lists of files that are one and begin with parts of one length
+files-parts : (a b c d : List File) → length a ≡ length c → a ++ b ≡ c ++ d → (a ≡ c) × (b ≡ d)
+files-parts a b c d long e = (
+  sym (take-at a b (length c) long) ∙ ap (take (length c)) e ∙ take-at c d (length c) refl,
+  sym (drop-at a b (length c) long) ∙ ap (drop (length c)) e ∙ drop-at c d (length c) refl,
+)
+
+unfoldable pub Every : (List File → Type 0) → List (List File) → Type 0
+Every Q [] = Unit {0}
+Every Q (files ∷ more) = Q files × Every Q more
+
+-- What is read of them: the files are a run of sectors, and those of each are its own.
+module _ (image : List ℕ) where
+  pub index-files : (i s many : ℕ) → 1 ≤ s → many ≤ 127 → sectorOf image i ≡ indexOf (run s many) → filesIn image i ≡ run s many
+  unfolding filesIn
+  index-files i s many low few is =
+      let long = run-length s many in
+      rw is (numbers-index (run s many) (λ p h. omega (arith, low, run-at s many p (omega (arith, h, long)))) (omega (arith, few, long)))
+
+  pub indexed-files : (i s : ℕ) (all : List (List File)) → 1 ≤ s → Few all → Indexed image i s all → filesOf image (run i (length all)) ≡ run s (length (together all))
+  unfolding Indexed Few filesOf together run
+  indexed-files i s [] low few is = refl
+  indexed-files i s (files ∷ more) low few is =
+      rw (index-files i s (length files) low (few .0) (is .0), indexed-files (i + 1) (s + length files) more (omega arith) (few .1) (is .1), length-append files (together more))
+      (sym (run-parts s (length files) (length (together more))))
+
+  -- the files that are read where those of all indexes together are
+  files-first : (s : ℕ) (files : List File) (more : List (List File)) → map (fileIn image) (run s (length (files ++ together more))) ≡ files ++ together more
+      → (map (fileIn image) (run s (length files)) ≡ files) × (map (fileIn image) (run (s + length files) (length (together more))) ≡ together more)
+  files-first s files more e =
+      let here = run s (length files) in
+      let later = run (s + length files) (length (together more)) in
+      let split : run s (length (files ++ together more)) ≡ here ++ later = ap (run s) (length-append files (together more)) ∙ run-parts s (length files) (length (together more)) in
+      files-parts (map (fileIn image) here) (map (fileIn image) later) files (together more) (length-map here (fileIn image) ∙ run-length s (length files))
+      (sym (map-append (fileIn image) here later) ∙ ap (map (fileIn image)) (sym split) ∙ e)
+
+  pub indexed-catalogues : (i s : ℕ) (all : List (List File)) → 1 ≤ s → Few all → Indexed image i s all → map (fileIn image) (run s (length (together all))) ≡ together all
+      → map (catalogue image) (run i (length all)) ≡ all
+  unfolding Indexed Few catalogue together run
+  indexed-catalogues i s [] low few is e = refl
+  indexed-catalogues i s (files ∷ more) low few is e =
+      let parts = files-first s files more e in
+      rw (index-files i s (length files) low (few .0) (is .0), parts .0, indexed-catalogues (i + 1) (s + length files) more (omega arith) (few .1) (is .1) (parts .1))
+
+  -- what holds of an index that is so laid, with its own files, holds of each
+  pub indexed-each : (P : ℕ → Type 0) (Q : List File → Type 0) (from last : ℕ)
+      → ((i s : ℕ) (files : List File) → Q files → length files ≤ 127 → from ≤ s → s + length files ≤ last → sectorOf image i ≡ indexOf (run s (length files)) → map (fileIn image) (run s (length files)) ≡ files → P i)
+      → (i s : ℕ) (all : List (List File)) → from ≤ s → s + length (together all) ≤ last → Few all → Every Q all → Indexed image i s all
+      → map (fileIn image) (run s (length (together all))) ≡ together all → (j : ℕ) → 1 ≤ count j (run i (length all)) → P j
+  unfolding Indexed Few Every together run
+  indexed-each P Q from last holds i s [] low high few every is e j there = absurd (omega (arith, there, count-none j))
+  indexed-each P Q from last holds i s (files ∷ more) low high few every is e j there =
+      let parts = files-first s files more e in
+      let long = length-append files (together more) in
+      elim (ℕ-discrete i j) [
+        | yes here ↦ rw (← here) (holds i s files (every .0) (few .0) low (omega (arith, high, long)) (is .0) (parts .0))
+        | no other ↦
+            indexed-each P Q from last holds (i + 1) (s + length files) more (omega arith) (omega (arith, high, long)) (few .1) (every .1) (is .1) (parts .1) j
+            (omega (arith, there, count-other j i (run (i + 1) (length more)) other))
+      ]

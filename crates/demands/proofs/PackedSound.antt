@@ -1,35 +1,38 @@
--- The packed image of a sound volume is sound, is laid down as the paper says, and has the label area and the catalogue of its original.
+-- The packed image of a sound volume is sound, is laid down as the paper says, and has the label area and the catalogues of its original.
 use mathlib.Core.Path.{_≡_, refl, sym, ap, _∙_}
+use mathlib.Core.Logic.{_↔_}
 use mathlib.Core.List.{List, [], _∷_, _++_, map, append-assoc}
-use Prim.Native.Nat.{ℕ, suc, _+_, _-_, _*_, _≤_, _<_}
+use Prim.Native.Nat.{ℕ, zero, suc, _+_, _-_, _*_, _/_, _≤_, _<_}
 use native.Mathlib.Omega.{arith}
 use native.Mathlib.Decide.{decLt}
 use lib.ListN.{length, take, getD, replicate, length-append, length-replicate, length-map, List·getD-append}
 use lib.Seq.{take-at, drop-at, take-all}
 use Rattle.rules.specs.Bytes.{byteAt, part}
 use Rattle.rules.specs.Sectors.{sectorOf, sectorCount}
+use Rattle.rules.specs.Name.{Before}
+use Rattle.rules.specs.Label.{IsLabel}
 use Rattle.rules.specs.Map.{mapBit, count, taken, mapOf}
 use Rattle.rules.specs.Chain.{run}
 use Rattle.rules.specs.Descriptor.{chainOf, fileKind, IsDescriptor}
-use Rattle.rules.specs.Index.{indexOf, IsIndex}
-use Rattle.rules.specs.Volume.{File, files, nameIn, placesIn, fileHolders, holders, headerIn, contentsIn, fileIn, catalogue}
-use Rattle.rules.specs.Sound.{Sound}
-use Rattle.rules.specs.Calls.Pack.{labelArea, packedDescriptor, packedDescriptors, packedData, dataSectors, packedSectors, packed}
+use Rattle.rules.specs.Index.{indexOf}
+use Rattle.rules.specs.Directory.{entries, entryIndex}
+use Rattle.rules.specs.Volume.{File, directories, indexAt, present, indexes, filesIn, filesOf, nameIn, placesIn, fileHolders, holders, headerIn, contentsIn, fileIn, catalogue, catalogues}
+use Rattle.rules.specs.Sound.{SoundIndex, Sound}
+use Rattle.rules.specs.Calls.Pack.{withIndexes, labelArea, packedLabel, packedDescriptor, packedDescriptors, packedData, dataSectors, together, packedIndexes, packedSectors, packed}
 use Rattle.rules.specs.declared.Layout.{Layout}
 use Rattle.rules.proofs.Bytes.{part-at}
 use Rattle.rules.proofs.Sectors.{sector-length}
-use Rattle.rules.proofs.Map.{counted-all, count-append, map-of-bits, map-same}
+use Rattle.rules.proofs.Map.{count-here, count-more, count-at, counted-all, count-append, taken-below, taken-past, map-of-bits, map-same}
 use Rattle.rules.proofs.Chain.{run-length, run-at, run-counts, run-once}
-use Rattle.rules.proofs.Volume.{places-count}
+use Rattle.rules.proofs.Volume.{places-count, get-mapped}
 use Rattle.rules.proofs.Formatted.{map-length}
-use Rattle.rules.proofs.Indexed.{Ascending, index-length, numbers-index, index-is-index}
-use Rattle.rules.proofs.Written.{sound-again}
-use Rattle.rules.proofs.Pack.{descriptors-length, data-length, file-whole, label-length, used-inside}
+use Rattle.rules.proofs.Indexes.{files-range, present-there}
+use Rattle.rules.proofs.Indexed.{index-is-index}
+use Rattle.rules.proofs.Pack.{part-alike, with-length, with-below, entries-alike, numberedFrom, numbered-zero, numbered-present, label-length, label-byte, new-numbers, packed-indexes, packed-entries, descriptors-length, data-length, indexes-length, file-whole, all-together, all-sectors, used-inside}
 use Rattle.demands.specs.Catalogue.{fileName, noFile}
-use Rattle.demands.specs.Packing.{placesOf, OneBlock, Packs}
-use Rattle.rules.proofs.Volume.{get-mapped}
+use Rattle.demands.specs.Packing.{allFiles, placesOf, OneBlock, Packs}
 use Rattle.demands.proofs.Filed.{file-name}
-use Rattle.demands.proofs.PackedSectors.{count-runs, sector-behind, IsListed, Each, each-whole, Laid, laid, laid-files, laid-each, laid-data, laid-holders, filled-behind, packed-block, packed-descriptor}
+use Rattle.demands.proofs.PackedSectors.{count-runs, sector-behind, IsListed, Each, each-whole, Laid, laid, laid-files, laid-each, laid-data, laid-holders, filled-behind, packed-block, packed-descriptor, Indexed, indexed, Few, Every, index-files, indexed-files, indexed-catalogues, indexed-each}
 
 -- A file of a sound volume, as its catalogue lists it.
 module _ (layout : Layout) (n : ℕ) (image : List ℕ) (whole : length image ≡ 256 * n) where
@@ -54,17 +57,47 @@ module _ (layout : Layout) (n : ℕ) (image : List ℕ) (whole : length image �
   each-listed (k ∷ ks) inside is =
       (is-listed k (inside 0 (omega arith)) (is 0 (omega arith)), each-listed ks (λ p h. inside (suc p) (omega arith)) (λ p h. is (suc p) (omega arith)))
 
--- the run from 0 on is the two system sectors and two runs behind them
-run-system : (k f many : ℕ) → count k (run 0 (2 + f + many)) ≡ count k (0 ∷ (1 ∷ [])) + (count k (run 2 f) + count k (run (2 + f) many))
+-- files in the order of their names, as a catalogue lists them
+unfoldable pub Ordered : List File → Type 0
+Ordered files = (p q : ℕ) → p < q → q < length files → Before (fileName (getD files p noFile)) (fileName (getD files q noFile))
+
+-- the name of a file at a place of a catalogue
+name-at : (image ks : List ℕ) (p : ℕ) → p < length ks → fileName (getD (map (fileIn image) ks) p noFile) ≡ nameIn image (getD ks p 0)
+name-at image ks p h = ap fileName (get-mapped (fileIn image) ks p 0 noFile h) ∙ file-name image (getD ks p 0)
+
+-- the catalogues of sound indexes are such, and short
+module _ (layout : Layout) (image : List ℕ) where
+  catalogue-ordered : (i : ℕ) → SoundIndex layout image i → Ordered (catalogue image i)
+  unfolding Ordered catalogue
+  catalogue-ordered i is p q low h =
+      let ks = filesIn image i in
+      let inside : q < length ks = omega (arith, h, length-map ks (fileIn image)) in
+      rw (name-at image ks p (omega arith), name-at image ks q inside) (is .ascending p q low inside)
+
+  catalogues-few : (is : List ℕ) → ((i : ℕ) → 1 ≤ count i is → SoundIndex layout image i) → Few (map (catalogue image) is)
+  unfolding Few catalogue filesIn
+  catalogues-few [] each = tt
+  catalogues-few (i ∷ is) each =
+      (omega (arith, length-map (filesIn image i) (fileIn image), each i (omega (arith, count-here i is)) .index .few), catalogues-few is (λ j h. each j (omega (arith, h, count-more j i is))))
+
+  catalogues-ordered : (is : List ℕ) → ((i : ℕ) → 1 ≤ count i is → SoundIndex layout image i) → Every Ordered (map (catalogue image) is)
+  unfolding Every
+  catalogues-ordered [] each = tt
+  catalogues-ordered (i ∷ is) each = (catalogue-ordered i (each i (omega (arith, count-here i is))), catalogues-ordered is (λ j h. each j (omega (arith, h, count-more j i is))))
+
+-- the sectors from 0 on: sector 0, the indexes, the descriptors and the data
+run-held : (k m f many : ℕ) → count k (run 0 (1 + m + f + many)) ≡ count k (0 ∷ run 1 m) + (count k (run (1 + m) f) + count k (run (1 + m + f) many))
 unfolding run
-run-system k f many =
-    let z : 0 + (2 + f) ≡ 2 + f = omega arith in
-    let behind = rw z at (count-runs k 0 (2 + f) many) in
-    let system : count k (run 0 (2 + f)) ≡ count k (0 ∷ (1 ∷ [])) + count k (run 2 f) = count-runs k 0 2 f in
-    omega (arith, behind, system)
+run-held k m f many =
+    let z : 0 + (1 + m + f) ≡ 1 + m + f = omega arith in
+    let y : 0 + (1 + m) ≡ 1 + m = omega arith in
+    let stored = rw z at (count-runs k 0 (1 + m + f) many) in
+    let described = rw y at (count-runs k 0 (1 + m) f) in
+    let system : count k (run 0 (1 + m)) ≡ count k (0 ∷ []) + count k (run 1 m) = count-runs k 0 1 m in
+    omega (arith, stored, described, system, count-append k (0 ∷ []) (run 1 m))
 
 -- What is laid end to end, behind what.
-module _ (layout : Layout) (image a b c d e f : List ℕ) (is : image ≡ a ++ (b ++ (c ++ (d ++ (e ++ f))))) where
+module _ (image a b c d e f : List ℕ) (is : image ≡ a ++ (b ++ (c ++ (d ++ (e ++ f))))) where
   behind-two : image ≡ (a ++ b) ++ (c ++ (d ++ (e ++ f)))
   behind-two = is ∙ sym (append-assoc a b (c ++ (d ++ (e ++ f))))
 
@@ -77,30 +110,43 @@ module _ (layout : Layout) (image a b c d e f : List ℕ) (is : image ≡ a ++ (
   behind-five : image ≡ ((((a ++ b) ++ c) ++ d) ++ e) ++ f
   behind-five = behind-four ∙ sym (append-assoc (((a ++ b) ++ c) ++ d) e f)
 
-  whole-length : length image ≡ length a + length b + length c + length d + length e + length f
-  whole-length =
-      ap length behind-four ∙ length-append (((a ++ b) ++ c) ++ d) (e ++ f)
-      ∙ omega (arith, length-append e f, length-append ((a ++ b) ++ c) d, length-append (a ++ b) c, length-append a b)
+-- What is to be packed to n sectors: a label of 56 bytes, the root's catalogue and those of directories, each in order and of at most 127 files, that together hold no more than that.
+pub record Room (layout : Layout) (n : ℕ) (label : List ℕ) (all : List (List File)) : Type 0 where
+  pub size : length (packedLabel layout label) ≡ 56
+  pub each : Each layout (together all)
+  pub some : 1 ≤ length all
+  pub few : Few all
+  pub ordered : Every Ordered all
+  pub fits : packedSectors all ≤ n
+  pub small : n ≤ 1600
 
--- A packed image of n sectors, of a label of 56 bytes and files that together hold no more than that.
-module _ (layout : Layout) (n : ℕ) (label : List ℕ) (listed : List File) (size : length label ≡ 56) (each : Each layout listed) (fits : packedSectors listed ≤ n) (small : n ≤ 1600) where
+module _ {layout : Layout} {n : ℕ} {label : List ℕ} {all : List (List File)} (room : Room layout n label all) where
   abbrev image : List ℕ
-  image = packed n label listed
+  image = packed layout n label all
 
-  abbrev used : ℕ
-  used = packedSectors listed
+  abbrev top : List ℕ
+  top = packedLabel layout label
+
+  abbrev listed : List File
+  listed = together all
 
   abbrev first : ℕ
-  first = 2 + length listed
+  first = 1 + length all
+
+  abbrev behind : ℕ
+  behind = 1 + length all + length (together all)
+
+  abbrev used : ℕ
+  used = packedSectors all
 
   abbrev mapping : List ℕ
   mapping = mapOf n (run 0 used)
 
   abbrev indexing : List ℕ
-  indexing = indexOf (run 2 (length listed))
+  indexing = packedIndexes first all
 
   abbrev described : List ℕ
-  described = packedDescriptors first listed
+  described = packedDescriptors behind listed
 
   abbrev stored : List ℕ
   stored = packedData listed
@@ -108,233 +154,298 @@ module _ (layout : Layout) (n : ℕ) (label : List ℕ) (listed : List File) (si
   abbrev unused : List ℕ
   unused = replicate (256 * (n - used)) 0xE5
 
-  parts : image ≡ label ++ (mapping ++ (indexing ++ (described ++ (stored ++ unused))))
+  parts : image ≡ top ++ (mapping ++ (indexing ++ (described ++ (stored ++ unused))))
   unfolding packed
   parts = refl
 
-  front-length : length (label ++ mapping) ≡ 256
-  front-length = length-append label mapping ∙ omega (arith, size, map-length n (run 0 used))
+  front-length : length (top ++ mapping) ≡ 256
+  front-length = length-append top mapping ∙ omega (arith, room .size, map-length n (run 0 used))
 
-  system-length : length ((label ++ mapping) ++ indexing) ≡ 256 * 2
-  system-length = length-append (label ++ mapping) indexing ∙ omega (arith, front-length, index-length (run 2 (length listed)))
+  system-length : length ((top ++ mapping) ++ indexing) ≡ 256 * first
+  system-length = length-append (top ++ mapping) indexing ∙ omega (arith, front-length, indexes-length first all)
 
-  described-length : length (((label ++ mapping) ++ indexing) ++ described) ≡ 256 * first
-  described-length = length-append ((label ++ mapping) ++ indexing) described ∙ omega (arith, system-length, descriptors-length first listed (each-whole layout listed each))
+  described-length : length (((top ++ mapping) ++ indexing) ++ described) ≡ 256 * behind
+  described-length = length-append ((top ++ mapping) ++ indexing) described ∙ omega (arith, system-length, descriptors-length behind listed (each-whole layout listed (room .each)))
 
-  held-length : length ((((label ++ mapping) ++ indexing) ++ described) ++ stored) ≡ 256 * used
+  held-length : length ((((top ++ mapping) ++ indexing) ++ described) ++ stored) ≡ 256 * used
   unfolding packedSectors
-  held-length = length-append (((label ++ mapping) ++ indexing) ++ described) stored ∙ omega (arith, described-length, data-length listed (each-whole layout listed each))
+  held-length = length-append (((top ++ mapping) ++ indexing) ++ described) stored ∙ omega (arith, described-length, data-length listed (each-whole layout listed (room .each)))
 
   packed-size : length image ≡ 256 * n
-  unfolding packedSectors
   packed-size =
-      whole-length layout image label mapping indexing described stored unused parts
-      ∙ omega (
-        arith,
-        size,
-        fits,
-        map-length n (run 0 used),
-        index-length (run 2 (length listed)),
-        descriptors-length first listed (each-whole layout listed each),
-        data-length listed (each-whole layout listed each),
-        length-replicate {A = ℕ} (256 * (n - used)) 0xE5,
-      )
+      ap length (behind-five image top mapping indexing described stored unused parts)
+      ∙ length-append ((((top ++ mapping) ++ indexing) ++ described) ++ stored) unused
+      ∙ omega (arith, held-length, room .fits, length-replicate {A = ℕ} (256 * (n - used)) 0xE5)
 
-  sector0 : sectorOf image 0 ≡ label ++ mapping
+  sector0 : sectorOf image 0 ≡ top ++ mapping
   sector0 =
-      sector-behind image [] (label ++ mapping) (indexing ++ (described ++ (stored ++ unused))) 0
-      (behind-two layout image label mapping indexing described stored unused parts) refl front-length
+      sector-behind image [] (top ++ mapping) (indexing ++ (described ++ (stored ++ unused))) 0
+      (behind-two image top mapping indexing described stored unused parts) refl front-length
 
-  sector1 : sectorOf image 1 ≡ indexing
-  sector1 =
-      sector-behind image (label ++ mapping) indexing (described ++ (stored ++ unused)) 1
-      (behind-two layout image label mapping indexing described stored unused parts) front-length (index-length (run 2 (length listed)))
+  indexes-laid : Indexed image 1 first all
+  indexes-laid =
+      indexed image (top ++ mapping) (described ++ (stored ++ unused)) 1 first all (behind-two image top mapping indexing described stored unused parts) front-length
 
-  files-laid : Laid image 2 first listed
+  files-laid : Laid image first behind listed
   files-laid =
-      laid layout image ((label ++ mapping) ++ indexing) (stored ++ unused) (((label ++ mapping) ++ indexing) ++ described) unused 2 first listed
-      (behind-three layout image label mapping indexing described stored unused parts)
-      (behind-four layout image label mapping indexing described stored unused parts)
-      system-length described-length each
+      laid layout image ((top ++ mapping) ++ indexing) (stored ++ unused) (((top ++ mapping) ++ indexing) ++ described) unused first behind listed
+      (behind-three image top mapping indexing described stored unused parts)
+      (behind-four image top mapping indexing described stored unused parts)
+      system-length described-length (room .each)
 
-  data-fits : first + dataSectors listed ≤ n
+  data-fits : behind + dataSectors listed ≤ n
   unfolding packedSectors
-  data-fits = omega (arith, fits)
+  data-fits = omega (arith, room .fits)
 
-  run-inside : (p : ℕ) → p < length (run 2 (length listed)) → (2 ≤ getD (run 2 (length listed)) p 0) × (getD (run 2 (length listed)) p 0 < n)
-  run-inside p h =
-      let at = run-at 2 (length listed) p (omega (arith, h, run-length 2 (length listed))) in
-      (omega (arith, at), omega (arith, at, h, run-length 2 (length listed), data-fits))
+  -- the files, and the catalogues
+  packed-files : filesOf image (run 1 (length all)) ≡ run first (length listed)
+  packed-files = indexed-files image 1 first all (omega arith) (room .few) indexes-laid
 
-  -- label area and files
-  packed-label : labelArea image ≡ label
-  unfolding labelArea
-  packed-label = rw sector0 (take-at label mapping 56 size)
+  laid-again : map (fileIn image) (run first (length listed)) ≡ listed
+  laid-again = laid-files layout n image (room .small) first behind listed (room .each) (omega arith) data-fits files-laid
 
-  laid-again : map (fileIn image) (run 2 (length listed)) ≡ listed
-  laid-again = laid-files layout n image small 2 first listed each (omega arith) data-fits files-laid
-
-  module _ (few : length listed ≤ 127) where
-    packed-index : IsIndex n (sectorOf image 1)
-    packed-index = rw sector1 (index-is-index n (run 2 (length listed)) run-inside (omega (arith, few, run-length 2 (length listed))))
-
-    packed-files : files image ≡ run 2 (length listed)
-    unfolding files
-    packed-files =
-        rw sector1
-        (numbers-index (run 2 (length listed)) (λ p h. omega (arith, run-inside p h)) (omega (arith, few, run-length 2 (length listed))))
-
-    packed-catalogue : catalogue image ≡ listed
-    unfolding catalogue
-    packed-catalogue = rw packed-files laid-again
+  packed-catalogues : map (catalogue image) (run 1 (length all)) ≡ all
+  packed-catalogues = indexed-catalogues image 1 first all (omega arith) (room .few) indexes-laid laid-again
 
   -- each descriptor keeps its rules, and has one block
   packed-each : (P : List ℕ → Type 0) → ((s : ℕ) (file : File) → IsListed layout file → 2 ≤ s → s + length (file .contents) ≤ n → P (packedDescriptor s file))
-      → (p : ℕ) → p < length (run 2 (length listed)) → P (sectorOf image (getD (run 2 (length listed)) p 0))
-  packed-each P holds p h =
-      let inside : p < length listed = omega (arith, h, run-length 2 (length listed)) in
-      rw (run-at 2 (length listed) p inside) (laid-each layout n image small P holds 2 first listed each (omega arith) data-fits files-laid p inside)
+      → (k : ℕ) → 1 ≤ count k (run first (length listed)) → P (sectorOf image k)
+  packed-each P holds =
+      counted-all (λ (k : ℕ). P (sectorOf image k)) (run first (length listed))
+      (λ p h.
+      let inside : p < length listed = omega (arith, h, run-length first (length listed)) in
+      rw (run-at first (length listed) p inside) (laid-each layout n image (room .small) P holds first behind listed (room .each) (omega arith) data-fits files-laid p inside))
 
-  packed-descriptors : (p : ℕ) → p < length (run 2 (length listed)) → IsDescriptor layout n (sectorOf image (getD (run 2 (length listed)) p 0))
-  packed-descriptors = packed-each (IsDescriptor layout n) (λ s file is low high. packed-descriptor layout n s file is small low high)
+  packed-descriptors : (k : ℕ) → 1 ≤ count k (run first (length listed)) → IsDescriptor layout n (sectorOf image k)
+  packed-descriptors = packed-each (IsDescriptor layout n) (λ s file is low high. packed-descriptor layout n s file is (room .small) low high)
 
-  packed-blocks : (k : ℕ) → 1 ≤ count k (run 2 (length listed)) → OneBlock (chainOf (sectorOf image k))
-  packed-blocks =
-      counted-all (λ (k : ℕ). OneBlock (chainOf (sectorOf image k))) (run 2 (length listed))
-      (packed-each (λ (d : List ℕ). OneBlock (chainOf d)) (λ s file is low high. packed-block layout n s file is small low high))
+  packed-blocks : (k : ℕ) → 1 ≤ count k (run first (length listed)) → OneBlock (chainOf (sectorOf image k))
+  packed-blocks = packed-each (λ (d : List ℕ). OneBlock (chainOf d)) (λ s file is low high. packed-block layout n s file is (room .small) low high)
+
+  -- each index has its numbers and zeros behind them, and keeps its rules where its catalogue is in order
+  packed-index : (i : ℕ) → 1 ≤ count i (run 1 (length all)) → sectorOf image i ≡ indexOf (filesIn image i)
+  packed-index =
+      indexed-each image (λ (i : ℕ). sectorOf image i ≡ indexOf (filesIn image i)) Ordered first behind
+      (λ i s files order short low high is e. rw (index-files image i s (length files) (omega (arith, low)) short is) is)
+      1 first all (omega arith) (omega arith) (room .few) (room .ordered) indexes-laid laid-again
+
+  same-count : sectorCount image ≡ n
+  same-count = omega (arith, packed-size)
+
+  packed-sound-index : (i : ℕ) → 1 ≤ count i (run 1 (length all)) → SoundIndex layout image i
+  unfolding Ordered
+  packed-sound-index = indexed-each image (SoundIndex layout image) Ordered first behind sound 1 first all (omega arith) (omega arith) (room .few) (room .ordered) indexes-laid laid-again
+    where
+      sound : (i s : ℕ) (files : List File) → Ordered files → length files ≤ 127 → first ≤ s → s + length files ≤ behind → sectorOf image i ≡ indexOf (run s (length files))
+          → map (fileIn image) (run s (length files)) ≡ files → SoundIndex layout image i
+      sound i s files order short low high is e =
+          let ks = run s (length files) in
+          let long = run-length s (length files) in
+          let are = index-files image i s (length files) (omega (arith, low)) short is in
+          let at : (p : ℕ) → p < length ks → getD ks p 0 ≡ s + p = λ p h. run-at s (length files) p (omega (arith, h, long)) in
+          let among : (p : ℕ) → p < length ks → 1 ≤ count (getD ks p 0) (run first (length listed)) =
+          λ p h. run-counts (getD ks p 0) first (length listed) (omega (arith, at p h, low)) (omega (arith, at p h, h, long, high))
+          in
+          record {
+            index = rw (same-count, is) (index-is-index n ks (λ p h. (omega (arith, at p h, low, room .some), omega (arith, at p h, h, long, high, data-fits))) (omega (arith, short, long)));
+            descriptors = rw (are, same-count) (λ p h. packed-descriptors (getD ks p 0) (among p h));
+            ascending = rw are (λ p q less h. rw (← name-at image ks p (omega arith), ← name-at image ks q h, e) (order p q less (omega (arith, h, long))));
+          }
 
   -- the data follows the descriptors
-  packed-data : placesOf image (run 2 (length listed)) ≡ run first (length (placesOf image (run 2 (length listed))))
+  packed-data : placesOf image (run first (length listed)) ≡ run behind (length (placesOf image (run first (length listed))))
   packed-data =
-      let e = laid-data layout n image small 2 first listed each (omega arith) data-fits files-laid in
-      rw e (ap (run first) (sym (run-length first (dataSectors listed))))
+      let e = laid-data layout n image (room .small) first behind listed (room .each) (omega arith) data-fits files-laid in
+      rw e (ap (run behind) (sym (run-length behind (dataSectors listed))))
 
   -- the holders are the sectors from 0 on, each once
-  packed-holders : (k : ℕ) → count k (0 ∷ (1 ∷ fileHolders image (run 2 (length listed)))) ≡ count k (run 0 used)
+  abbrev held : List ℕ
+  held = 0 ∷ (run 1 (length all) ++ fileHolders image (run first (length listed)))
+
+  packed-holders : (k : ℕ) → count k held ≡ count k (run 0 used)
   unfolding packedSectors
   packed-holders k =
-      let system = count-append k (0 ∷ (1 ∷ [])) (fileHolders image (run 2 (length listed))) in
-      let held = laid-holders layout n image small k 2 first listed each (omega arith) data-fits files-laid in
-      omega (arith, system, held, run-system k (length listed) (dataSectors listed))
+      let system = count-append k (0 ∷ run 1 (length all)) (fileHolders image (run first (length listed))) in
+      let files = laid-holders layout n image (room .small) k first behind listed (room .each) (omega arith) data-fits files-laid in
+      omega (arith, system, files, run-held k (length all) (length listed) (dataSectors listed))
 
-  packed-single : (k : ℕ) → count k (0 ∷ (1 ∷ fileHolders image (run 2 (length listed)))) ≤ 1
+  packed-single : (k : ℕ) → count k held ≤ 1
   packed-single k = rw (packed-holders k) (run-once k 0 used)
 
-  packed-map : part (sectorOf image 0) 56 200 ≡ mapOf n (0 ∷ (1 ∷ fileHolders image (run 2 (length listed))))
+  packed-map : part (sectorOf image 0) 56 200 ≡ mapOf n held
   packed-map =
-      rw sector0 (ap (take 200) (drop-at label mapping 56 size) ∙ take-all 200 mapping (omega (arith, map-length n (run 0 used))))
-      ∙ sym (map-same n (run 0 used) (0 ∷ (1 ∷ fileHolders image (run 2 (length listed)))) packed-holders)
+      rw sector0 (ap (take 200) (drop-at top mapping 56 (room .size)) ∙ take-all 200 mapping (omega (arith, map-length n (run 0 used))))
+      ∙ sym (map-same n (run 0 used) held packed-holders)
 
-  packed-bits : (k : ℕ) → k < 1600 → mapBit (sectorOf image 0) k ≡ taken n (0 ∷ (1 ∷ fileHolders image (run 2 (length listed)))) k
-  packed-bits = map-of-bits n (0 ∷ (1 ∷ fileHolders image (run 2 (length listed)))) (sectorOf image 0) packed-single packed-map
+  packed-bits : (k : ℕ) → k < 1600 → mapBit (sectorOf image 0) k ≡ taken n held k
+  packed-bits = map-of-bits n held (sectorOf image 0) packed-single packed-map
 
   -- and what they do not hold is filled
-  packed-free : (k : ℕ) → k < n → count k (0 ∷ (1 ∷ fileHolders image (run 2 (length listed)))) ≡ 0 → sectorOf image k ≡ replicate 256 0xE5
+  packed-free : (k : ℕ) → k < n → count k held ≡ 0 → sectorOf image k ≡ replicate 256 0xE5
   packed-free k inside none =
       elim (decLt k used) [
-        | yes held ↦ absurd (omega (arith, none, packed-holders k, run-counts k 0 used (omega arith) (omega arith)))
+        | yes under ↦ absurd (omega (arith, none, packed-holders k, run-counts k 0 used (omega arith) (omega arith)))
         | no past ↦
-            filled-behind image ((((label ++ mapping) ++ indexing) ++ described) ++ stored) 0xE5 used (n - used) k
-            (behind-five layout image label mapping indexing described stored unused parts) held-length (omega arith) (omega (arith, inside, fits))
+            filled-behind image ((((top ++ mapping) ++ indexing) ++ described) ++ stored) 0xE5 used (n - used) k
+            (behind-five image top mapping indexing described stored unused parts) held-length (omega arith) (omega (arith, inside, room .fits))
       ]
 
   -- the bytes of the label
-  packed-bytes : (i : ℕ) → i < 56 → byteAt (sectorOf image 0) i ≡ byteAt label i
-  packed-bytes i h = rw sector0 (List·getD-append label mapping 0 i (omega arith))
+  packed-top : part (sectorOf image 0) 0 56 ≡ top
+  packed-top = rw sector0 (take-at top mapping 56 (room .size))
 
-catalogue-is : (image : List ℕ) → catalogue image ≡ map (fileIn image) (files image)
-unfolding catalogue
-catalogue-is image = refl
-
--- two lists of files that are one, read at a place
-same-names : (after source ks js : List ℕ) → map (fileIn after) ks ≡ map (fileIn source) js → (p : ℕ) → p < length ks → p < length js
-    → nameIn after (getD ks p 0) ≡ nameIn source (getD js p 0)
-same-names after source ks js e p h l =
-    let here = get-mapped (fileIn after) ks p 0 noFile h in
-    let there = get-mapped (fileIn source) js p 0 noFile l in
-    sym (file-name after (getD ks p 0))
-    ∙ ap fileName (sym here ∙ ap (λ (listed : List File). getD listed p noFile) e ∙ there)
-    ∙ file-name source (getD js p 0)
-
-pub label-byte : (source : List ℕ) (i : ℕ) → i < 56 → byteAt (labelArea source) i ≡ byteAt (sectorOf source 0) i
-unfolding labelArea
-label-byte source i h = part-at (sectorOf source 0) 0 56 i h ∙ ap (byteAt (sectorOf source 0)) (omega arith)
+  packed-byte : (i : ℕ) → i < 56 → byteAt (sectorOf image 0) i ≡ byteAt top i
+  packed-byte i h = rw sector0 (List·getD-append top mapping 0 i (omega arith))
 
 -- The packed image of a sound source.
-abbrev pub packedImage : List ℕ → List ℕ
-packedImage source = packed (sectorCount source) (labelArea source) (catalogue source)
+abbrev pub packedImage : Layout → List ℕ → List ℕ
+packedImage layout source = packed layout (sectorCount source) (labelArea layout source) (catalogues layout source)
 
 module _ (layout : Layout) (source : List ℕ) (is : Sound layout source) where
   abbrev n : ℕ
   n = sectorCount source
 
-  label-long : length (labelArea source) ≡ 56
-  label-long = label-length n source (is .whole) (omega (arith, is .size))
+  abbrev all : List (List File)
+  all = catalogues layout source
 
-  source-listed : Each layout (catalogue source)
-  unfolding catalogue files
-  source-listed = each-listed layout n source (is .whole) (files source) (λ p h. is .index .range p h .1) (is .descriptors)
+  abbrev after : List ℕ
+  after = packedImage layout source
 
-  source-many : length (catalogue source) ≡ length (files source)
-  unfolding catalogue
-  source-many = length-map (files source) (fileIn source)
+  label-long : length (packedLabel layout (labelArea layout source)) ≡ 56
+  unfolding packedLabel
+  label-long = with-length (labelArea layout source) 30 _ ∙ label-length layout source is
 
-  source-fits : packedSectors (catalogue source) ≤ n
+  source-listed : Each layout (together all)
+  source-listed =
+      let ks = allFiles layout source in
+      let rules = files-range layout source (indexes layout source) (is .each) in
+      rw (all-together layout source) (each-listed layout n source (is .whole) ks (λ p h. rules (getD ks p 0) (count-at ks p h) .1) (λ p h. rules (getD ks p 0) (count-at ks p h) .2))
+
+  source-indexes : length all ≡ length (indexes layout source)
+  unfolding catalogues
+  source-indexes = length-map (indexes layout source) (catalogue source)
+
+  source-files : length (together all) ≡ length (allFiles layout source)
+  source-files = ap length (all-together layout source) ∙ length-map (allFiles layout source) (fileIn source)
+
+  -- the root's index is there, and behind it those that the entries have
+  abbrev old : List ℕ
+  old = map entryIndex (entries layout (sectorOf source 0))
+
+  present-all : indexes layout source ≡ 1 ∷ present old
+  unfolding indexes directories
+  present-all = present-there 1 old (λ e. omega arith)
+
+  source-some : 1 ≤ length all
+  source-some = omega (arith, source-indexes, ap length present-all)
+
+  source-few : Few all
+  unfolding catalogues
+  source-few = catalogues-few layout source (indexes layout source) (is .each)
+
+  source-ordered : Every Ordered all
+  unfolding catalogues
+  source-ordered = catalogues-ordered layout source (indexes layout source) (is .each)
+
+  source-fits : packedSectors all ≤ n
   source-fits = used-inside layout source is
 
-  source-few : length (catalogue source) ≤ 127
-  unfolding files
-  source-few = omega (arith, source-many, is .index .few)
+  room-there : Room layout n (labelArea layout source) all
+  room-there =
+      record { size = label-long; each = source-listed; some = source-some; few = source-few; ordered = source-ordered; fits = source-fits; small = is .size .1 }
 
-  same-size : length (packedImage source) ≡ length source
-  same-size = packed-size layout n (labelArea source) (catalogue source) label-long source-listed source-fits (is .size .1) ∙ sym (is .whole)
+  same-size : length after ≡ length source
+  same-size = packed-size room-there ∙ sym (is .whole)
 
-  same-label : labelArea (packedImage source) ≡ labelArea source
-  same-label = packed-label layout n (labelArea source) (catalogue source) label-long source-listed source-fits (is .size .1)
+  -- its entries are those of the new label
+  same-entries : entries layout (sectorOf after 0) ≡ entries layout (packedLabel layout (labelArea layout source))
+  same-entries =
+      entries-alike layout (sectorOf after 0) (packedLabel layout (labelArea layout source))
+      (omega (arith, sector-length after 0 (omega (arith, same-size, is .whole, is .size)))) (omega (arith, label-long))
+      (packed-byte room-there)
 
-  same-catalogue : catalogue (packedImage source) ≡ catalogue source
-  same-catalogue = packed-catalogue layout n (labelArea source) (catalogue source) label-long source-listed source-fits (is .size .1) source-few
+  new-indexes : map entryIndex (entries layout (sectorOf after 0)) ≡ numberedFrom 2 old
+  new-indexes = rw same-entries (packed-indexes layout source is)
 
-  same-files : map (fileIn (packedImage source)) (run 2 (length (catalogue source))) ≡ map (fileIn source) (files source)
-  same-files = laid-again layout n (labelArea source) (catalogue source) label-long source-listed source-fits (is .size .1) ∙ catalogue-is source
+  same-indexes : indexes layout after ≡ run 1 (length all)
+  unfolding indexes directories run
+  same-indexes =
+      present-there 1 (map entryIndex (entries layout (sectorOf after 0))) (λ e. omega arith)
+      ∙ ap (λ (l : List ℕ). 1 ∷ l) (ap present new-indexes ∙ numbered-present 2 old (omega arith))
+      ∙ ap (run 1) (sym (source-indexes ∙ ap length present-all))
 
-  names-ascend : Ascending (packedImage source) (run 2 (length (catalogue source)))
-  names-ascend p q low inside =
-      let many = run-length 2 (length (catalogue source)) in
-      rw (
-        same-names (packedImage source) source (run 2 (length (catalogue source))) (files source) same-files p (omega arith) (omega (arith, many, source-many)),
-        same-names (packedImage source) source (run 2 (length (catalogue source))) (files source) same-files q inside (omega (arith, many, source-many)),
-      )
-      (is .ascending p q low (omega (arith, many, source-many)))
+  same-files : allFiles layout after ≡ run (1 + length all) (length (together all))
+  same-files = ap (filesOf after) same-indexes ∙ packed-files room-there
 
-  pub packed-sound : Sound layout (packedImage source)
+  same-catalogues : catalogues layout after ≡ all
+  unfolding catalogues
+  same-catalogues = ap (map (catalogue after)) same-indexes ∙ packed-catalogues room-there
+
+  same-holders : holders layout after ≡ held room-there
+  unfolding holders
+  same-holders = rw (same-indexes, packed-files room-there)
+
+  -- bytes before the entries
+  byte-kept : (i : ℕ) → i < 20 → byteAt (sectorOf after 0) i ≡ byteAt (sectorOf source 0) i
+  unfolding packedLabel
+  byte-kept i h =
+      packed-byte room-there i (omega arith)
+      ∙ with-below (labelArea layout source) 30 _ i (omega arith) ∙ label-byte layout source is i (omega arith)
+
+  label-kept : IsLabel n (sectorOf after 0)
+  label-kept =
+      let long : length (sectorOf source 0) ≡ 256 = sector-length source 0 (omega (arith, is .whole, is .size)) in
+      let long′ : length (sectorOf after 0) ≡ 256 = sector-length after 0 (omega (arith, same-size, is .whole, is .size)) in
+      let name = part-alike (sectorOf after 0) (sectorOf source 0) 0 0 10 (omega arith) (omega arith) (λ i h. let z : 0 + i ≡ i = omega arith in rw z (byte-kept i (omega arith))) in
+      record {
+        name = rw name (is .label .name);
+        count = rw (byte-kept 10 (omega arith), byte-kept 11 (omega arith)) (is .label .count);
+        dsk = rw (byte-kept 13 (omega arith), byte-kept 14 (omega arith), byte-kept 15 (omega arith)) (is .label .dsk);
+      }
+
+  count-kept : sectorCount after ≡ n
+  count-kept = ap (λ (m : ℕ). m / 256) same-size
+
+  pub packed-sound : Sound layout after
   packed-sound =
-      let small = is .size .1 in
-      sound-again layout source (packedImage source) (run 2 (length (catalogue source))) is
-      (record {
-        size = same-size;
-        label = λ i h. packed-bytes layout n (labelArea source) (catalogue source) label-long source-listed source-fits small i h ∙ label-byte source i h;
-        index = packed-index layout n (labelArea source) (catalogue source) label-long source-listed source-fits small source-few;
-        files-are = packed-files layout n (labelArea source) (catalogue source) label-long source-listed source-fits small source-few;
-        descriptors = packed-descriptors layout n (labelArea source) (catalogue source) label-long source-listed source-fits small;
-        ascending = names-ascend;
-        single = packed-single layout n (labelArea source) (catalogue source) label-long source-listed source-fits small;
-        map = packed-bits layout n (labelArea source) (catalogue source) label-long source-listed source-fits small;
-      })
+      record {
+        whole = same-size ∙ is .whole ∙ ap (λ (m : ℕ). 256 * m) (sym count-kept);
+        size = rw count-kept (is .size);
+        label = rw count-kept label-kept;
+        entered = rw (count-kept, same-entries) (packed-entries layout source is (omega (arith, source-fits, all-sectors layout source, ap length present-all)));
+        each = λ i there. packed-sound-index room-there i (rw same-indexes at there);
+        single = rw same-holders (packed-single room-there);
+        marked = rw (count-kept, same-holders)
+            (λ k h.
+            packed-bits room-there k (omega (arith, h, is .size))
+            ∙ taken-below n _ k h);
+        filled = rw count-kept
+            (λ k h low.
+            packed-bits room-there k low ∙ taken-past n _ k h);
+      }
 
   -- and it is laid down as the paper says
-  pub laid-packs : Packs source (packedImage source)
-  unfolding labelArea holders
+  label-laid : part (sectorOf after 0) 0 56 ≡ withIndexes (labelArea layout source) 30 (map entryIndex (entries layout (sectorOf after 0)))
+  unfolding packedLabel
+  label-laid = packed-top room-there ∙ ap (withIndexes (labelArea layout source) 30) (new-numbers layout source is ∙ sym new-indexes)
+
+  same-directories : (directory : ℕ) → (indexAt layout after directory ≡ 0) ↔ (indexAt layout source directory ≡ 0)
+  unfolding indexAt directories
+  same-directories zero = ((λ e. absurd (omega (arith, e))), (λ e. absurd (omega (arith, e))))
+  same-directories (suc d) = rw new-indexes (numbered-zero 2 old d (omega arith))
+
+  pub laid-packs : Packs layout source after
   laid-packs =
-      let small = is .size .1 in
-      let listed = packed-files layout n (labelArea source) (catalogue source) label-long source-listed source-fits small source-few in
       record {
         size = same-size;
-        label = same-label;
-        map = rw (same-size, listed) (packed-map layout n (labelArea source) (catalogue source) label-long source-listed source-fits small);
-        index = rw (← source-many) (sector1 layout n (labelArea source) (catalogue source) label-long source-listed source-fits small);
-        listed = same-catalogue;
-        gapless = rw (listed, ← source-many) (packed-data layout n (labelArea source) (catalogue source) label-long source-listed source-fits small);
-        chains = rw listed (packed-blocks layout n (labelArea source) (catalogue source) label-long source-listed source-fits small);
-        free = rw (same-size, listed) (packed-free layout n (labelArea source) (catalogue source) label-long source-listed source-fits small);
+        label = label-laid;
+        map = rw (count-kept, same-holders) (packed-map room-there);
+        indexed = same-indexes ∙ ap (run 1) source-indexes;
+        entered = same-directories;
+        files = rw (← source-indexes, ← source-files) same-files;
+        index = λ i there. packed-index room-there i (rw same-indexes at there);
+        listed = same-catalogues;
+        gapless = rw (same-files, ← source-indexes, ← source-files) (packed-data room-there);
+        chains = rw same-files (packed-blocks room-there);
+        free = rw (count-kept, same-holders) (packed-free room-there);
       }

@@ -6,14 +6,14 @@ use Prim.Native.Nat.{ℕ, _+_}
 use native.Mathlib.Omega.{arith}
 use lib.Dec.{ltb}
 use lib.ListN.{length}
-use borrow.Author.Tests.{ltb-true, ltb-false}
+use borrow.Author.Tests.{eqb-false, ltb-true, ltb-false}
 use Rattle.rules.specs.Sectors.{sectorOf}
 use Rattle.rules.specs.Name.{wrongPlace}
 use Rattle.rules.specs.Map.{freeCount, marked}
 use Rattle.rules.specs.Chain.{blocks}
 use Rattle.rules.specs.Descriptor.{chainOf}
-use Rattle.rules.specs.Volume.{files, placesIn}
-use Rattle.rules.specs.Sound.{Sound}
+use Rattle.rules.specs.Volume.{indexAt, placesIn}
+use Rattle.rules.specs.Sound.{IsIndexed, Sound}
 use Rattle.rules.specs.Choice.{descriptorChoice, dataChoice}
 use Rattle.rules.specs.declared.Layout.{Layout}
 use Rattle.rules.specs.declared.Block.{Block}
@@ -21,7 +21,7 @@ use Rattle.rules.specs.Kind.{withMarks}
 use Rattle.rules.specs.Tests.{Test, firstOf}
 use Rattle.rules.specs.Verdict.{volumeTests, verdict}
 use Rattle.rules.specs.Outcome.{Report, Outcome, tested}
-use Rattle.rules.specs.Opening.{findIn, openOf, onFile, changing, adding}
+use Rattle.rules.specs.Opening.{findIn, inDirectory, openOf, onFile, changing, adding}
 use Rattle.rules.specs.Calls.Summary.{freeCountOf}
 use Rattle.rules.specs.Calls.Entry.{entryTests, entryOf}
 use Rattle.rules.specs.Calls.Read.{readTests, reading, readOf}
@@ -35,19 +35,20 @@ use Rattle.rules.specs.Calls.Overwrite.{overwriteTests, overwriting, overwriteO
 use Rattle.rules.specs.Calls.Protect.{settingBit, setBitOf}
 use Rattle.rules.specs.Calls.Store.{newSectors, newBlocks, storeTests, storing, storeOf}
 use Rattle.rules.specs.Calls.Delete.{deleteTests, deleting, deleteOf}
-use Rattle.rules.specs.Calls.Rename.{renameTests, renaming, openBoth, renameOf}
+use Rattle.rules.specs.Calls.Rename.{renameTests, renamingIn, renaming, openBoth, renameOf}
 use Rattle.rules.specs.declared.WrongPlace.the-variants.{None}
 use Rattle.rules.specs.declared.Opened.{Opened}
 use Rattle.rules.specs.declared.Opened.the-variants.{At, Absent, Refused, Misnamed}
 use Rattle.rules.proofs.Name.{name-is, is-name}
 use Rattle.rules.proofs.Verdict.{sound}
+use Rattle.rules.proofs.Indexes.{directory-indexed}
 use Rattle.rules.proofs.Choice.{choices-length}
 use Rattle.rules.proofs.Opening.{IsOpened}
 use Rattle.rules.proofs.Listed.{opened-listed}
 use Rattle.demands.specs.Call as call
 use Rattle.demands.specs.Call.{Form, numberIn, Look, Change, Call, namesOf, changeRule, ruleOf, numberOf}
 use Rattle.demands.specs.Ours.{seen, outcome, ours}
-use Rattle.demands.specs.Grounds.{Ground, ground, First, faults, lookGrounds, changeGrounds, grounds, isProtected, Has, Present, Overfull, NewOverfull, TextOver}
+use Rattle.demands.specs.Grounds.{Ground, ground, First, faults, nowhere, lookGrounds, changeGrounds, grounds, isProtected, Has, Present, Overfull, NewOverfull, TextOver}
 use Rattle.demands.specs.Taking.{Takes}
 use Rattle.demands.proofs.Carried.{answer-number, amount-number, summary-number, named-number, loaded-number}
 use Rattle.demands.proofs.Taking.{lowest-one, takes-one, descriptor-lowest, append-takes, new-takes}
@@ -55,8 +56,7 @@ use Rattle.demands.proofs.Lines.{listing-lists, lists-one}
 use Rattle.demands.proofs.Deciding.{Decides, Decide, first-after, first-ground, decide-both, broken, equal, unequal, below, at-most}
 use Rattle.demands.proofs.Faults.{sized-is, is-sized, faults-decided}
 use Rattle.demands.proofs.Creates.{status-among, among-status}
-use Rattle.demands.proofs.Renames.{renamings}
-use Rattle.demands.proofs.Opening.{of-file, unnamed, sound-first, name-first, absent-first, present-first}
+use Rattle.demands.proofs.Opening.{of-file, unnamed, sound-first, name-first, directory-first, absent-first, present-first}
 
 -- calls that name no file: the tests of the volume, and more behind them
 volume-first : (layout : Layout) (image : List ℕ) (tests : List Test) (gs : List {1} Ground) → (Sound layout image → Decide tests gs) → First (firstOf (volumeTests layout image ++ tests)) (faults layout image ++ gs)
@@ -64,34 +64,43 @@ unfolding verdict
 volume-first layout image tests gs decided =
     first-ground (volumeTests layout image ++ tests) (faults layout image ++ gs) (decide-both (volumeTests layout image) tests (faults layout image) gs (faults-decided layout image) (λ zero. decided (sound layout image zero)))
 
--- calls on a file, by the number that they make of what was opened; and calls that take a new name
-module _ (layout : Layout) (image name : List ℕ) (result : Opened → ℕ) (refused : (number : ℕ) → result (Refused number) ≡ number) (misnamed : (place : ℕ) → result (Misnamed place) ≡ 7) where
-  opened-first : (more : List {1} Ground) → (Sound layout image → wrongPlace name ≡ None → First (result (findIn image name 0 (files image))) more)
-      → First (result (openOf layout image name)) (faults layout image ++ (unnamed name ∷ more))
+-- calls on a file of a directory, by the number that they make of what was opened; and calls that take a new name
+module _ (layout : Layout) (image : List ℕ) (directory : ℕ) (name : List ℕ) (result : Opened → ℕ) (refused : (number : ℕ) → result (Refused number) ≡ number) (misnamed : (place : ℕ) → result (Misnamed place) ≡ 7) where
+  abbrev i : ℕ
+  i = indexAt layout image directory
+
+  opened-first : (more : List {1} Ground) → (Sound layout image → IsIndexed layout image i → wrongPlace name ≡ None → First (result (findIn image i name)) more)
+      → First (result (openOf layout image directory name)) (faults layout image ++ (unnamed name ∷ (nowhere layout image directory ∷ more)))
   unfolding openOf
-  opened-first more found = sound-first layout result image _ _ refused (λ is. name-first result name _ more misnamed (found is))
+  opened-first more found =
+      sound-first layout result image _ _ refused
+      (λ is. name-first result name _ _ misnamed (λ kept. directory-first layout result image directory name more (refused 8) (λ indexed. found is indexed kept)))
 
-  file-first : (more : List {1} Ground) → result Absent ≡ 8 → ((p k : ℕ) → IsOpened layout image name p k → First (result (At p k)) more)
-      → First (result (openOf layout image name)) (faults layout image ++ (unnamed name ∷ (ground 8 (Present image name → ⊥) ∷ more)))
-  file-first more eight found = opened-first _ (λ is kept. absent-first layout result image name is kept more eight found)
+  file-first : (more : List {1} Ground) → ((h : ℕ) → result (Absent h) ≡ 8) → ((p k : ℕ) → IsOpened layout image name i p k → First (result (At i p k)) more)
+      → First (result (openOf layout image directory name)) (faults layout image ++ (unnamed name ∷ (nowhere layout image directory ∷ (ground 8 (Present image i name → ⊥) ∷ more))))
+  file-first more eight found = opened-first _ (λ is indexed kept. absent-first layout result image i name is indexed kept more eight found)
 
-module _ (layout : Layout) (image name : List ℕ) (more : List {1} Ground) where
-  changing-first : (act : ℕ → Outcome) → ((p k : ℕ) → IsOpened layout image name p k → First (act k .number) more)
-      → First (changing (openOf layout image name) act .number) (faults layout image ++ (unnamed name ∷ (ground 8 (Present image name → ⊥) ∷ more)))
+module _ (layout : Layout) (image : List ℕ) (directory : ℕ) (name : List ℕ) (more : List {1} Ground) where
+  abbrev at : ℕ
+  at = indexAt layout image directory
+
+  changing-first : (act : ℕ → ℕ → Outcome) → ((p k : ℕ) → IsOpened layout image name at p k → First (act at k .number) more)
+      → First (changing (openOf layout image directory name) act .number) (faults layout image ++ (unnamed name ∷ (nowhere layout image directory ∷ (ground 8 (Present image at name → ⊥) ∷ more))))
   unfolding changing
-  changing-first act = file-first layout image name (λ (o : Opened). changing o act .number) (λ number. refl) (λ place. refl) more refl
+  changing-first act = file-first layout image directory name (λ (o : Opened). changing o act .number) (λ number. refl) (λ place. refl) more (λ h. refl)
 
-  reading-first : (act : ℕ → Report) → ((p k : ℕ) → IsOpened layout image name p k → First (act k .number) more)
-      → First (onFile (openOf layout image name) act .number) (faults layout image ++ (unnamed name ∷ (ground 8 (Present image name → ⊥) ∷ more)))
+  reading-first : (act : ℕ → Report) → ((p k : ℕ) → IsOpened layout image name at p k → First (act k .number) more)
+      → First (onFile (openOf layout image directory name) act .number) (faults layout image ++ (unnamed name ∷ (nowhere layout image directory ∷ (ground 8 (Present image at name → ⊥) ∷ more))))
   unfolding onFile
-  reading-first act = file-first layout image name (λ (o : Opened). onFile o act .number) (λ number. refl) (λ place. refl) more refl
+  reading-first act = file-first layout image directory name (λ (o : Opened). onFile o act .number) (λ number. refl) (λ place. refl) more (λ h. refl)
 
-  adding-first : (addition : Outcome) → (Sound layout image → First (addition .number) more)
-      → First (adding (openOf layout image name) addition .number) (faults layout image ++ (unnamed name ∷ (ground 9 (Present image name) ∷ more)))
+  adding-first : (addition : ℕ → Outcome) → (Sound layout image → First (addition at .number) more)
+      → First (adding (openOf layout image directory name) addition .number) (faults layout image ++ (unnamed name ∷ (nowhere layout image directory ∷ (ground 9 (Present image at name) ∷ more))))
   unfolding adding
   adding-first addition first =
       let result : Opened → ℕ = λ o. adding o addition .number in
-      opened-first layout image name result (λ number. refl) (λ place. refl) _ (λ is kept. present-first layout result image name is kept more (λ p k. refl) (λ absent. first is))
+      opened-first layout image directory name result (λ number. refl) (λ place. refl) _
+      (λ is indexed kept. present-first layout result image at name is indexed kept more (λ h p k. refl) (λ absent. first is))
 
 -- 13: the blocks that the call makes are the only ones of the facts
 overfull-decided : (image first places : List ℕ) (before : List Block) (ks : List ℕ) (chain : List Block) → Takes image first places before ks chain
@@ -104,11 +113,11 @@ overfull-decided image first places before ks chain takes =
           omega (arith, ltb-false 76 (length chain) e, o .over, ap length same);
     }
 
-longer-decided : (layout : Layout) (image name : List ℕ) (p k : ℕ) → IsOpened layout image name p k → ltb (freeCount (sectorOf image 0)) 1 ≡ false
+longer-decided : (layout : Layout) (image name : List ℕ) (i p k : ℕ) → IsOpened layout image name i p k → ltb (freeCount (sectorOf image 0)) 1 ≡ false
     → Decides (ltb 76 (length (longerBlocks image k))) (Overfull image [] (placesIn image k) (blocks (chainOf (sectorOf image k))) 1)
-longer-decided layout image name p k o room =
+longer-decided layout image name i p k o room =
     overfull-decided image [] (placesIn image k) (blocks (chainOf (sectorOf image k))) (dataChoice (sectorOf image 0) ∷ []) (longerBlocks image k)
-    (append-takes layout image k (o .whole) (opened-listed layout image name p k o) (ltb-false (freeCount (sectorOf image 0)) 1 room))
+    (append-takes layout image i k (o .whole) (o .indexed) (opened-listed layout image name i p k o) (ltb-false (freeCount (sectorOf image 0)) 1 room))
 
 new-decided : (layout : Layout) (image : List ℕ) → Sound layout image → (many : ℕ) → ltb (freeCount (sectorOf image 0)) (1 + many) ≡ false → Decides (ltb 76 (length (newBlocks image many))) (NewOverfull image many)
 unfolding newSectors
@@ -125,11 +134,13 @@ new-decided layout image is many room =
     }
 
 -- 15: and so is the text of the listing
-text-decided : (layout : Layout) (image : List ℕ) → Sound layout image → {room : ℕ} → Decides (ltb room (length (listingText layout image))) (TextOver layout image room)
-text-decided layout image is {room} =
+text-decided : (layout : Layout) (image : List ℕ) (i : ℕ) → Sound layout image → IsIndexed layout image i → {room : ℕ} → Decides (ltb room (length (listingText layout image i))) (TextOver layout image i room)
+text-decided layout image i is indexed {room} =
+    let text = listingText layout image i in
+    let lists = listing-lists layout image is i indexed in
     record {
-      yes-there = λ e. record { text = listingText layout image; lists = listing-lists layout image is; over = ltb-true room (length (listingText layout image)) e };
-      not-there = λ e o. omega (arith, ltb-false room (length (listingText layout image)) e, o .over, ap length (lists-one layout image (o .text) (listingText layout image) (o .lists) (listing-lists layout image is)));
+      yes-there = λ e. record { text = text; lists = lists; over = ltb-true room (length text) e };
+      not-there = λ e o. omega (arith, ltb-false room (length text) e, o .over, ap length (lists-one layout image i (o .text) text (o .lists) lists));
     }
 
 -- each look
@@ -142,17 +153,23 @@ unfolding seen lookGrounds Decide verdict freeCountOf entryTests entryOf readTes
 look-first layout call.judge buffer image = judged-first layout image
 look-first layout call.freeCount buffer image = rw (amount-number (freeCountOf layout image)) (judged-first layout image)
 look-first layout call.summarize buffer image = rw (summary-number layout image) (judged-first layout image)
-look-first layout (call.entry place) buffer image =
-    rw (answer-number (entryOf layout image place (length buffer) .number)) (volume-first layout image _ _ (λ is. (refl, at-most, λ _. (refl, below, λ _. tt))))
-look-first layout (call.read name offset) buffer image =
-    rw (named-number (call.one name) (readOf layout image name offset (length buffer) .number))
-    (reading-first layout image name _ (reading image offset (length buffer))
-    (λ p k o. first-ground (readTests image offset (length buffer) k) _ (refl, of-file layout image name p k o _ at-most, λ _. (refl, below, λ _. tt))))
-look-first layout (call.load name) buffer image =
-    rw (loaded-number (wrongPlace name) (loadOf layout image name (length buffer)))
-    (reading-first layout image name _ (loading image (length buffer))
-    (λ p k o. first-ground (loadTests image (length buffer) k) _ (refl, of-file layout image name p k o _ unequal, λ _. (refl, of-file layout image name p k o _ below, λ _. tt))))
-look-first layout call.list buffer image = rw (amount-number (listingOf layout image (length buffer))) (volume-first layout image _ _ (λ is. (refl, text-decided layout image is, λ _. tt)))
+look-first layout (call.entry directory place) buffer image =
+    rw (answer-number (entryOf layout image directory place (length buffer) .number))
+    (volume-first layout image _ _ (λ is. (refl, equal, λ _. (refl, at-most, λ _. (refl, below, λ _. tt)))))
+look-first layout (call.read directory name offset) buffer image =
+    let i = indexAt layout image directory in
+    rw (named-number (call.one name) (readOf layout image directory name offset (length buffer) .number))
+    (reading-first layout image directory name _ (reading image offset (length buffer))
+    (λ p k o. first-ground (readTests image offset (length buffer) k) _ (refl, of-file layout image name i p k o _ at-most, λ _. (refl, below, λ _. tt))))
+look-first layout (call.load directory name) buffer image =
+    let i = indexAt layout image directory in
+    rw (loaded-number (wrongPlace name) (loadOf layout image directory name (length buffer)))
+    (reading-first layout image directory name _ (loading image (length buffer))
+    (λ p k o. first-ground (loadTests image (length buffer) k) _ (refl, of-file layout image name i p k o _ unequal, λ _. (refl, of-file layout image name i p k o _ below, λ _. tt))))
+look-first layout (call.list directory) buffer image =
+    rw (amount-number (listingOf layout image directory (length buffer)))
+    (volume-first layout image _ _
+    (λ is. (refl, equal, λ there. (refl, text-decided layout image (indexAt layout image directory) is (directory-indexed layout image directory (eqb-false _ 0 there)), λ _. tt))))
 look-first layout call.pack buffer image = rw (answer-number (firstOf (packTests layout image buffer))) (volume-first layout image _ _ (λ is. (refl, unequal, λ _. tt)))
 
 -- each change
@@ -160,14 +177,15 @@ no-ground : First 0 []
 unfolding First
 no-ground = refl
 
-protected-first : (layout : Layout) (image name : List ℕ) (p k : ℕ) → IsOpened layout image name p k
-    → First (firstOf (renameTests image k)) (ground 10 (Has image name (isProtected image)) ∷ [])
+protected-first : (layout : Layout) (image name : List ℕ) (i p k : ℕ) → IsOpened layout image name i p k
+    → First (firstOf (renameTests image k)) (ground 10 (Has image i name (isProtected image)) ∷ [])
 unfolding renameTests Decide
-protected-first layout image name p k o = first-ground (renameTests image k) _ (refl, of-file layout image name p k o _ equal, λ _. tt)
+protected-first layout image name i p k o = first-ground (renameTests image k) _ (refl, of-file layout image name i p k o _ equal, λ _. tt)
 
-rename-first : (layout : Layout) (image old new : List ℕ) → First (renameOf layout image old new .number) (grounds layout (call.change old (call.rename new)) image)
-unfolding grounds changeGrounds renameOf openBoth renaming changing adding
-rename-first layout image old new =
+rename-first : (layout : Layout) (image : List ℕ) (directory : ℕ) (old new : List ℕ) → First (renameOf layout image directory old new .number) (grounds layout (call.change directory old (call.rename new)) image)
+unfolding grounds changeGrounds renameOf openBoth renaming renamingIn changing adding
+rename-first layout image directory old new =
+    let i = indexAt layout image directory in
     let result : Opened → ℕ = λ o. changing o (renaming layout image new) .number in
     sound-first layout result image _ _ (λ number. refl)
     (λ is.
@@ -175,43 +193,48 @@ rename-first layout image old new =
     (λ kept.
     name-first result new _ _ (λ place. refl)
     (λ kept-new.
-    absent-first layout result image old is kept _ refl
+    directory-first layout result image directory old _ refl
+    (λ indexed.
+    absent-first layout result image i old is indexed kept _ (λ h. refl)
     (λ p k o.
-    present-first layout (λ (o : Opened). adding o (tested (renameTests image k) (renamings layout image new k)) .number) image new is kept-new _ (λ p k. refl) (λ absent. protected-first layout image old p k o)))))
+    present-first layout (λ (o : Opened). adding o (renamingIn layout image new k) .number) image i new is indexed kept-new _ (λ h p k. refl) (λ absent. protected-first layout image old i p k o))))))
 
-change-first : (layout : Layout) (change : Change) (image name : List ℕ) → First (outcome layout change image name .number) (grounds (changeRule layout change) (call.change name change) image)
+change-first : (layout : Layout) (change : Change) (image : List ℕ) (directory : ℕ) (name : List ℕ)
+    → First (outcome layout change image directory name .number) (grounds (changeRule layout change) (call.change directory name change) image)
 unfolding outcome grounds changeGrounds Decide createOf creating createTests appendOf appending appendTests overwriteOf overwriting overwriteTests setBitOf settingBit storeOf storing storeTests deleteOf deleting deleteTests
-change-first layout (call.create status recordLength recordsPerSector) image name =
-    adding-first layout image name _ (creating layout image name status recordLength recordsPerSector)
-    (λ is. first-ground (createTests image status) _ (refl, broken (status-among status) (among-status status), λ _. (refl, at-most, λ _. (refl, below, λ _. tt))))
-change-first layout (call.append bytes) image name =
-    changing-first layout image name _ (appending layout image bytes)
+change-first layout (call.create status recordLength recordsPerSector) image directory name =
+    adding-first layout image directory name _ (creating layout image name status recordLength recordsPerSector)
+    (λ is. first-ground (createTests image status (indexAt layout image directory)) _ (refl, broken (status-among status) (among-status status), λ _. (refl, at-most, λ _. (refl, below, λ _. tt))))
+change-first layout (call.append bytes) image directory name =
+    let i = indexAt layout image directory in
+    changing-first layout image directory name _ (λ h k. appending layout image bytes k)
     (λ p k o.
     first-ground (appendTests image bytes k) _ (
       refl,
-      of-file layout image name p k o _ equal,
-      λ _. (refl, of-file layout image name p k o _ equal, λ _. (refl, unequal, λ _. (refl, below, λ room. (refl, of-file layout image name p k o _ (longer-decided layout image name p k o room), λ _. tt)))),
+      of-file layout image name i p k o _ equal,
+      λ _. (refl, of-file layout image name i p k o _ equal, λ _. (refl, unequal, λ _. (refl, below, λ room. (refl, of-file layout image name i p k o _ (longer-decided layout image name i p k o room), λ _. tt)))),
     ))
-change-first layout (call.overwrite offset bytes) image name =
-    changing-first layout image name _ (overwriting layout image offset bytes)
+change-first layout (call.overwrite offset bytes) image directory name =
+    let i = indexAt layout image directory in
+    changing-first layout image directory name _ (λ h k. overwriting layout image offset bytes k)
     (λ p k o.
     first-ground (overwriteTests image offset bytes k) _
-    (refl, of-file layout image name p k o _ equal, λ _. (refl, of-file layout image name p k o _ equal, λ _. (refl, of-file layout image name p k o _ at-most, λ _. (refl, unequal, λ _. tt)))))
-change-first layout call.protect image name = changing-first layout image name [] (settingBit 3 1 image) (λ p k o. no-ground)
-change-first layout call.unprotect image name = changing-first layout image name [] (settingBit 3 0 image) (λ p k o. no-ground)
-change-first layout call.clear image name = changing-first (withMarks layout) image name [] (settingBit 4 0 image) (λ p k o. no-ground)
-change-first layout (call.store bytes) image name =
-    adding-first layout image name _ (storing layout image name bytes)
-    (λ is. first-ground (storeTests image bytes) _ (refl, below, λ _. (refl, at-most, λ _. (refl, below, λ room. (refl, new-decided layout image is _ room, λ _. tt)))))
-change-first layout call.delete image name =
-    changing-first layout image name _ (deleting image) (λ p k o. first-ground (deleteTests image k) _ (refl, of-file layout image name p k o _ equal, λ _. tt))
-change-first layout (call.rename new) image name = rename-first layout image name new
+    (refl, of-file layout image name i p k o _ equal, λ _. (refl, of-file layout image name i p k o _ equal, λ _. (refl, of-file layout image name i p k o _ at-most, λ _. (refl, unequal, λ _. tt)))))
+change-first layout call.protect image directory name = changing-first layout image directory name [] (λ i k. settingBit 3 1 image k) (λ p k o. no-ground)
+change-first layout call.unprotect image directory name = changing-first layout image directory name [] (λ i k. settingBit 3 0 image k) (λ p k o. no-ground)
+change-first layout call.clear image directory name = changing-first (withMarks layout) image directory name [] (λ i k. settingBit 4 0 image k) (λ p k o. no-ground)
+change-first layout (call.store bytes) image directory name =
+    adding-first layout image directory name _ (storing layout image name bytes)
+    (λ is. first-ground (storeTests image bytes (indexAt layout image directory)) _ (refl, below, λ _. (refl, at-most, λ _. (refl, below, λ room. (refl, new-decided layout image is _ room, λ _. tt)))))
+change-first layout call.delete image directory name =
+    changing-first layout image directory name _ (deleting image) (λ p k o. first-ground (deleteTests image k) _ (refl, of-file layout image name (indexAt layout image directory) p k o _ equal, λ _. tt))
+change-first layout (call.rename new) image directory name = rename-first layout image directory name new
 
 -- each call
 pub progress : (layout : Layout) (c : Call) (image : List ℕ) → First (numberOf (ours layout) c image) (grounds (ruleOf layout c) c image)
 unfolding ours grounds formatTests Decide
 progress layout (call.look look buffer) image = look-first layout look buffer image
-progress layout (call.change name change) image = rw (named-number (namesOf name change) (outcome layout change image name .number)) (change-first layout change image name)
+progress layout (call.change directory name change) image = rw (named-number (namesOf name change) (outcome layout change image directory name .number)) (change-first layout change image directory name)
 progress layout (call.format n name g) image =
     rw (named-number (call.one name) (firstOf (formatTests image n name)))
     (first-ground (formatTests image n name) _

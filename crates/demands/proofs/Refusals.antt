@@ -13,7 +13,7 @@ use Rattle.rules.specs.Calls.Overwrite.{overwriting, overwriteOf}
 use Rattle.rules.specs.Calls.Protect.{settingBit, setBitOf}
 use Rattle.rules.specs.Calls.Store.{storing, storeOf}
 use Rattle.rules.specs.Calls.Delete.{deleting, deleteOf}
-use Rattle.rules.specs.Calls.Rename.{renaming, openBoth, renameOf}
+use Rattle.rules.specs.Calls.Rename.{renamingIn, renaming, openBoth, renameOf}
 use Rattle.rules.specs.declared.Layout.{Layout}
 use Rattle.rules.specs.declared.Opened.{Opened}
 use Rattle.rules.specs.declared.Opened.the-variants.{At, Absent, Refused, Misnamed}
@@ -39,40 +39,40 @@ reported-puts tests value bytes = record { none = unless-met tests bytes [] }
 refusal-writes : (number : ℕ) → Writes (refusal number)
 refusal-writes number = record { none = λ some. refl }
 
-changing-writes : (o : Opened) (change : ℕ → Outcome) → ((k : ℕ) → Writes (change k)) → Writes (changing o change)
+changing-writes : (o : Opened) (change : ℕ → ℕ → Outcome) → ((i k : ℕ) → Writes (change i k)) → Writes (changing o change)
 unfolding changing
-changing-writes (At p k) change each = each k
-changing-writes Absent change each = refusal-writes 8
+changing-writes (At i p k) change each = each i k
+changing-writes (Absent i) change each = refusal-writes 8
 changing-writes (Refused number) change each = refusal-writes number
 changing-writes (Misnamed place) change each = refusal-writes 7
 
-adding-writes : (o : Opened) (addition : Outcome) → Writes addition → Writes (adding o addition)
+adding-writes : (o : Opened) (addition : ℕ → Outcome) → ((i : ℕ) → Writes (addition i)) → Writes (adding o addition)
 unfolding adding
-adding-writes (At p k) addition is = refusal-writes 9
-adding-writes Absent addition is = is
-adding-writes (Refused number) addition is = refusal-writes number
-adding-writes (Misnamed place) addition is = refusal-writes 7
+adding-writes (At i p k) addition each = refusal-writes 9
+adding-writes (Absent i) addition each = each i
+adding-writes (Refused number) addition each = refusal-writes number
+adding-writes (Misnamed place) addition each = refusal-writes 7
 
 pub on-file-puts : (o : Opened) (reading : ℕ → Report) → ((k : ℕ) → Puts (reading k)) → Puts (onFile o reading)
 unfolding onFile
-on-file-puts (At p k) reading each = each k
-on-file-puts Absent reading each = record { none = λ some. refl }
+on-file-puts (At i p k) reading each = each k
+on-file-puts (Absent i) reading each = record { none = λ some. refl }
 on-file-puts (Refused number) reading each = record { none = λ some. refl }
 on-file-puts (Misnamed place) reading each = record { none = λ some. refl }
 
 -- every change
-set-writes : (layout : Layout) (j bit : ℕ) (image name : List ℕ) → Writes (setBitOf layout j bit image name)
+set-writes : (layout : Layout) (j bit : ℕ) (image : List ℕ) (directory : ℕ) (name : List ℕ) → Writes (setBitOf layout j bit image directory name)
 unfolding setBitOf settingBit
-set-writes layout j bit image name = changing-writes (openOf layout image name) (settingBit j bit image) (λ k. record { none = λ some. absurd (some refl) })
+set-writes layout j bit image directory name = changing-writes (openOf layout image directory name) (λ i k. settingBit j bit image k) (λ i k. record { none = λ some. absurd (some refl) })
 
-pub change-writes : (layout : Layout) (change : Change) (image name : List ℕ) → Writes (outcome layout change image name)
-unfolding outcome createOf creating appendOf appending overwriteOf overwriting storeOf storing deleteOf deleting renameOf renaming
-change-writes layout (call.create status recordLength recordsPerSector) image name = adding-writes (openOf layout image name) _ (tested-writes _ _)
-change-writes layout (call.append bytes) image name = changing-writes (openOf layout image name) (appending layout image bytes) (λ k. tested-writes _ _)
-change-writes layout (call.overwrite offset bytes) image name = changing-writes (openOf layout image name) (overwriting layout image offset bytes) (λ k. tested-writes _ _)
-change-writes layout call.protect image name = set-writes layout 3 1 image name
-change-writes layout call.unprotect image name = set-writes layout 3 0 image name
-change-writes layout call.clear image name = set-writes (withMarks layout) 4 0 image name
-change-writes layout (call.store bytes) image name = adding-writes (openOf layout image name) _ (tested-writes _ _)
-change-writes layout call.delete image name = changing-writes (openOf layout image name) (deleting image) (λ k. tested-writes _ _)
-change-writes layout (call.rename new) image name = changing-writes (openBoth layout image name new) (renaming layout image new) (λ k. adding-writes (findIn image new 0 _) _ (tested-writes _ _))
+pub change-writes : (layout : Layout) (change : Change) (image : List ℕ) (directory : ℕ) (name : List ℕ) → Writes (outcome layout change image directory name)
+unfolding outcome createOf creating appendOf appending overwriteOf overwriting storeOf storing deleteOf deleting renameOf renaming renamingIn
+change-writes layout (call.create status recordLength recordsPerSector) image directory name = adding-writes (openOf layout image directory name) _ (λ i. tested-writes _ _)
+change-writes layout (call.append bytes) image directory name = changing-writes (openOf layout image directory name) (λ i k. appending layout image bytes k) (λ i k. tested-writes _ _)
+change-writes layout (call.overwrite offset bytes) image directory name = changing-writes (openOf layout image directory name) (λ i k. overwriting layout image offset bytes k) (λ i k. tested-writes _ _)
+change-writes layout call.protect image directory name = set-writes layout 3 1 image directory name
+change-writes layout call.unprotect image directory name = set-writes layout 3 0 image directory name
+change-writes layout call.clear image directory name = set-writes (withMarks layout) 4 0 image directory name
+change-writes layout (call.store bytes) image directory name = adding-writes (openOf layout image directory name) _ (λ i. tested-writes _ _)
+change-writes layout call.delete image directory name = changing-writes (openOf layout image directory name) (deleting image) (λ i k. tested-writes _ _)
+change-writes layout (call.rename new) image directory name = changing-writes (openBoth layout image directory name new) (renaming layout image new) (λ i k. adding-writes (findIn image i new) _ (λ j. tested-writes _ _))

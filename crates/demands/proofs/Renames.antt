@@ -1,4 +1,4 @@
--- Rename: the file goes and comes under another name. That changes ten bytes in its descriptor and the place of its number in sector 1; the new name is no file's, so the names ascend
+-- Rename: the file goes and comes under another name. That changes ten bytes in its descriptor and the place of its number in the index; the new name is no file's, so the names ascend
 -- again, and the chain stands as it stood, so the holders are the same and the map needs no change.
 use mathlib.Core.Path.{_≡_, refl, ap, _∙_}
 use mathlib.Core.Bool.{true}
@@ -13,11 +13,11 @@ use Rattle.rules.specs.Map.{count}
 use Rattle.rules.specs.Chain.{places}
 use Rattle.rules.specs.Descriptor.{nameOf, chainOf, markedBy, IsDescriptor}
 use Rattle.rules.specs.Index.{indexOf, without}
-use Rattle.rules.specs.Volume.{files, nameIn, placesIn, placed, headerIn, contentsIn, fileIn, catalogue}
-use Rattle.rules.specs.Sound.{Sound}
-use Rattle.rules.specs.Outcome.{Bare, write, tested}
+use Rattle.rules.specs.Volume.{indexAt, filesIn, nameIn, placesIn, placed, headerIn, contentsIn, fileIn, catalogue}
+use Rattle.rules.specs.Sound.{IsIndexed, Sound}
+use Rattle.rules.specs.Outcome.{Bare, write}
 use Rattle.rules.specs.Opening.{findIn}
-use Rattle.rules.specs.Calls.Rename.{renameTests, renaming, openBoth, renameOf}
+use Rattle.rules.specs.Calls.Rename.{renameTests, renamingIn, renaming, openBoth, renameOf}
 use Rattle.rules.specs.declared.Layout.{Layout}
 use Rattle.rules.specs.declared.Opened.the-variants.{At, Refused}
 use Rattle.rules.proofs.Tests.{unless-passed}
@@ -30,16 +30,16 @@ use Rattle.rules.proofs.Map.{count-none, count-here, count-more, count-apart}
 use Rattle.rules.proofs.Indexed.{without-length, placed-length, index-length}
 use Rattle.rules.proofs.Staying.{map-agree}
 use Rattle.rules.proofs.Misnamed.{none-rule}
-use Rattle.rules.proofs.Opening.{IsOpened, wasLooked, sound-passed, name-passed, find-refused, under-refused, refused-bare, found-is, unfound, changed-done, added-done, place-many}
+use Rattle.rules.proofs.Opening.{IsOpened, wasLooked, sound-passed, name-passed, find-refused, under-refused, refused-bare, directory-found, directory-refused, absent-index, unfound, changed-done, added-done, place-many}
 use Rattle.rules.proofs.Written.{Whole, written-length, Apart, written-apart, written-at}
-use Rattle.rules.proofs.Listed.{sector-inside, listed-range, listed-descriptor, rest-apart, opened-listed}
+use Rattle.rules.proofs.Listed.{sector-inside, index-low, listed-range, listed-descriptor, rest-apart, opened-listed}
 use Rattle.rules.proofs.Replaced.{at, Replaced, stayed, index-anew, same-mapped}
-use Rattle.rules.proofs.Altered.{own-inside, place-other}
+use Rattle.rules.proofs.Altered.{own-other, place-other}
 use Rattle.demands.specs.Catalogue.{putIn, takenOut, named}
 use Rattle.demands.specs.Call.{rename}
 use Rattle.demands.specs.Ours.{outcome}
 use Rattle.demands.specs.Effects.{effect, Done, renamed, markedFile}
-use Rattle.demands.specs.Touches.{Numbers, Stays, Touches}
+use Rattle.demands.specs.Touches.{Numbers, Stays, TouchesIn}
 use Rattle.demands.specs.Does.{Does}
 use Rattle.demands.proofs.Filed.{named-file}
 use Rattle.demands.proofs.Replacing.{catalogue-after, replaced-done, numbers-after, lies-after, found-has}
@@ -62,15 +62,15 @@ module _ (d new : List ℕ) (long : length d ≡ 256) (ten : length new ≡ 10) 
       front-changed d (splice d 0 new) (splice-length d 0 new) layout n (λ i low. same-byte i (omega arith)) (λ j third fourth. rw status) (rw new-name is) (rw status (rules .status)) rules
 
 -- the number that goes is the one that comes
-still-listed : (image after : List ℕ) (k : ℕ) → Numbers image after (k ∷ []) (k ∷ []) → Numbers image after [] []
-still-listed image after k numbers = record { lists = λ j. omega (arith, numbers .lists j, count-none j); laid = numbers .laid }
+still-listed : (image after : List ℕ) (i k : ℕ) → Numbers image after i (k ∷ []) (k ∷ []) → Numbers image after i [] []
+still-listed image after i k numbers = record { lists = λ j. omega (arith, numbers .lists j, count-none j); laid = numbers .laid }
 
 -- the writes, and their sectors
-abbrev pub renamings : Layout → List ℕ → List ℕ → ℕ → List Write
-renamings layout image new k = write k (splice (markedBy layout (sectorOf image k)) 0 new) ∷ (write 1 (indexOf (placed image new k (without k (files image)))) ∷ [])
+abbrev renamings : Layout → List ℕ → ℕ → List ℕ → ℕ → List Write
+renamings layout image i new k = write k (splice (markedBy layout (sectorOf image k)) 0 new) ∷ (write i (indexOf (placed image new k (without k (filesIn image i)))) ∷ [])
 
-module _ (layout : Layout) (image old new : List ℕ) (k : ℕ) (is : Sound layout image) (there : 1 ≤ count k (files image)) (is-named : old ≡ nameIn image k) (is-name : IsName new)
-    (absent : (j : ℕ) → 1 ≤ count j (files image) → nameIn image j ≡ new → ⊥) where
+module _ (layout : Layout) (image : List ℕ) (i : ℕ) (old new : List ℕ) (k : ℕ) (is : Sound layout image) (indexed : IsIndexed layout image i) (there : 1 ≤ count k (filesIn image i)) (is-named : old ≡ nameIn image k) (is-name : IsName new)
+    (absent : (j : ℕ) → 1 ≤ count j (filesIn image i) → nameIn image j ≡ new → ⊥) where
   abbrev marked : List ℕ
   marked = markedBy layout (sectorOf image k)
 
@@ -78,10 +78,16 @@ module _ (layout : Layout) (image old new : List ℕ) (k : ℕ) (is : Sound layo
   descriptor = splice (markedBy layout (sectorOf image k)) 0 new
 
   abbrev after : List ℕ
-  after = written image (renamings layout image new k)
+  after = written image (renamings layout image i new k)
 
   range : (2 ≤ k) × (k < sectorCount image)
-  range = listed-range layout image is k there
+  range = listed-range layout image is i indexed k there
+
+  index-range : (1 ≤ i) × (i < sectorCount image)
+  index-range = index-low layout image is i indexed
+
+  index-other : k ≡ i → ⊥
+  index-other = own-other layout image i k is indexed there k (omega (arith, count-here k (placesIn image k)))
 
   long : length (sectorOf image k) ≡ 256
   long = sector-length image k (sector-inside layout image is k (range .1))
@@ -92,49 +98,50 @@ module _ (layout : Layout) (image old new : List ℕ) (k : ℕ) (is : Sound layo
   chain-now : chainOf descriptor ≡ chainOf (sectorOf image k)
   chain-now = same-chain marked new long-marked (is-name .ten) ∙ mark-chain layout (sectorOf image k)
 
-  whole : Whole (length image) (renamings layout image new k)
+  whole : Whole (length image) (renamings layout image i new k)
   unfolding Whole
   whole =
       let fits = sector-inside layout image is in (
         splice-length marked 0 new ∙ long-marked,
         fits k (range .1),
-        (index-length (placed image new k (without k (files image))), fits 1 (omega (arith, is .size)), tt),
+        (index-length (placed image new k (without k (filesIn image i))), fits i (index-range .1), tt),
       )
 
   sector-k : sectorOf after k ≡ descriptor
   unfolding Apart
-  sector-k = written-at image [] (write k descriptor) (write 1 _ ∷ []) whole ((λ e. omega (arith, e, range)), tt)
+  sector-k = written-at image [] (write k descriptor) (write i _ ∷ []) whole (index-other, tt)
 
-  sector1 : sectorOf after 1 ≡ indexOf (placed image new k (without k (files image)))
+  index-now : sectorOf after i ≡ indexOf (placed image new k (without k (filesIn image i)))
   unfolding Apart
-  sector1 = written-at image (write k descriptor ∷ []) (write 1 _) [] whole tt
+  index-now = written-at image (write k descriptor ∷ []) (write i _) [] whole tt
 
-  others : (j : ℕ) → (j ≡ k → ⊥) → (j ≡ 1 → ⊥) → sectorOf after j ≡ sectorOf image j
+  others : (j : ℕ) → (j ≡ k → ⊥) → (j ≡ i → ⊥) → sectorOf after j ≡ sectorOf image j
   unfolding Apart
-  others j other apart = written-apart image (renamings layout image new k) j whole (other, (apart, tt))
+  others j other apart = written-apart image (renamings layout image i new k) j whole (other, (apart, tt))
 
   places-now : placesIn after k ≡ placesIn image k
   unfolding placesIn
   places-now = rw sector-k (ap places chain-now)
 
-  replaced : Replaced layout image after new (at k) (at k)
+  replaced : Replaced layout image after i new (at k) (at k)
   unfolding nameIn
   replaced =
       record {
         sound = is;
+        indexed = indexed;
         listed = there;
-        size = written-length image (renamings layout image new k);
-        mapped = same-mapped layout image after (at k) (at k) is there (others 0 (λ e. omega (arith, e, range)) (λ e. omega (arith, e))) (λ j. rw places-now);
+        size = written-length image (renamings layout image i new k);
+        mapped = same-mapped layout image after i (at k) (at k) is indexed there (others 0 (λ e. omega (arith, e, range)) (λ e. omega (arith, e, index-range))) (λ j. rw places-now);
         numbered =
-            index-anew layout image after new (at k) (at k) is (λ j e. let z : k ≡ j = cc in rw (← z) range)
-            (omega (arith, placed-length k image new (without k (files image)), without-length k (files image) there, place-many layout image is)) sector1;
+            index-anew layout image after i new (at k) (at k) is indexed (λ j e. let z : k ≡ j = cc in rw (← z) range)
+            (omega (arith, placed-length k image new (without k (filesIn image i)), without-length k (filesIn image i) there, place-many layout image i (is .each i indexed))) index-now;
         stands = λ j held.
-            let apart = rest-apart layout image is k there j held in
-            others j (λ e. omega (arith, rw e at (apart .1), count-here k (placesIn image k))) (λ e. omega (arith, e, apart .0));
+            let apart = rest-apart layout image is i indexed k there j held in
+            others j (count-apart j k (placesIn image k) (apart .2) .0) (apart .1);
         new = record {
-          rules = rw sector-k (new-descriptor marked new long-marked (is-name .ten) layout (sectorCount image) is-name (mark-rules layout (sectorOf image k) long (sectorCount image) (listed-descriptor layout image is k there)));
+          rules = rw sector-k (new-descriptor marked new long-marked (is-name .ten) layout (sectorCount image) is-name (mark-rules layout (sectorOf image k) long (sectorCount image) (listed-descriptor layout image is i indexed k there)));
           named = rw sector-k (new-name marked new long-marked (is-name .ten));
-          alone = λ j left. absent j (stayed image (at k) there j left);
+          alone = λ j left. absent j (stayed image i (at k) there j left);
         };
       }
 
@@ -142,55 +149,60 @@ module _ (layout : Layout) (image old new : List ℕ) (k : ℕ) (is : Sound layo
   unfolding renamed markedFile fileIn headerIn contentsIn
   file-now =
       let contents = map-agree (sectorOf after) (sectorOf image) (placesIn image k)
-      (λ j h. others j (place-other layout image k is there j h) (λ e. omega (arith, e, own-inside layout image k is there j (omega (arith, h, count-more j k (placesIn image k))) .0)))
+      (λ j h. others j (place-other layout image i k is indexed there j h) (own-other layout image i k is indexed there j (omega (arith, h, count-more j k (placesIn image k)))))
       in
       rw (places-now, contents, sector-k, splice-take 28 marked 0 new, mark-header layout (sectorOf image k))
 
-  renamed-done : Done layout image after old (effect (putIn (renamed new (markedFile layout (named old (catalogue image)))) (takenOut old (catalogue image))) 0 0)
+  renamed-done : Done layout image after i old (effect (putIn (renamed new (markedFile layout (named old (catalogue image i)))) (takenOut old (catalogue image i))) 0 0)
   renamed-done =
       replaced-done layout replaced old is-named _ 0 0
-      (catalogue-after layout replaced old is-named ∙ rw (file-now, named-file layout image old k is there is-named))
+      (catalogue-after layout replaced old is-named ∙ rw (file-now, named-file layout image i old k is indexed there is-named))
       (rw places-now refl)
 
-  renamed-stays : Stays image after new k (1 ∷ (k ∷ []))
+  renamed-stays : Stays image after i new k (i ∷ (k ∷ []))
   renamed-stays =
       record {
         lies =
             lies-after layout replaced (placesIn image k) (chainOf (sectorOf image k)) places-now
             (ap chainOf sector-k ∙ chain-now);
-        others = λ j inside apart. let some = count-apart j 1 (k ∷ []) apart in others j (count-apart j k [] (some .1) .0) (some .0);
+        others = λ j inside apart. let some = count-apart j i (k ∷ []) apart in others j (count-apart j k [] (some .1) .0) (some .0);
       }
 
 -- a file that was found under its old name: the volume is sound, and both names keep the rule
-both-opened : (layout : Layout) (image old new : List ℕ) (p k : ℕ) → openBoth layout image old new ≡ At p k → IsOpened layout image old p k × (nameRule new ≡ true)
+both-opened : (layout : Layout) (image : List ℕ) (directory : ℕ) (old new : List ℕ) (i p k : ℕ) → openBoth layout image directory old new ≡ At i p k
+    → (indexAt layout image directory ≡ i) × IsOpened layout image old i p k × (nameRule new ≡ true)
 unfolding openBoth wasLooked
-both-opened layout image old new p k e =
-    let volume = sound-passed layout image _ (At p k) refl e in
-    let first = name-passed old _ (At p k) refl (volume .1) in
-    let second = name-passed new _ (At p k) refl (first .1) in
-    (found-is layout image old p k (volume .0) (first .0) (second .1), none-rule new (second .0))
+both-opened layout image directory old new i p k e =
+    let volume = sound-passed layout image _ (At i p k) refl e in
+    let first = name-passed old _ (At i p k) refl (volume .1) in
+    let second = name-passed new _ (At i p k) refl (first .1) in
+    let found = directory-found layout image directory old i p k (volume .0) (first .0) (second .1) in
+    (found .0, found .1, none-rule new (second .0))
 
-both-refused : (layout : Layout) (image old new : List ℕ) (number : ℕ) → openBoth layout image old new ≡ Refused number → Bare number number
+both-refused : (layout : Layout) (image : List ℕ) (directory : ℕ) (old new : List ℕ) (number : ℕ) → openBoth layout image directory old new ≡ Refused number → Bare number number
 unfolding openBoth
-both-refused layout image old new =
-    refused-bare layout image _ (λ number e. under-refused old _ number (under-refused new _ number (find-refused image old number)) e)
+both-refused layout image directory old new =
+    refused-bare layout image _ (λ number e. under-refused old _ number (under-refused new _ number (directory-refused layout image directory old number)) e)
 
 -- number 0: the old name is found and the new one is not, and the file is not protected
 pub renames : (layout : Layout) (new : List ℕ) → Does layout (rename new)
-unfolding outcome renameOf renaming Touches
-renames layout new image old e =
-    let was = changed-done (openBoth layout image old new) (renaming layout image new) (both-refused layout image old new) e in
+unfolding outcome renameOf renaming renamingIn TouchesIn
+renames layout new image directory old e =
+    let was = changed-done (openBoth layout image directory old new) (renaming layout image new) (both-refused layout image directory old new) e in
+    let i = was .index in
     let k = was .sector in
-    let both = both-opened layout image old new (was .place) k (was .found-at) in
-    let opened = both .0 in
-    let there = opened-listed layout image old (was .place) k opened in
-    let added = added-done (findIn image new 0 (files image)) (tested (renameTests image k) (renamings layout image new k)) (λ number found. absurd (find-refused image new number found)) (was .number) in
-    let is-name = name-is new (both .1) in
-    let absent = unfound image new 0 (files image) (added .absent) in
-    rw (was .is, added .is, unless-passed (renameTests image k) (renamings layout image new k) [] (added .number)) (
-      renamed-done layout image old new k (opened .whole) there (opened .named) is-name absent,
-      found-has layout image old (was .place) k opened (
-        renamed-stays layout image old new k (opened .whole) there (opened .named) is-name absent,
-        still-listed image _ k (numbers-after layout (replaced layout image old new k (opened .whole) there (opened .named) is-name absent) (sector1 layout image old new k (opened .whole) there (opened .named) is-name absent)),
+    let both = both-opened layout image directory old new i (was .place) k (was .found-at) in
+    let opened = both .1 in
+    let there = opened-listed layout image old i (was .place) k opened in
+    let added = added-done (findIn image i new) (renamingIn layout image new k) (λ number found. absurd (find-refused image i new number found)) (was .number) in
+    let same = absent-index image i new (added .index) (added .absent) in
+    let is-name = name-is new (both .2) in
+    let absent = unfound image i new (rw (← same) at (added .absent)) in
+    rw (was .is, added .is, ← same, unless-passed (renameTests image k) (renamings layout image i new k) [] (added .number), both .0) (
+      renamed-done layout image i old new k (opened .whole) (opened .indexed) there (opened .named) is-name absent,
+      found-has layout image old i (was .place) k opened (
+        renamed-stays layout image i old new k (opened .whole) (opened .indexed) there (opened .named) is-name absent,
+        still-listed image _ i k
+            (numbers-after layout (replaced layout image i old new k (opened .whole) (opened .indexed) there (opened .named) is-name absent) (index-now layout image i old new k (opened .whole) (opened .indexed) there (opened .named) is-name absent)),
       ),
     )

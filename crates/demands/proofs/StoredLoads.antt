@@ -12,11 +12,14 @@ use Rattle.rules.specs.Name.{IsName}
 use Rattle.rules.specs.Map.{count}
 use Rattle.rules.specs.Kind.{programLength, sectorsFor, marking}
 use Rattle.rules.specs.Descriptor.{sectorsOf, IsDescriptor}
-use Rattle.rules.specs.Volume.{File, files, nameIn, fileIn, catalogue}
-use Rattle.rules.specs.Sound.{Sound, fileAt}
+use Rattle.rules.specs.Volume.{File, indexAt, filesIn, nameIn, fileIn, catalogue}
+use Rattle.rules.specs.Sound.{fileAt, IsIndexed, Sound}
 use Rattle.rules.specs.declared.Layout.{Layout}
 use Rattle.rules.proofs.Marks.{marking-bit}
 use Rattle.rules.proofs.Map.{count-at}
+use Rattle.rules.proofs.Indexes.{index-some}
+use Rattle.rules.proofs.Staying.{index-at-kept, indexes-kept}
+use Rattle.rules.proofs.Written.{entries-stand}
 use Rattle.rules.proofs.Volume.{contents-count, header-at}
 use Rattle.rules.proofs.Listed.{listed-name, listed-descriptor}
 use Rattle.demands.specs.Call as call
@@ -24,14 +27,14 @@ use Rattle.demands.specs.Call.{Call, Version, numberOf}
 use Rattle.demands.specs.Catalogue.{fileName, noFile, named}
 use Rattle.demands.specs.Effects.{Changed, newProgram}
 use Rattle.demands.specs.Grounds.{Ground, First, faults, lookGrounds, grounds, Has}
-use Rattle.demands.specs.Touches.{Enters, Touches}
+use Rattle.demands.specs.Touches.{Enters, TouchesIn}
 use Rattle.demands.specs.Demand2.{Shows, Means, Demand2, StoredLoads}
 use Rattle.demands.specs.Lengths.{OfLength, StoredLength}
 use Rattle.demands.proofs.Filed.{file-of, file-name, named-file}
 use Rattle.demands.proofs.Lengths.{of-length}
 use Rattle.demands.proofs.NewFile.{header-name, header-status, header-end}
 use Rattle.demands.proofs.Pieces.{pieces-length, joined-pieces, put-stands}
-use Rattle.demands.proofs.Touched.{of-first}
+use Rattle.demands.proofs.Touched.{directory-there, of-first}
 
 -- where no ground is there, the number is 0
 unfoldable None : List {1} Ground → Type 0
@@ -57,18 +60,21 @@ faultless layout image is = (
   (
     (λ none. none (is .label)),
     (
-      (λ none. none (is .index)),
+      (λ none. none (record { entered = is .entered; each = λ i indexed. is .each i indexed .index })),
       (
-        (λ none. none (record { descriptors = is .descriptors; ascending = is .ascending })),
+        (λ none. none (record { descriptors = λ i indexed. is .each i indexed .descriptors; ascending = λ i indexed. is .each i indexed .ascending })),
         ((λ held. omega (arith, is .single (held .sector), held .twice)), ((λ none. none (record { marked = is .marked; filled = is .filled })), tt)),
       ),
     ),
   ),
 )
 
-module _ (layout : Layout) (version : Version) (all : Demand2 layout version) (name bytes image : List ℕ) (is : Sound layout image) where
+module _ (layout : Layout) (version : Version) (all : Demand2 layout version) (directory : ℕ) (name bytes image : List ℕ) (is : Sound layout image) where
+  abbrev i : ℕ
+  i = indexAt layout image directory
+
   abbrev storing : Call
-  storing = call.change name (call.store bytes)
+  storing = call.change directory name (call.store bytes)
 
   abbrev after : List ℕ
   after = version storing image .image
@@ -77,22 +83,31 @@ module _ (layout : Layout) (version : Version) (all : Demand2 layout version) (n
   file = newProgram layout name bytes
 
   module _ (zero : numberOf version storing image ≡ 0) where
-    changed : Changed layout (call.store bytes) image after name
+    changed : Changed layout (call.store bytes) image after directory name
     unfolding Means
     changed = all .means storing image is zero .0
 
-    enters : Enters image after name (sectorsFor (length bytes))
-    unfolding Means Touches
+    enters : Enters image after i name (sectorsFor (length bytes))
+    unfolding Means TouchesIn
     enters = all .means storing image is zero .1
 
     abbrev k : ℕ
     k = enters .k
 
-    abbrev there : 1 ≤ count k (files after)
+    -- the directory is where it was
+    same-index : indexAt layout after directory ≡ i
+    same-index = index-at-kept layout image after (entries-stand layout image after is (changed .size) (changed .kept .label)) directory
+
+    indexed : IsIndexed layout after i
+    indexed =
+        rw (indexes-kept layout image after (entries-stand layout image after is (changed .size) (changed .kept .label)))
+        (directory-there layout directory name (call.store bytes) image (numberOf version storing image) zero (all .progress storing image))
+
+    abbrev there : 1 ≤ count k (filesIn after i)
     there = enters .gains .lies .listed
 
     rules : IsDescriptor layout (sectorCount after) (sectorOf after k)
-    rules = listed-descriptor layout after (changed .sound) k there
+    rules = listed-descriptor layout after (changed .sound) i indexed k there
 
     is-name : IsName name
     unfolding nameIn
@@ -105,25 +120,25 @@ module _ (layout : Layout) (version : Version) (all : Demand2 layout version) (n
     file-now : fileIn after k ≡ file
     unfolding catalogue
     file-now =
-        let stands = put-stands file (catalogue image) in
+        let stands = put-stands file (catalogue image i) in
         let p = stands .place in
-        let inside : p < length (files after) = omega (arith, stands .inside, ap length (changed .catalogue-is), length-map (files after) (fileIn after)) in
-        let found = sym (file-of after p inside) ∙ ap (λ (l : List File). getD l p noFile) (changed .catalogue-is) ∙ stands .is in
-        let same : fileAt after p ≡ k =
-        listed-name layout after (changed .sound) (fileAt after p) k (count-at (files after) p inside) there
-        (sym (file-name after (fileAt after p)) ∙ ap fileName found ∙ header-name name (marking layout 0x01) 0 (length bytes % 256) 0 ten (sectorsFor (length bytes)) ∙ sym (enters .gains .lies .named))
+        let inside : p < length (filesIn after i) = omega (arith, stands .inside, ap length (changed .catalogue-is), length-map (filesIn after i) (fileIn after)) in
+        let found = sym (file-of after i p inside) ∙ ap (λ (l : List File). getD l p noFile) (changed .catalogue-is) ∙ stands .is in
+        let same : fileAt after i p ≡ k =
+        listed-name layout after (changed .sound) i indexed (fileAt after i p) k (count-at (filesIn after i) p inside) there
+        (sym (file-name after (fileAt after i p)) ∙ ap fileName found ∙ header-name name (marking layout 0x01) 0 (length bytes % 256) 0 ten (sectorsFor (length bytes)) ∙ sym (enters .gains .lies .named))
         in
         rw same at found
 
-    named-now : named name (catalogue after) ≡ file
-    named-now = named-file layout after name k (changed .sound) there (sym (enters .gains .lies .named)) ∙ file-now
+    named-now : named name (catalogue after i) ≡ file
+    named-now = named-file layout after i name k (changed .sound) indexed there (sym (enters .gains .lies .named)) ∙ file-now
 
     -- it is one of as many bytes as were lent
     sized : OfLength file (length bytes)
     sized = let c = sectorsFor (length bytes) in of-length file (length bytes) (pieces-length c bytes) (header-end name (marking layout 0x01) 0 (length bytes % 256) 0 ten c)
 
     -- what the grounds speak of
-    this : Has after name (λ j. Unit {0})
+    this : Has after i name (λ j. Unit {0})
     this = record { sector = k; listed = there; named = enters .gains .lies .named; so = tt }
 
     at-header : (i : ℕ) → i < 28 → byteAt (sectorOf after k) i ≡ byteAt (file .header) i
@@ -136,33 +151,37 @@ module _ (layout : Layout) (version : Version) (all : Demand2 layout version) (n
 
     module _ (buffer : List ℕ) (room : length bytes ≤ length buffer) where
       abbrev loading : Call
-      loading = call.look (call.load name) buffer
+      loading = call.look (call.load directory name) buffer
 
       loads : numberOf version loading after ≡ 0
       unfolding grounds lookGrounds None this
       loads =
           first-none (numberOf version loading after) (grounds layout loading after)
-          (none-both (faults layout after) _ (faultless layout after (changed .sound)) (
+          (none-both (faults layout after) _ (faultless layout after (changed .sound))
+          (rw same-index (
             (λ none. none is-name),
             (
-              (λ none. none this),
+              index-some layout after i indexed,
               (
-                (λ other. of-first layout after name (changed .sound) this other (ap (λ (b : ℕ). bitOf b 0) (at-header 12 (omega arith) ∙ header-status name (marking layout 0x01) 0 (length bytes % 256) 0 ten (sectorsFor (length bytes))) ∙ marking-bit layout 0x01 0 (λ e. omega (arith, e)))),
-                ((λ short. omega (arith, room, length-now, of-first layout after name (changed .sound) this short)), tt),
+                (λ none. none this),
+                (
+                  (λ other. of-first layout after i name (changed .sound) indexed this other (ap (λ (b : ℕ). bitOf b 0) (at-header 12 (omega arith) ∙ header-status name (marking layout 0x01) 0 (length bytes % 256) 0 ten (sectorsFor (length bytes))) ∙ marking-bit layout 0x01 0 (λ e. omega (arith, e)))),
+                  ((λ short. omega (arith, room, length-now, of-first layout after i name (changed .sound) indexed this short)), tt),
+                ),
               ),
             ),
-          ))
+          )))
           (all .progress loading after)
 
 pub stored-length : (layout : Layout) → StoredLength layout
 unfolding StoredLength
-stored-length layout version all name bytes image is zero = rw (named-now layout version all name bytes image is zero) (sized layout version all name bytes image is zero)
+stored-length layout version all directory name bytes image is zero = rw (named-now layout version all directory name bytes image is zero) (sized layout version all directory name bytes image is zero)
 
 pub stored-loads : (layout : Layout) → StoredLoads layout
 unfolding StoredLoads Means Shows
-stored-loads layout version all name bytes buffer image is room zero =
+stored-loads layout version all directory name bytes buffer image is room zero =
     let loaded =
-    all .means (loading layout version all name bytes image is zero buffer room) (after layout version all name bytes image is) (changed layout version all name bytes image is zero .sound)
-    (loads layout version all name bytes image is zero buffer room)
+    all .means (loading layout version all directory name bytes image is zero buffer room) (after layout version all directory name bytes image is) (changed layout version all directory name bytes image is zero .sound)
+    (loads layout version all directory name bytes image is zero buffer room)
     in
-    rw (named-now layout version all name bytes image is zero, sized layout version all name bytes image is zero .long, joined-pieces (sectorsFor (length bytes)) bytes (omega arith)) at loaded
+    rw (same-index layout version all directory name bytes image is zero, named-now layout version all directory name bytes image is zero, sized layout version all directory name bytes image is zero .long, joined-pieces (sectorsFor (length bytes)) bytes (omega arith)) at loaded

@@ -13,8 +13,8 @@ use Rattle.rules.specs.declared.Layout.{Layout}
 use Rattle.rules.specs.declared.Block.{Block}
 use Rattle.rules.specs.Chain.{blocks, placesFrom, places, extended, extendedAll, Linked}
 use Rattle.rules.specs.Descriptor.{sectorsOf, chainOf}
-use Rattle.rules.specs.Volume.{files, placesIn}
-use Rattle.rules.specs.Sound.{Sound}
+use Rattle.rules.specs.Volume.{filesIn, placesIn}
+use Rattle.rules.specs.Sound.{IsIndexed, Sound}
 use Rattle.rules.specs.Choice.{lowestFree, descriptorChoice, dataChoice, dataChoices}
 use Rattle.rules.specs.Calls.Append.{longerBlocks}
 use Rattle.rules.specs.Calls.Store.{newSectors, newBlocks}
@@ -200,12 +200,12 @@ unfolding descriptorChoice
 descriptor-lowest layout image is some =
     found-lowest layout image is [] (sectorOf image 0) 0 (marks-none layout image is 1 some) 2 1598 (descriptorChoice (sectorOf image 0)) refl (descriptor-chosen layout image is some)
 
-pub append-takes : (layout : Layout) (image : List ℕ) (k : ℕ) → Sound layout image → 1 ≤ count k (files image) → 1 ≤ freeCount (sectorOf image 0)
+pub append-takes : (layout : Layout) (image : List ℕ) (i k : ℕ) → Sound layout image → IsIndexed layout image i → 1 ≤ count k (filesIn image i) → 1 ≤ freeCount (sectorOf image 0)
     → Takes image [] (placesIn image k) (blocks (chainOf (sectorOf image k))) (dataChoice (sectorOf image 0) ∷ []) (longerBlocks image k)
 unfolding placesIn places longerBlocks dataChoices extendedAll
-append-takes layout image k is there some =
+append-takes layout image i k is indexed there some =
     choices-taken layout image is 1 [] (sectorOf image 0) (marks-none layout image is 1 some) (sectorsOf (sectorOf image k)) (blocks (chainOf (sectorOf image k)))
-    (listed-descriptor layout image is k there .chain .linked)
+    (listed-descriptor layout image is i indexed k there .chain .linked)
 
 pub new-takes : (layout : Layout) (image : List ℕ) (many : ℕ) → Sound layout image → 1 + many ≤ freeCount (sectorOf image 0)
     → Takes image (descriptorChoice (sectorOf image 0) ∷ []) [] [] (newSectors image many) (newBlocks image many)

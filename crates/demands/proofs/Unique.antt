@@ -21,7 +21,7 @@ use Rattle.demands.specs.Call.{Names, Form, AnsweredTo, Answered, Look, 
 use Rattle.demands.specs.Ours.{answered, seen, ours}
 use Rattle.demands.specs.Unique.{LookPromised, Says, Promised, IsOurs, Unique}
 
-says-summary : (layout : Layout) (image : List ℕ) (given : Summary) → SummarySays image given (summaryOf layout image) → given ≡ summaryAnswer layout image
+says-summary : (layout : Layout) (image : List ℕ) (given : Summary) → SummarySays layout image given (summaryOf layout image) → given ≡ summaryAnswer layout image
 unfolding SummarySays summaryOf summaryAnswer verdict
 says-summary layout image (summary.Given sectors listed free) said = rw (said .1, said .2, said .3) (sym (unless-passed (volumeTests layout image) _ _ (said .0)))
 says-summary layout image (summary.Refused refused) said = rw (said .0) (sym (unless-met (volumeTests layout image) _ _ (said .1)))
@@ -47,10 +47,10 @@ unfolding LookPromised seen Says
 look-ours layout call.judge buffer image given after p = (p .0, p .1 ∙ sym (splice-none buffer 0))
 look-ours layout call.freeCount buffer image given after p = (says-amount given (freeCountOf layout image) (p .0), p .1 ∙ sym (splice-none buffer 0))
 look-ours layout call.summarize buffer image given after p = (says-summary layout image given (p .said), p .left)
-look-ours layout (call.entry place) buffer image given after p = (same-entry given _ _ (p .said), p .left)
-look-ours layout (call.read name offset) buffer image given after p = (says-names (call.one name) given _ (p .said), p .left)
-look-ours layout (call.load name) buffer image given after p = (says-named-amount (wrongPlace name) given _ (p .said), p .left)
-look-ours layout call.list buffer image given after p = (says-amount given _ (p .said), p .left)
+look-ours layout (call.entry directory place) buffer image given after p = (same-entry given _ _ (p .said), p .left)
+look-ours layout (call.read directory name offset) buffer image given after p = (says-names (call.one name) given _ (p .said), p .left)
+look-ours layout (call.load directory name) buffer image given after p = (says-named-amount (wrongPlace name) given _ (p .said), p .left)
+look-ours layout (call.list directory) buffer image given after p = (says-amount given _ (p .said), p .left)
 look-ours layout call.pack buffer image given after p = (says-answer given _ (p .0), p .1)
 
 pub is-ours : (layout : Layout) → IsOurs layout
@@ -58,7 +58,7 @@ unfolding IsOurs Promised ours
 is-ours layout (call.look {form} look buffer) image r p =
     let seen-so = look-ours layout look buffer image (r .answer) (r .buffer) (p .0) in
     same-result form (r .answer) _ (r .buffer) _ (r .image) image (seen-so .0) (seen-so .1) (p .1)
-is-ours layout (call.change name change) image r p = same-result (formOf (call.change name change)) (r .answer) _ (r .buffer) [] (r .image) _ (says-names (namesOf name change) (r .answer) _ (p .0 .said)) (p .1) (p .0 .left)
+is-ours layout (call.change directory name change) image r p = same-result (formOf (call.change directory name change)) (r .answer) _ (r .buffer) [] (r .image) _ (says-names (namesOf name change) (r .answer) _ (p .0 .said)) (p .1) (p .0 .left)
 is-ours layout (call.format n name geometry) image r p = same-result (formOf (call.format n name geometry)) (r .answer) _ (r .buffer) [] (r .image) _ (says-names (call.one name) (r .answer) _ (p .0)) (p .2) (p .1)
 
 pub unique : (layout : Layout) → Unique layout

@@ -2,7 +2,7 @@
 -- what demand 2 says of the sectors.
 use mathlib.Core.Path.{_≡_, refl, sym, ap, _∙_}
 use mathlib.Core.Bool.{true}
-use mathlib.Core.List.{List, [], _∷_, map}
+use mathlib.Core.List.{List, [], _∷_, _++_, map}
 use mathlib.Core.Logic.{inl, inr}
 use Prim.Native.Nat.{ℕ, _+_, _-_, _≤_, _<_}
 use native.Mathlib.Omega.{arith}
@@ -13,7 +13,8 @@ use Rattle.rules.specs.Name.{nameByte, padded, nameRule}
 use Rattle.rules.specs.Map.{mapBit, count}
 use Rattle.rules.specs.declared.Layout.{Layout}
 use Rattle.rules.specs.declared.Block.{Block}
-use Rattle.rules.specs.Volume.{files, fileHolders, holders, fileIn, catalogue}
+use Rattle.rules.specs.Sound.{IsIndexed}
+use Rattle.rules.specs.Volume.{indexAt, indexes, filesIn, filesOf, fileHolders, holders, File, fileIn, catalogue, catalogues}
 use Rattle.rules.specs.Tests.{firstOf}
 use Rattle.rules.specs.Verdict.{sizeRule, volumeTests, verdict}
 use Rattle.rules.specs.Calls.Summary.{freeCountOf}
@@ -24,7 +25,8 @@ use Rattle.rules.proofs.Map.{count-none, count-other}
 use Rattle.rules.proofs.Marking.{all-other}
 use Rattle.rules.proofs.Verdict.{sound}
 use Rattle.rules.proofs.Formatted.{formatted-length}
-use Rattle.rules.proofs.Altered.{own-inside}
+use Rattle.rules.proofs.Indexes.{root-at}
+use Rattle.rules.proofs.Altered.{own-inside, own-other}
 use Rattle.demands.specs.Catalogue.{named}
 use Rattle.demands.specs.Call as call
 use Rattle.demands.specs.Call.{Change, Call, Result, Version, formOf, numberIn, numberOf, changeRule}
@@ -35,14 +37,14 @@ use Rattle.demands.specs.Formatting.{EmptyVolume}
 use Rattle.demands.specs.Does.{Formatting}
 use Rattle.demands.specs.Taking.{Free, ForData, Takes}
 use Rattle.demands.specs.Grounds.{Has}
-use Rattle.demands.specs.Touches.{Touches}
+use Rattle.demands.specs.Touches.{Touches, TouchesIn}
 use Rattle.demands.specs.Demand2.{FreeIs, Shows, Means, Demand2}
 use Rattle.demands.specs.Unique.{OnlyOurs}
 use Rattle.demands.specs.Wrong.{NeverDone, OneNumber, DoesNothing, InventsFree, OnlyReports, Instance, after, Wipes, MovesData, TakesHigher, WrongVersions}
 use Rattle.demands.proofs.Formatting.{formatting}
 use Rattle.demands.proofs.Carried.{named-number, amount-number}
 use Rattle.demands.proofs.Computed.{secondSector, computed}
-use Rattle.demands.proofs.Touched.{behind-system, of-first}
+use Rattle.demands.proofs.Touched.{behind-system, directory-there, of-first}
 use Rattle.demands.proofs.Complete.{only-ours}
 
 -- a volume of n sectors, just formatted: its holders are sectors 0 and 1
@@ -57,17 +59,26 @@ new-volume : (layout : Layout) (n : ℕ) → 3 ≤ n → n ≤ 1600 → EmptyVol
 unfolding Formatting
 new-volume layout n large small = formatting layout n diskX geometry large small rule-x
 
-no-files : (layout : Layout) (image : List ℕ) → EmptyVolume layout image → files image ≡ []
-unfolding catalogue
-no-files layout image new = go (files image) (new .empty)
+-- it has one index, the root's, and no files
+no-files : (layout : Layout) (image : List ℕ) → EmptyVolume layout image → length (indexes layout image ++ fileHolders image (filesOf image (indexes layout image))) ≡ 1
+unfolding catalogues catalogue filesOf fileHolders
+no-files layout image new = go (indexes layout image) (new .empty)
   where
-    go : (ks : List ℕ) → map (fileIn image) ks ≡ [] → ks ≡ []
-    go [] e = refl
-    go (k ∷ ks) e = let one = ap length e in absurd (omega (arith, one))
+    none : (ks : List ℕ) → map (fileIn image) ks ≡ [] → ks ≡ []
+    none [] e = refl
+    none (k ∷ ks) e = let one = ap length e in absurd (omega (arith, one))
 
-free-is : (layout : Layout) (image : List ℕ) → EmptyVolume layout image → (free : ℕ) → FreeIs image free → free + 2 ≡ sectorCount image
-unfolding holders fileHolders
-free-is layout image new free counted = rw (no-files layout image new) at (counted .is)
+    first-empty : (files : List File) → files ∷ [] ≡ [] ∷ [] → files ≡ []
+    first-empty files e = cc e
+
+    go : (is : List ℕ) → map (catalogue image) is ≡ [] ∷ [] → length (is ++ fileHolders image (filesOf image is)) ≡ 1
+    go [] e = let one = ap length e in absurd (omega (arith, one))
+    go (i ∷ []) e = rw (none (filesIn image i) (first-empty (catalogue image i) e))
+    go (i ∷ (j ∷ is)) e = let one = ap length e in absurd (omega (arith, one))
+
+free-is : (layout : Layout) (image : List ℕ) → EmptyVolume layout image → (free : ℕ) → FreeIs layout image free → free + 2 ≡ sectorCount image
+unfolding holders
+free-is layout image new free counted = omega (arith, no-files layout image new, counted .is)
 
 module _ (layout : Layout) (version : Version) (all : Demand2 layout version) where
   -- its numbers are ours
@@ -81,11 +92,11 @@ module _ (layout : Layout) (version : Version) (all : Demand2 layout version) wh
 
   -- the append to NOTES changes the image
   abbrev appending : Call
-  appending = call.change notes (call.append secondSector)
+  appending = call.change 0 notes (call.append secondSector)
 
   appends : numberOf version appending (caseM layout) ≡ 0
   unfolding ours outcome
-  appends = number-ours appending (caseM layout) ∙ named-number (call.one notes) (appendOf layout (caseM layout) notes secondSector .number) ∙ computed layout .appended
+  appends = number-ours appending (caseM layout) ∙ named-number (call.one notes) (appendOf layout (caseM layout) 0 notes secondSector .number) ∙ computed layout .appended
 
   append-marks : version appending (caseM layout) .image ≡ caseM layout → ⊥
   unfolding Means
@@ -135,28 +146,38 @@ invents-free layout version kind all =
 
 only-reports : (layout : Layout) (version : Version) → OnlyReports layout version → Demand2 layout version → ⊥
 unfolding OnlyReports
-only-reports layout version kind all = append-marks layout version all (kind (caseM layout) notes secondSector (sound layout (caseM layout) (computed layout .judged)) (computed layout .held))
+only-reports layout version kind all = append-marks layout version all (kind (caseM layout) 0 notes secondSector (sound layout (caseM layout) (computed layout .judged)) (rw (root-at layout (caseM layout)) (computed layout .held)))
 
 -- what demand 2 says of the sectors where a change was done
-touched : (layout : Layout) (version : Version) → Demand2 layout version → {change : Change} → (some : Instance layout version change) → Touches (changeRule layout change) change (some .image) (after some) (some .name)
+touched : (layout : Layout) (version : Version) → Demand2 layout version → {change : Change} → (some : Instance layout version change) → Touches (changeRule layout change) change (some .image) (after some) (some .directory) (some .name)
 unfolding Means
-touched layout version all {change} some = all .means (call.change (some .name) change) (some .image) (some .sound) (some .done) .1
+touched layout version all {change} some = all .means (call.change (some .directory) (some .name) change) (some .image) (some .sound) (some .done) .1
 
-abbrev this-file : (layout : Layout) {version : Version} {change : Change} → (some : Instance layout version change) → Has (some .image) (some .name) (λ k. Unit {0})
+-- the directory is there
+there : (layout : Layout) (version : Version) → Demand2 layout version → {change : Change} → (some : Instance layout version change)
+    → IsIndexed (changeRule layout change) (some .image) (indexAt (changeRule layout change) (some .image) (some .directory))
+there layout version all {change} some =
+    directory-there (changeRule layout change) (some .directory) (some .name) change (some .image) _ (some .done) (all .progress (call.change (some .directory) (some .name) change) (some .image))
+
+abbrev this-file : (layout : Layout) {version : Version} {change : Change} → (some : Instance layout version change)
+    → Has (some .image) (indexAt (changeRule layout change) (some .image) (some .directory)) (some .name) (λ k. Unit {0})
 this-file layout some = record { sector = some .k; listed = some .listed; named = some .is-named; so = tt }
 
 wipes : (layout : Layout) (version : Version) → Wipes layout version → Demand2 layout version → ⊥
-unfolding Touches
+unfolding TouchesIn
 wipes layout version kind all =
     let some = kind .some in
-    let inside = own-inside layout (some .image) (some .k) (some .sound) (some .listed) (kind .sector) (kind .own) in
-    kind .wiped (touched layout version all some .so .others (kind .sector) (inside .1) (behind-system (kind .sector) [] (inside .0) ∙ count-none (kind .sector)))
+    let i = indexAt layout (some .image) (some .directory) in
+    let indexed = there layout version all some in
+    let inside = own-inside layout (some .image) i (some .k) (some .sound) indexed (some .listed) (kind .sector) (kind .own) in
+    let apart = own-other layout (some .image) i (some .k) (some .sound) indexed (some .listed) (kind .sector) (kind .own) in
+    kind .wiped (touched layout version all some .so .others (kind .sector) (inside .1) (behind-system i (kind .sector) [] (λ e. omega (arith, e, inside .0)) apart ∙ count-none (kind .sector)))
 
 moves-data : (layout : Layout) (version : Version) → MovesData layout version → Demand2 layout version → ⊥
-unfolding Touches
+unfolding TouchesIn
 moves-data layout version kind all =
     let some = kind .some in
-    kind .moved (of-first layout (some .image) (some .name) (some .sound) (this-file layout some) (touched layout version all some) .0 .lies .places-are)
+    kind .moved (of-first layout (some .image) (indexAt layout (some .image) (some .directory)) (some .name) (some .sound) (there layout version all some) (this-file layout some) (touched layout version all some) .0 .lies .places-are)
 
 -- the sector taken is the lowest free one from 34 up, where there is one
 taken-low : (image : List ℕ) (before after : List Block) (places ks : List ℕ) (lower higher : ℕ) → 34 ≤ lower → lower < higher → Free image [] lower
@@ -172,7 +193,7 @@ taken-low image before after places (k ∷ []) lower higher low order free takes
 taken-low image before after places (k ∷ (j ∷ ks)) lower higher low order free takes one = absurd (omega (arith, one))
 
 takes-higher : (layout : Layout) (version : Version) → TakesHigher layout version → Demand2 layout version → ⊥
-unfolding Touches
+unfolding TouchesIn
 takes-higher layout version kind all =
     let some = kind .some in
     let gains = touched layout version all some .so in

@@ -9,7 +9,7 @@ use Rattle.rules.specs.Sectors.{sectorOf, sectorCount}
 use Rattle.rules.specs.Calls.Pack.{labelArea, packed}
 use Rattle.rules.specs.Map.{freeCount}
 use Rattle.rules.specs.Descriptor.{sectorsOf}
-use Rattle.rules.specs.Volume.{files, nameIn, placesIn, catalogue}
+use Rattle.rules.specs.Volume.{filesIn, nameIn, placesIn, catalogues}
 use Rattle.rules.specs.Calls.Format.{Geometry, formatted}
 use Rattle.rules.specs.declared.Layout.{Layout}
 use Rattle.demands.specs.CaseM.{alpha, notes, caseM}
@@ -34,24 +34,24 @@ abbrev pub empty : ℕ → List ℕ
 empty n = sectorOf (formatted n diskX geometry) 0
 
 -- an image packed
-abbrev packedOf : List ℕ → List ℕ
-packedOf image = packed (sectorCount image) (labelArea image) (catalogue image)
+abbrev packedOf : Layout → List ℕ → List ℕ
+packedOf layout image = packed layout (sectorCount image) (labelArea layout image) (catalogues layout image)
 
 -- the cases, with the sector 0 of an empty volume of 35 sectors and of one of 360, and case M
-unfoldable pub tableOf : List ℕ → List ℕ → List ℕ → List Case
-tableOf empty35 empty360 m =
+unfoldable pub tableOf : Layout → List ℕ → List ℕ → List ℕ → List Case
+tableOf layout empty35 empty360 m =
     case 1 (blockBytes (record { start = 34; last = 0 })) (0x22 ∷ (0x00 ∷ (0x00 ∷ [])))
     ∷ (case 2 (blockBytes (record { start = 34; last = 19 })) (0x22 ∷ (0x30 ∷ (0x01 ∷ [])))
     ∷ (case 3 (blockBytes (record { start = 1599; last = 1597 })) (0x3F ∷ (0xD6 ∷ (0x63 ∷ [])))
     ∷ (case 4 (byteAt empty35 56 ∷ (byteAt empty35 60 ∷ (freeCount empty35 ∷ []))) (0x03 ∷ (0xF8 ∷ (33 ∷ [])))
     ∷ (case 5 (part empty360 57 44 ++ part empty360 101 155) (replicate 44 0x00 ++ replicate 155 0xFF)
-    ∷ (case 6 (files m ++ (nameIn m 2 ++ (part (sectorOf m 2) 28 3 ++ (nameIn m 3 ++ placesIn m 3)))) (2 ∷ (3 ∷ (alpha ++ ((0x22 ∷ (0x10 ∷ (0x00 ∷ []))) ++ (notes ++ (36 ∷ []))))))
+    ∷ (case 6 (filesIn m 1 ++ (nameIn m 2 ++ (part (sectorOf m 2) 28 3 ++ (nameIn m 3 ++ placesIn m 3)))) (2 ∷ (3 ∷ (alpha ++ ((0x22 ∷ (0x10 ∷ (0x00 ∷ []))) ++ (notes ++ (36 ∷ []))))))
     ∷ (case 7 (byteAt (sectorOf m 0) 56 ∷ (byteAt (sectorOf m 0) 60 ∷ [])) (0x0F ∷ (0x1C ∷ []))
-    ∷ (case 8 (part (sectorOf (packedOf m) 2) 28 3 ++ (part (sectorOf (packedOf m) 3) 28 3 ++ (byteAt (sectorOf (packedOf m) 0) 56 ∷ []))) (0x04 ∷ (0x10 ∷ (0x00 ∷ (0x06 ∷ (0x00 ∷ (0x00 ∷ (0x7F ∷ [])))))))
+    ∷ (case 8 (part (sectorOf (packedOf layout m) 2) 28 3 ++ (part (sectorOf (packedOf layout m) 3) 28 3 ++ (byteAt (sectorOf (packedOf layout m) 0) 56 ∷ []))) (0x04 ∷ (0x10 ∷ (0x00 ∷ (0x06 ∷ (0x00 ∷ (0x00 ∷ (0x7F ∷ [])))))))
     ∷ (case 9 (sectorsOf (sectorOf m 2) ∷ (byteAt (sectorOf m 2) 16 ∷ [])) (2 ∷ (44 ∷ [])) ∷ []))))))))
 
 unfoldable pub table : Layout → List Case
-table layout = tableOf (empty 35) (empty 360) (caseM layout)
+table layout = tableOf layout (empty 35) (empty 360) (caseM layout)
 
 -- the statement: each case of the table, by its place in it
 unfoldable pub Bench : Layout → Type 0

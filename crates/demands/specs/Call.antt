@@ -115,18 +115,18 @@ Carries row given = (given .answer ≡ answers.Refused 0 → ⊥) × ((given .an
 Carries (named names) given = NamedCarries names given
 Carries (loaded name) given = LoadCarries name given
 
--- a call that leaves the image as it is; a name and numbers are any
+-- a call that leaves the image as it is; a directory, a name and numbers are any
 pub data Look : Form → Type 0 where
   judge : Look number
   freeCount : Look amount
   summarize : Look summary
-  entry : (place : ℕ) → Look row
-  read : (name : List ℕ) (offset : ℕ) → Look (named (one name))
-  load : (name : List ℕ) → Look (loaded name)
-  list : Look amount
+  entry : (directory place : ℕ) → Look row
+  read : (directory : ℕ) (name : List ℕ) (offset : ℕ) → Look (named (one name))
+  load : (directory : ℕ) (name : List ℕ) → Look (loaded name)
+  list : (directory : ℕ) → Look amount
   pack : Look answer
 
--- a change of the file that the call names
+-- a change of the file that the call names in a directory
 pub data Change : Type 0 where
   create : (status recordLength recordsPerSector : ℕ) → Change
   append : (bytes : List ℕ) → Change
@@ -141,7 +141,7 @@ pub data Change : Type 0 where
 -- `buffer` is what the buffer holds that is lent to be filled, packing's target
 pub data Call : Type 0 where
   look : {form : Form} → Look form → (buffer : List ℕ) → Call
-  change : (name : List ℕ) → Change → Call
+  change : (directory : ℕ) (name : List ℕ) → Change → Call
   format : (n : ℕ) (name : List ℕ) (geometry : Geometry) → Call
 
 -- the rule that a call goes by: the one that was chosen; clearing a mark goes by the rule with marks always
@@ -158,7 +158,7 @@ changeRule layout (rename new) = layout
 
 abbrev pub ruleOf : Layout → Call → Layout
 ruleOf layout (look this buffer) = layout
-ruleOf layout (change name this) = changeRule layout this
+ruleOf layout (change directory name this) = changeRule layout this
 ruleOf layout (format n name geometry) = layout
 
 -- the names of a change
@@ -176,13 +176,13 @@ namesOf name (rename new) = both name new
 -- what a call answers with
 abbrev pub formOf : Call → Form
 formOf (look {form} this buffer) = form
-formOf (change name this) = named (namesOf name this)
+formOf (change directory name this) = named (namesOf name this)
 formOf (format n name geometry) = named (one name)
 
 -- the buffer lent to be filled, where there is one
 abbrev pub lent : Call → List ℕ
 lent (look this buffer) = buffer
-lent (change name this) = []
+lent (change directory name this) = []
 lent (format n name geometry) = []
 
 pub record Result (form : Form) : Type 0 where

@@ -31,9 +31,9 @@ after call image = written image (call image .writes)
 
 unfoldable pub caseM : Layout → List ℕ
 caseM layout =
-    after (λ image. appendOf layout image notes (replicate 256 0x42))
-    (after (λ image. createOf layout image notes 0x80 80 3)
-    (after (λ image. storeOf layout image alpha (replicate 300 0x41)) (formatted 64 shelf drive)))
+    after (λ image. appendOf layout image 0 notes (replicate 256 0x42))
+    (after (λ image. createOf layout image 0 notes 0x80 80 3)
+    (after (λ image. storeOf layout image 0 alpha (replicate 300 0x41)) (formatted 64 shelf drive)))
 
 -- the end of a file's line, which by the rule with marks has its mark before the newline
 abbrev ending : Layout → List ℕ
@@ -48,4 +48,4 @@ printed layout =
 
 -- its listing is what the paper prints
 unfoldable pub CaseListed : Layout → Type 0
-CaseListed layout = listingText layout (caseM layout) ≡ printed layout
+CaseListed layout = listingText layout (caseM layout) 1 ≡ printed layout

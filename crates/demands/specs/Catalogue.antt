@@ -23,12 +23,12 @@ lengthIs file = programLength (length (file .contents)) (byteAt (file .header) 1
 abbrev pub rowIs : File → Row
 rowIs file = record { name = fileName file; kind = kindIs file; sectors = length (file .contents); protected = isProtected (byteAt (file .header) 12) }
 
--- the file at a place
+-- the file at a place of index i
 abbrev pub noFile : File
 noFile = record { header = []; contents = [] }
 
-abbrev pub fileOf : List ℕ → ℕ → File
-fileOf image p = getD (catalogue image) p noFile
+abbrev pub fileOf : List ℕ → ℕ → ℕ → File
+fileOf image i p = getD (catalogue image i) p noFile
 
 -- before the first file whose name comes after
 unfoldable pub putIn : File → List File → List File

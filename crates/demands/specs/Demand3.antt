@@ -1,10 +1,10 @@
--- Demand 3, a statement about any version of packing, over the catalogue of demand 2: packing gives the one laid down form. Equal packed bytes exactly for equal label areas and catalogues; the same catalogue as the original; packing again changes nothing.
+-- Demand 3, a statement about any version of packing, over the catalogues of demand 2: packing gives the one laid down form. Equal packed bytes exactly for equal label areas and catalogues, where the label area is read without the numbers of the index sectors of directories and the catalogue is that of root and each entry; the same catalogue as the original; packing again changes nothing.
 use mathlib.Core.Path.{_≡_}
 use mathlib.Core.Logic.{_↔_}
 use mathlib.Core.List.{List}
 use Prim.Native.Nat.{ℕ}
 use lib.ListN.{length}
-use Rattle.rules.specs.Volume.{catalogue}
+use Rattle.rules.specs.Volume.{catalogues}
 use Rattle.rules.specs.Verdict.{verdict}
 use Rattle.rules.specs.Sound.{Sound}
 use Rattle.rules.specs.Calls.Pack.{labelArea, packNumber, afterPack}
@@ -32,7 +32,7 @@ pub record Demand3 (layout : Layout) (pack : Packer) : Type 0 where
   -- a refusal leaves the target as it was
   pub refuses : (source target : List ℕ) → (pack source target .number ≡ 0 → ⊥) → pack source target .target ≡ target
   -- the target is the source in the one laid down form
-  pub laid : (source target : List ℕ) → Packable layout source target → Packs source (pack source target .target)
+  pub laid : (source target : List ℕ) → Packable layout source target → Packs layout source (pack source target .target)
   -- it is sound; label area and catalogue are those of its original by its form
   pub sound : (source target : List ℕ) → Packable layout source target → Sound layout (pack source target .target)
   -- packing it again changes nothing
@@ -40,7 +40,7 @@ pub record Demand3 (layout : Layout) (pack : Packer) : Type 0 where
       → (pack (pack source target .target) other .number ≡ 0) × (pack (pack source target .target) other .target ≡ pack source target .target)
   -- one form: equal bytes exactly for equal label areas and catalogues
   pub form : (first second target other : List ℕ) → Packable layout first target → Packable layout second other
-      → (pack first target .target ≡ pack second other .target) ↔ ((labelArea first ≡ labelArea second) × (catalogue first ≡ catalogue second))
+      → (pack first target .target ≡ pack second other .target) ↔ ((labelArea layout first ≡ labelArea layout second) × (catalogues layout first ≡ catalogues layout second))
   -- nothing of the target's old bytes shows
   pub fresh : (source target other : List ℕ) → Packable layout source target → Packable layout source other → pack source target .target ≡ pack source other .target
 

@@ -15,9 +15,9 @@ use Rattle.demands.specs.Formatting.{EmptyVolume}
 
 -- a change: what it leaves of the catalogue, and of the sectors
 abbrev pub Does : Layout → Change → Type 0
-Does layout change = (image name : List ℕ) → outcome layout change image name .number ≡ 0 →
-    let after = written image (outcome layout change image name .writes) in
-    Changed (changeRule layout change) change image after name × Touches (changeRule layout change) change image after name
+Does layout change = (image : List ℕ) (directory : ℕ) (name : List ℕ) → outcome layout change image directory name .number ≡ 0 →
+    let after = written image (outcome layout change image directory name .writes) in
+    Changed (changeRule layout change) change image after directory name × Touches (changeRule layout change) change image after directory name
 
 -- the bytes that formatting writes
 unfoldable pub Formatting : Layout → Type 0

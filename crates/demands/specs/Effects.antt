@@ -1,4 +1,4 @@
--- What a change that was done leaves: a sound volume, the label and all other files as they stood, the catalogue with just the change asked for, and the free count
+-- What a change that was done leaves: a sound volume, the label, every other index and all other files as they stood, the catalogue of the directory with just the change asked for, and the free count
 -- less what was taken and more what was given back.
 use mathlib.Core.Path.{_≡_}
 use mathlib.Core.List.{List, [], _∷_, _++_}
@@ -7,20 +7,27 @@ use lib.ListN.{length, drop, set, replicate}
 use Rattle.rules.specs.Bytes.{byteAt, wordBytes, withBit, over, splice}
 use Rattle.rules.specs.Sectors.{sectorOf}
 use Rattle.rules.specs.Map.{count, freeCount}
-use Rattle.rules.specs.Volume.{File, files, nameIn, placesIn, catalogue}
-use Rattle.rules.specs.Sound.{Sound}
+use Rattle.rules.specs.Volume.{File, indexAt, filesIn, nameIn, placesIn, catalogue}
+use Rattle.rules.specs.Sound.{IsIndexed, Sound}
 use Rattle.rules.specs.Kind.{sectorsFor, marking}
 use Rattle.rules.specs.declared.Layout.{Layout}
 use Rattle.demands.specs.Catalogue.{putIn, takenOut, changed, named, held}
 use Rattle.demands.specs.Call as call
 use Rattle.demands.specs.Call.{Change}
 
--- bytes 0 to 55 of sector 0, and every file of another name: it is there, its descriptor and the sectors of its data as they stood
-pub record Kept (image after name : List ℕ) : Type 0 where
-  pub label : (i : ℕ) → i < 56 → byteAt (sectorOf after 0) i ≡ byteAt (sectorOf image 0) i
-  pub listed : (k : ℕ) → 1 ≤ count k (files image) → (nameIn image k ≡ name → ⊥) → 1 ≤ count k (files after)
-  pub descriptor : (k : ℕ) → 1 ≤ count k (files image) → (nameIn image k ≡ name → ⊥) → sectorOf after k ≡ sectorOf image k
-  pub contents : (k p : ℕ) → 1 ≤ count k (files image) → (nameIn image k ≡ name → ⊥) → 1 ≤ count p (placesIn image k) → sectorOf after p ≡ sectorOf image p
+-- a file that index j lists, and that is not the one of that name in index i
+pub record Another (layout : Layout) (image : List ℕ) (i : ℕ) (name : List ℕ) (j k : ℕ) : Type 0 where
+  pub indexed : IsIndexed layout image j
+  pub listed : 1 ≤ count k (filesIn image j)
+  pub other : j ≡ i → nameIn image k ≡ name → ⊥
+
+-- bytes 0 to 55 of sector 0, the entries of directories among them; every other index; and every other file, of this index and of the others: it is listed, its descriptor and the sectors of its data as they stood
+pub record Kept (layout : Layout) (image after : List ℕ) (i : ℕ) (name : List ℕ) : Type 0 where
+  pub label : (b : ℕ) → b < 56 → byteAt (sectorOf after 0) b ≡ byteAt (sectorOf image 0) b
+  pub index : (j : ℕ) → IsIndexed layout image j → (j ≡ i → ⊥) → sectorOf after j ≡ sectorOf image j
+  pub listed : (j k : ℕ) → Another layout image i name j k → 1 ≤ count k (filesIn after j)
+  pub descriptor : (j k : ℕ) → Another layout image i name j k → sectorOf after k ≡ sectorOf image k
+  pub contents : (j k p : ℕ) → Another layout image i name j k → 1 ≤ count p (placesIn image k) → sectorOf after p ≡ sectorOf image p
 
 -- what a change asks for: the catalogue afterwards, how many sectors are taken, how many are given back
 pub record Effect : Type 0 where
@@ -31,12 +38,12 @@ pub record Effect : Type 0 where
 abbrev pub effect : (expected : List File) (took gave : ℕ) → Effect
 effect expected took gave = record { expected = expected; took = took; gave = gave }
 
--- what a change of the file of that name leaves where it was done
-pub record Done (layout : Layout) (image after name : List ℕ) (effect : Effect) : Type 0 where
+-- what a change of the file of that name in index i leaves where it was done
+pub record Done (layout : Layout) (image after : List ℕ) (i : ℕ) (name : List ℕ) (effect : Effect) : Type 0 where
   pub sound : Sound layout after
   pub size : length after ≡ length image
-  pub kept : Kept image after name
-  pub catalogue-is : catalogue after ≡ effect .expected
+  pub kept : Kept layout image after i name
+  pub catalogue-is : catalogue after i ≡ effect .expected
   pub free : freeCount (sectorOf after 0) + effect .took ≡ freeCount (sectorOf image 0) + effect .gave
 
 -- the 28 header bytes of a new file
@@ -87,5 +94,8 @@ effectOf layout call.clear name files = effect (changed name (withStatus 4 0) fi
 effectOf layout call.delete name files = effect (takenOut name files) 0 (held (named name files))
 effectOf layout (call.rename new) name files = effect (putIn (renamed new (markedFile layout (named name files))) (takenOut name files)) 0 0
 
-abbrev pub Changed : Layout → Change → (image after name : List ℕ) → Type 0
-Changed layout change image after name = Done layout image after name (effectOf layout change name (catalogue image))
+-- in the directory of that number
+abbrev pub Changed : Layout → Change → (image after : List ℕ) (directory : ℕ) (name : List ℕ) → Type 0
+Changed layout change image after directory name =
+    let i = indexAt layout image directory in
+    Done layout image after i name (effectOf layout change name (catalogue image i))

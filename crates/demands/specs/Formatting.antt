@@ -1,11 +1,11 @@
--- What formatting leaves: a volume that is sound, which the judge gives 0 and whose catalogue is empty; and what stands in every byte of it.
+-- What formatting leaves: a volume that is sound, which the judge gives 0 and whose catalogue, that of the root alone, is empty; and what stands in every byte of it.
 use mathlib.Core.Path.{_≡_}
 use mathlib.Core.List.{List, [], _∷_}
 use Prim.Native.Nat.{ℕ, _-_, _/_, _%_}
 use lib.ListN.{length, drop, replicate}
 use Rattle.rules.specs.Bytes.{part}
 use Rattle.rules.specs.Map.{mapOf}
-use Rattle.rules.specs.Volume.{catalogue}
+use Rattle.rules.specs.Volume.{catalogues}
 use Rattle.rules.specs.Verdict.{verdict}
 use Rattle.rules.specs.Sound.{Sound}
 use Rattle.rules.specs.Calls.Format.{Geometry}
@@ -14,7 +14,7 @@ use Rattle.rules.specs.declared.Layout.{Layout}
 pub record EmptyVolume (layout : Layout) (image : List ℕ) : Type 0 where
   pub sound : Sound layout image
   pub judged : verdict layout image ≡ 0
-  pub empty : catalogue image ≡ []
+  pub empty : catalogues layout image ≡ [] ∷ []
 
 -- disk name; n, sectors per track, "DSK", a space, tracks, sides, density; zeros at 20-55; the map; a zero sector 1; and E5 hex in every other byte
 pub record Formats (n : ℕ) (name : List ℕ) (geometry : Geometry) (image : List ℕ) : Type 0 where

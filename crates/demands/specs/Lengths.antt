@@ -4,8 +4,8 @@ use mathlib.Core.List.{List}
 use Prim.Native.Nat.{ℕ, _+_, _*_, _%_, _≤_, _<_}
 use lib.ListN.{length}
 use Rattle.rules.specs.Bytes.{byteAt, bitOf}
-use Rattle.rules.specs.Volume.{File, catalogue}
-use Rattle.rules.specs.Sound.{Sound}
+use Rattle.rules.specs.Volume.{File, indexAt, catalogue}
+use Rattle.rules.specs.Sound.{IsIndexed, Sound}
 use Rattle.rules.specs.declared.Layout.{Layout}
 use Rattle.demands.specs.Catalogue.{fileOf, named, lengthIs}
 use Rattle.demands.specs.Call as call
@@ -21,14 +21,14 @@ pub record OfLength (file : File) (size : ℕ) : Type 0 where
 
 -- what was stored is a program of as many bytes as were lent, in every version that meets demand 2
 unfoldable pub StoredLength : Layout → Type 0
-StoredLength layout = (version : Version) → Demand2 layout version → (name bytes image : List ℕ) → Sound layout image →
-    let c = call.change name (call.store bytes) in
-    numberOf version c image ≡ 0 → OfLength (named name (catalogue (version c image .image))) (length bytes)
+StoredLength layout = (version : Version) → Demand2 layout version → (directory : ℕ) (name bytes image : List ℕ) → Sound layout image →
+    let c = call.change directory name (call.store bytes) in
+    numberOf version c image ≡ 0 → OfLength (named name (catalogue (version c image .image) (indexAt layout image directory))) (length bytes)
 
 -- and so is every program of a sound volume of bytes, whoever stored it: one of as many bytes as its length
 unfoldable pub EveryLength : Layout → Type 0
-EveryLength layout = (image : List ℕ) → Sound layout image → ((i : ℕ) → byteAt image i < 256) → (p : ℕ) → p < length (catalogue image) →
-    let file = fileOf image p in
+EveryLength layout = (image : List ℕ) → Sound layout image → ((i : ℕ) → byteAt image i < 256) → (i : ℕ) → IsIndexed layout image i → (p : ℕ) → p < length (catalogue image i) →
+    let file = fileOf image i p in
     bitOf (byteAt (file .header) 12) 0 ≡ 1 → OfLength file (lengthIs file)
 
 -- so two programs have equal lengths exactly if they have as many sectors and the same end offset

@@ -15,6 +15,7 @@ pub mod Does
 pub mod Packing
 pub mod Demand2
 pub mod Rules
+pub mod Editions
 pub mod Lengths
 pub mod Wrong
 pub mod Unique

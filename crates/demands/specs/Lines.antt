@@ -65,13 +65,13 @@ parted (last ∷ []) = last ++ (10 ∷ [])
 parted (field ∷ (next ∷ fields)) = field ++ (32 ∷ parted (next ∷ fields))
 
 -- the first line; the free count is n less the holders
-pub record IsDiskLine (image line : List ℕ) : Type 0 where
+pub record IsDiskLine (layout : Layout) (image line : List ℕ) : Type 0 where
   pub name : List ℕ
   pub name-is : IsUnpadded (part (sectorOf image 0) 0 10) name
   pub size : List ℕ
   pub size-is : IsDecimal (sectorCount image) size
   pub count : ℕ
-  pub count-is : count + length (holders image) ≡ sectorCount image
+  pub count-is : count + length (holders layout image) ≡ sectorCount image
   pub free : List ℕ
   pub free-is : IsDecimal count free
   pub is : line ≡ parted (name ∷ (size ∷ (free ∷ [])))
@@ -89,11 +89,11 @@ pub record IsFileLine (layout : Layout) (file : File) (line : List ℕ) : Type 0
   pub marks-are : AreMarks layout (byteAt (file .header) 12) marks
   pub is : line ≡ parted (name ∷ (wordOf (kindIs file) ∷ (size ∷ (sectors ∷ (protection ∷ marks)))))
 
--- the text: the first line, and then a line for each file of the catalogue, in its order
-pub record Lists (layout : Layout) (image text : List ℕ) : Type 0 where
+-- the text: the first line, and then a line for each file of the catalogue of index i, in its order
+pub record Lists (layout : Layout) (image : List ℕ) (i : ℕ) (text : List ℕ) : Type 0 where
   pub first : List ℕ
-  pub first-is : IsDiskLine image first
+  pub first-is : IsDiskLine layout image first
   pub lines : List (List ℕ)
-  pub many : length lines ≡ length (catalogue image)
-  pub each : (p : ℕ) → p < length lines → IsFileLine layout (fileOf image p) (getD lines p [])
+  pub many : length lines ≡ length (catalogue image i)
+  pub each : (p : ℕ) → p < length lines → IsFileLine layout (fileOf image i p) (getD lines p [])
   pub is : text ≡ first ++ joined lines

@@ -42,28 +42,28 @@ unfoldable pub seen : Layout → {form : Form} → Look form → (buffer image :
 seen layout call.judge buffer image = putting (verdict layout image) [] buffer
 seen layout call.freeCount buffer image = putting (amountOf (freeCountOf layout image)) [] buffer
 seen layout call.summarize buffer image = putting (summaryAnswer layout image) (summaryOf layout image .bytes) buffer
-seen layout (call.entry place) buffer image =
-    putting (record { answer = answerOf (entryOf layout image place (length buffer) .number); row = entryRow layout image place (length buffer) }) (entryOf layout image place (length buffer) .bytes) buffer
-seen layout (call.read name offset) buffer image =
-    putting (answered (call.one name) (readOf layout image name offset (length buffer) .number)) (readOf layout image name offset (length buffer) .bytes) buffer
-seen layout (call.load name) buffer image =
-    putting (namedAmountOf (wrongPlace name) (loadOf layout image name (length buffer))) (loadOf layout image name (length buffer) .bytes) buffer
-seen layout call.list buffer image = putting (amountOf (listingOf layout image (length buffer))) (listingOf layout image (length buffer) .bytes) buffer
+seen layout (call.entry directory place) buffer image =
+    putting (record { answer = answerOf (entryOf layout image directory place (length buffer) .number); row = entryRow layout image directory place (length buffer) }) (entryOf layout image directory place (length buffer) .bytes) buffer
+seen layout (call.read directory name offset) buffer image =
+    putting (answered (call.one name) (readOf layout image directory name offset (length buffer) .number)) (readOf layout image directory name offset (length buffer) .bytes) buffer
+seen layout (call.load directory name) buffer image =
+    putting (namedAmountOf (wrongPlace name) (loadOf layout image directory name (length buffer))) (loadOf layout image directory name (length buffer) .bytes) buffer
+seen layout (call.list directory) buffer image = putting (amountOf (listingOf layout image directory (length buffer))) (listingOf layout image directory (length buffer) .bytes) buffer
 seen layout call.pack buffer image = record { answer = answerOf (packNumber layout image buffer); buffer = afterPack layout image buffer }
 
--- what a change of the file of that name gives: its number, and the sectors that it writes
-unfoldable pub outcome : Layout → Change → (image name : List ℕ) → Outcome
-outcome layout (call.create status recordLength recordsPerSector) image name = createOf layout image name status recordLength recordsPerSector
-outcome layout (call.append bytes) image name = appendOf layout image name bytes
-outcome layout (call.overwrite offset bytes) image name = overwriteOf layout image name offset bytes
-outcome layout call.protect image name = protectOf layout image name
-outcome layout call.unprotect image name = unprotectOf layout image name
-outcome layout call.clear image name = clearOf layout image name
-outcome layout (call.store bytes) image name = storeOf layout image name bytes
-outcome layout call.delete image name = deleteOf layout image name
-outcome layout (call.rename new) image name = renameOf layout image name new
+-- what a change of the file of that name in a directory gives: its number, and the sectors that it writes
+unfoldable pub outcome : Layout → Change → (image : List ℕ) (directory : ℕ) (name : List ℕ) → Outcome
+outcome layout (call.create status recordLength recordsPerSector) image directory name = createOf layout image directory name status recordLength recordsPerSector
+outcome layout (call.append bytes) image directory name = appendOf layout image directory name bytes
+outcome layout (call.overwrite offset bytes) image directory name = overwriteOf layout image directory name offset bytes
+outcome layout call.protect image directory name = protectOf layout image directory name
+outcome layout call.unprotect image directory name = unprotectOf layout image directory name
+outcome layout call.clear image directory name = clearOf layout image directory name
+outcome layout (call.store bytes) image directory name = storeOf layout image directory name bytes
+outcome layout call.delete image directory name = deleteOf layout image directory name
+outcome layout (call.rename new) image directory name = renameOf layout image directory name new
 
 unfoldable pub ours : Layout → Version
 ours layout (call.look look buffer) image = record { answer = seen layout look buffer image .answer; buffer = seen layout look buffer image .buffer; image = image }
-ours layout (call.change name change) image = record { answer = answered (namesOf name change) (outcome layout change image name .number); buffer = []; image = written image (outcome layout change image name .writes) }
+ours layout (call.change directory name change) image = record { answer = answered (namesOf name change) (outcome layout change image directory name .number); buffer = []; image = written image (outcome layout change image directory name .writes) }
 ours layout (call.format n name geometry) image = record { answer = answered (call.one name) (formatNumber image n name); buffer = []; image = afterFormat image n name geometry }

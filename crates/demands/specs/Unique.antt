@@ -24,12 +24,12 @@ use Rattle.demands.specs.Demand2.{Demand2}
 unfoldable pub LookPromised : Layout → {form : Form} → Look form → (buffer image : List ℕ) → Answered form → (after : List ℕ) → Type 0
 LookPromised layout call.judge buffer image given after = (given ≡ verdict layout image) × (after ≡ buffer)
 LookPromised layout call.freeCount buffer image given after = AmountSays given (freeCountOf layout image) × (after ≡ buffer)
-LookPromised layout call.summarize buffer image given after = Gives (SummarySays image) (summaryOf layout image) given buffer after
-LookPromised layout (call.entry place) buffer image given after =
-    Gives (EntrySays (entryRow layout image place (length buffer))) (entryOf layout image place (length buffer)) given buffer after
-LookPromised layout (call.read name offset) buffer image given after = Gives (ReadSays (wrongPlace name)) (readOf layout image name offset (length buffer)) given buffer after
-LookPromised layout (call.load name) buffer image given after = Gives (NamedAmountSays (wrongPlace name)) (loadOf layout image name (length buffer)) given buffer after
-LookPromised layout call.list buffer image given after = Gives AmountSays (listingOf layout image (length buffer)) given buffer after
+LookPromised layout call.summarize buffer image given after = Gives (SummarySays layout image) (summaryOf layout image) given buffer after
+LookPromised layout (call.entry directory place) buffer image given after =
+    Gives (EntrySays (entryRow layout image directory place (length buffer))) (entryOf layout image directory place (length buffer)) given buffer after
+LookPromised layout (call.read directory name offset) buffer image given after = Gives (ReadSays (wrongPlace name)) (readOf layout image directory name offset (length buffer)) given buffer after
+LookPromised layout (call.load directory name) buffer image given after = Gives (NamedAmountSays (wrongPlace name)) (loadOf layout image directory name (length buffer)) given buffer after
+LookPromised layout (call.list directory) buffer image given after = Gives AmountSays (listingOf layout image directory (length buffer)) given buffer after
 LookPromised layout call.pack buffer image given after = AnswerSays given (packNumber layout image buffer) × (after ≡ afterPack layout image buffer)
 
 -- what the answer of a call that takes names says
@@ -40,7 +40,7 @@ Says (call.both old new) given number = RenameSays (wrongPlace old) (wrongPlace 
 -- and of a call
 unfoldable pub Promised : Layout → (c : Call) → List ℕ → Result (formOf c) → Type 0
 Promised layout (call.look look buffer) image r = LookPromised layout look buffer image (r .answer) (r .buffer) × (r .image ≡ image)
-Promised layout (call.change name change) image r = Meets (Says (namesOf name change)) (outcome layout change image name) (r .answer) image (r .image) × (r .buffer ≡ [])
+Promised layout (call.change directory name change) image r = Meets (Says (namesOf name change)) (outcome layout change image directory name) (r .answer) image (r .image) × (r .buffer ≡ [])
 Promised layout (call.format n name geometry) image r =
     Says (call.one name) (r .answer) (formatNumber image n name) × (r .image ≡ afterFormat image n name geometry) × (r .buffer ≡ [])
 

@@ -7,7 +7,7 @@ use Prim.Native.Nat.{ℕ, _≤_, _<_}
 use lib.ListN.{length}
 use Rattle.rules.specs.Sectors.{sectorOf}
 use Rattle.rules.specs.Map.{mapBit, count}
-use Rattle.rules.specs.Volume.{files, nameIn, placesIn, catalogue}
+use Rattle.rules.specs.Volume.{indexAt, filesIn, nameIn, placesIn, catalogue}
 use Rattle.rules.specs.Sound.{Sound}
 use Rattle.rules.specs.declared.Layout.{Layout}
 use Rattle.demands.specs.Catalogue.{named}
@@ -38,20 +38,22 @@ InventsFree layout version =
 -- an append to a file that has a sector is only reported
 unfoldable pub OnlyReports : Layout → Version → Type 0
 OnlyReports layout version =
-    (image name bytes : List ℕ) → Sound layout image → 1 ≤ length (named name (catalogue image) .contents) → version (call.change name (call.append bytes)) image .image ≡ image
+    (image : List ℕ) (directory : ℕ) (name bytes : List ℕ) → Sound layout image → 1 ≤ length (named name (catalogue image (indexAt layout image directory)) .contents)
+    → version (call.change directory name (call.append bytes)) image .image ≡ image
 
 -- a change that was done, of the file whose descriptor is in sector k of a sound volume
 pub record Instance (layout : Layout) (version : Version) (change : Change) : Type 0 where
   pub image : List ℕ
+  pub directory : ℕ
   pub name : List ℕ
   pub k : ℕ
   pub sound : Sound (changeRule layout change) image
-  pub listed : 1 ≤ count k (files image)
+  pub listed : 1 ≤ count k (filesIn image (indexAt (changeRule layout change) image directory))
   pub is-named : nameIn image k ≡ name
-  pub done : numberOf version (call.change name change) image ≡ 0
+  pub done : numberOf version (call.change directory name change) image ≡ 0
 
 abbrev pub after : {layout : Layout} {version : Version} {change : Change} → Instance layout version change → List ℕ
-after {layout} {version} {change} i = version (call.change (i .name) change) (i .image) .image
+after {layout} {version} {change} i = version (call.change (i .directory) (i .name) change) (i .image) .image
 
 -- a sector of a file that is deleted does not keep its bytes
 pub record Wipes (layout : Layout) (version : Version) : Type 0 where

@@ -1,41 +1,30 @@
-// Sector 1 anew: with a number taken out, and with one put in its place by name. Each answers for any bytes with what the
+// An index anew: with a number taken out, and with one put in its place by name. Each answers for any bytes with what the
 // rules' definitions say; numbers that do not fit into the sector are left out.
 ghost use mathlib.Core.Path.{_≡_};
 ghost use mathlib.Core.List.{[], _∷_};
 ghost use Prim.Native.Nat.{_+_, _≤_, _<_};
 ghost use lib.ListN.{length, drop, replicate};
-ghost use Rattle.rules.specs.Bytes.{wordBytes, splice};
+ghost use Rattle.rules.specs.Bytes.{splice};
 ghost use Rattle.rules.specs.Index.{numbers, numbersBytes, indexOf, without};
 ghost use Rattle.rules.specs.Sectors.{written};
-ghost use Rattle.rules.specs.Volume.{files, placed};
+ghost use Rattle.rules.specs.Volume.{filesIn, placed};
 ghost use Rattle.rules.specs.Outcome.{write};
 use descriptor::name::precedes;
-use sector::buffer::lay;
 use sector::buffer::write_sector;
 use sector::bytes::part;
 use sector::bytes::sector_of;
+use sector::numbers::lay_number;
 use sector::numbers::number_at;
 
-// The number k in the two bytes from `at` on.
-fn lay_number(index: &mut [u8], at: usize, k: usize)
-    requires { ⌜ k < 65536 ⌝ }
-    ensures { λ _. ⌜ now (index .exit) ≡ splice (now (index .entry)) at (wordBytes k) ⌝ }
-{
-    let high = (k / 256) as u8;
-    let low = (k % 256) as u8;
-    let bytes = [high, low];
-    lay(index, at, &bytes);
-}
-
-// The numbers of sector 1 from byte `from` on, laid into the index from byte `at` on.
-fn copy_numbers(index: &mut [u8], at: usize, sector1: &[u8], from: usize)
-    requires { ⌜ (at ≤ from + 2) × (from ≤ length (now sector1)) ⌝ }
-    ensures { λ _. ⌜ now (index .exit) ≡ splice (now (index .entry)) at (numbersBytes (numbers (drop from (now (sector1 .entry))))) ⌝ }
+// The numbers of the old index from byte `from` on, laid into the new one from byte `at` on.
+fn copy_numbers(index: &mut [u8], at: usize, old: &[u8], from: usize)
+    requires { ⌜ (at ≤ from + 2) × (from ≤ length (now old)) ⌝ }
+    ensures { λ _. ⌜ now (index .exit) ≡ splice (now (index .entry)) at (numbersBytes (numbers (drop from (now (old .entry))))) ⌝ }
 {
     let mut to = at;
     let mut i = from;
     loop {
-        let k = number_at(sector1, i);
+        let k = number_at(old, i);
         if k == 0 {
             return;
         }
@@ -45,20 +34,20 @@ fn copy_numbers(index: &mut [u8], at: usize, sector1: &[u8], from: usize)
     }
 }
 
-// Sector 1 without the number k, laid into 256 zeros: the numbers behind it move down by one place.
-pub fn index_without(index: &mut [u8; 256], sector1: &[u8], k: usize)
+// The old index without the number k, laid into 256 zeros: the numbers behind it move down by one place.
+pub fn index_without(index: &mut [u8; 256], old: &[u8], k: usize)
     requires { ⌜ now index ≡ replicate 256 0 ⌝ }
-    ensures { λ _. ⌜ now (index .exit) ≡ indexOf (without k (numbers (now (sector1 .entry)))) ⌝ }
+    ensures { λ _. ⌜ now (index .exit) ≡ indexOf (without k (numbers (now (old .entry)))) ⌝ }
 {
     let mut at = 0;
     loop {
-        let j = number_at(sector1, at);
+        let j = number_at(old, at);
         if j == 0 {
             return;
         }
         if j == k {
             let next = at + 2;
-            copy_numbers(index, at, sector1, next);
+            copy_numbers(index, at, old, next);
             return;
         }
         lay_number(index, at, j);
@@ -66,14 +55,14 @@ pub fn index_without(index: &mut [u8; 256], sector1: &[u8], k: usize)
     }
 }
 
-// Sector 1 with the number k, laid into 256 zeros: before the first file whose name comes after, the names being those of the image.
-pub fn index_with(index: &mut [u8; 256], image: &[u8], sector1: &[u8], name: &[u8], k: usize)
+// The old index with the number k, laid into 256 zeros: before the first file whose name comes after, the names being those of the image.
+pub fn index_with(index: &mut [u8; 256], image: &[u8], old: &[u8], name: &[u8], k: usize)
     requires { ⌜ (now index ≡ replicate 256 0) × (k < 65536) ⌝ }
-    ensures { λ _. ⌜ now (index .exit) ≡ indexOf (placed (now (image .entry)) (now (name .entry)) k (numbers (now (sector1 .entry)))) ⌝ }
+    ensures { λ _. ⌜ now (index .exit) ≡ indexOf (placed (now (image .entry)) (now (name .entry)) k (numbers (now (old .entry)))) ⌝ }
 {
     let mut at = 0;
     loop {
-        let j = number_at(sector1, at);
+        let j = number_at(old, at);
         if j == 0 {
             break;
         }
@@ -85,15 +74,15 @@ pub fn index_with(index: &mut [u8; 256], image: &[u8], sector1: &[u8], name: &[u
     }
     lay_number(index, at, k);
     let next = at + 2;
-    copy_numbers(index, next, sector1, at);
+    copy_numbers(index, next, old, at);
 }
 
-// A new file's last write: sector 1 with the number k in its place, the files and their names being those of the image as it stands.
-pub fn enter(image: &mut [u8], name: &[u8], k: usize)
-    requires { ⌜ k < 65536 ⌝ }
-    ensures { λ _. ⌜ now (image .exit) ≡ written (now (image .entry)) (write 1 (indexOf (placed (now (image .entry)) (now (name .entry)) k (files (now (image .entry))))) ∷ []) ⌝ }
+// A new file's last write: the index in sector i with the number k in its place, its files and their names being those of the image as it stands.
+pub fn enter(image: &mut [u8], i: usize, name: &[u8], k: usize)
+    requires { ⌜ (i < 65536) × (k < 65536) ⌝ }
+    ensures { λ _. ⌜ now (image .exit) ≡ written (now (image .entry)) (write i (indexOf (placed (now (image .entry)) (now (name .entry)) k (filesIn (now (image .entry)) i))) ∷ []) ⌝ }
 {
     let mut index = [0u8; 256];
-    index_with(&mut index, image, sector_of(image, 1), name, k);
-    write_sector(image, 1, &index);
+    index_with(&mut index, image, sector_of(image, i), name, k);
+    write_sector(image, i, &index);
 }

@@ -2,33 +2,37 @@
 -- is none the marks that are left are the map of the holders.
 use mathlib.Core.Path.{_≡_, refl, sym, ap, _∙_}
 use mathlib.Core.Bool.{Bool, true, false, cond}
-use mathlib.Core.List.{List, [], _∷_}
+use mathlib.Core.List.{List, [], _∷_, _++_}
 use Prim.Native.Nat.{ℕ, _+_, _-_, _*_, _≤_, _<_}
 use native.Mathlib.Omega.{arith}
 use native.Mathlib.Decide.{decLt, ℕ-discrete}
 use lib.Dec.{eqb}
-use lib.ListN.{length, replicate, length-replicate, getD-replicate, List·getD-append, List·getD-eq-default}
+use lib.ListN.{length, getD, replicate, length-replicate, getD-replicate, List·getD-append, List·getD-eq-default}
 use lib.Seq.{take-all}
 use borrow.Author.Tests.{eq-eqb, eqb-true}
 use Rattle.rules.specs.Bytes.{byteAt, part, same}
 use Rattle.rules.specs.Sectors.{sectorOf, sectorCount}
 use Rattle.rules.specs.Chain.{run}
 use Rattle.rules.specs.Map.{mapBit, count, taken, mapRule, mapOf, byteOf, marked, markedAll}
-use Rattle.rules.specs.Volume.{files, fileHolders, holders}
-use Rattle.rules.specs.Verdict.{heldTwice}
+use Rattle.rules.specs.Index.{indexRule}
+use Rattle.rules.specs.Directory.{entries}
+use Rattle.rules.specs.Volume.{indexes, filesIn, filesOf, fileHolders, holders}
+use Rattle.rules.specs.Verdict.{sizeRule, descriptorsRule, heldTwice}
 use Rattle.rules.specs.declared.Layout.{Layout}
 use Rattle.rules.proofs.Tests.{absurd-test}
 use Rattle.rules.proofs.Bytes.{part-length, part-behind}
-use Rattle.rules.proofs.Map.{count-none, count-here, count-other, count-more, count-append, taken-below, taken-once, bytes-at, map-of-bits, map-of-bytes, map-compared}
+use Rattle.rules.proofs.Map.{count-none, count-here, count-other, count-more, count-at, count-append, one-once, taken-below, taken-once, bytes-at, map-of-bits, map-of-bytes, map-compared}
 use Rattle.rules.proofs.Marking.{marked-length, marked-here, marked-other, all-length, all-below, marked-holders, bit-once}
 use Rattle.rules.proofs.Sectors.{sector-length, sector-below}
 use Rattle.rules.proofs.Index.{index-is}
 use Rattle.rules.proofs.Volume.{file-holders-inside}
-use Rattle.rules.proofs.Verdict.{size-is, descriptors-are, held-once, once-held}
-use Rattle.rules.proofs.Formatted.{map-length, system-once}
-use Rattle.judge.specs.Claim.{asMap, clashes, Below}
+use Rattle.rules.proofs.Directory.{entries-are}
+use Rattle.rules.proofs.Indexes.{every-is, index-inside, held-append, files-range}
+use Rattle.rules.proofs.Verdict.{size-is, descriptors-are, ascend, held-once, once-held}
+use Rattle.rules.proofs.Formatted.{map-length}
+use Rattle.judge.specs.Claim.{asMap, clashes, Below, claims}
 use Rattle.judge.proofs.MarkLaws.{as-map-length, as-map-byte}
-use Rattle.judge.proofs.VerdictSteps.{FourPassed}
+use Rattle.judge.proofs.VerdictSteps.{Entered, FourPassed}
 
 -- Where none clashes, no sector gets a second mark.
 clash-once : (sector0 hs : List ℕ) → length sector0 ≡ 256 → clashes sector0 hs ≡ false → (k : ℕ) → k < 1600 → mapBit sector0 k + count k hs ≤ 1
@@ -62,13 +66,10 @@ once-clash sector0 (q ∷ hs) long below once =
       | no there ↦ omega (arith, once k h, marked-other 1 (omega arith) sector0 q k (λ e. there (sym e)), count-other k q hs there)
     ]))
 
--- On a map in which the two system sectors are held, holders that lie between them and the end clash exactly where, with the two, one is held twice,
+-- On a map in which sector 0 is held, holders that lie below the end clash exactly where, of all that there are with sector 0, one is held twice,
 -- and else leave the map of all of them.
-module _ (n : ℕ) (hs sector0 : List ℕ) (large : 3 ≤ n) (small : n ≤ 1600) (long : length sector0 ≡ 256)
-    (is : (k : ℕ) → k < 1600 → mapBit sector0 k ≡ taken n (0 ∷ (1 ∷ [])) k) (below : Below n hs) where
-  all-count : (k : ℕ) → count k (0 ∷ (1 ∷ hs)) ≡ count k hs + count k (0 ∷ (1 ∷ []))
-  all-count k = omega (arith, count-append k (0 ∷ (1 ∷ [])) hs)
-
+module _ (n : ℕ) (hs all sector0 : List ℕ) (small : n ≤ 1600) (long : length sector0 ≡ 256)
+    (is : (k : ℕ) → k < 1600 → mapBit sector0 k ≡ taken n (0 ∷ []) k) (below : Below n hs) (whole : (k : ℕ) → count k all ≡ count k hs + count k (0 ∷ [])) where
   none-past : (k : ℕ) → n ≤ k → count k hs ≡ 0
   none-past k past =
       elim (decLt 0 (count k hs)) [
@@ -76,38 +77,38 @@ module _ (n : ℕ) (hs sector0 : List ℕ) (large : 3 ≤ n) (small : n ≤ 1600
         | no none ↦ omega arith
       ]
 
-  inside : (k : ℕ) → k < n → mapBit sector0 k + count k hs ≡ count k (0 ∷ (1 ∷ hs))
-  inside k h = omega (arith, is k (omega arith), taken-below n (0 ∷ (1 ∷ [])) k h, all-count k)
+  inside : (k : ℕ) → k < n → mapBit sector0 k + count k hs ≡ count k all
+  inside k h = omega (arith, is k (omega arith), taken-below n (0 ∷ []) k h, whole k)
 
-  clash-held : clashes sector0 hs ≡ false → heldTwice (0 ∷ (1 ∷ hs)) ≡ false
+  clash-held : clashes sector0 hs ≡ false → heldTwice all ≡ false
   clash-held e =
-      once-held (0 ∷ (1 ∷ hs))
+      once-held all
       (λ k.
       elim (decLt k n) [
         | yes h ↦ omega (arith, inside k h, clash-once sector0 hs long e k (omega arith))
-        | no h ↦ omega (arith, all-count k, none-past k (omega arith), system-once k)
+        | no h ↦ omega (arith, whole k, none-past k (omega arith), one-once 0 k)
       ])
 
-  held-clash : heldTwice (0 ∷ (1 ∷ hs)) ≡ false → clashes sector0 hs ≡ false
+  held-clash : heldTwice all ≡ false → clashes sector0 hs ≡ false
   held-clash e =
       once-clash sector0 hs long (λ k some. omega (arith, below k some))
       (λ k low.
       elim (decLt k n) [
-        | yes h ↦ omega (arith, inside k h, held-once (0 ∷ (1 ∷ hs)) e k)
+        | yes h ↦ omega (arith, inside k h, held-once all e k)
         | no h ↦ omega (arith, bit-once sector0 k, none-past k (omega arith))
       ])
 
-  pub clash-is : heldTwice (0 ∷ (1 ∷ hs)) ≡ clashes sector0 hs
-  clash-is = go (heldTwice (0 ∷ (1 ∷ hs))) (clashes sector0 hs) refl refl
+  pub clash-is : heldTwice all ≡ clashes sector0 hs
+  clash-is = go (heldTwice all) (clashes sector0 hs) refl refl
     where
-      go : (s t : Bool) → heldTwice (0 ∷ (1 ∷ hs)) ≡ s → clashes sector0 hs ≡ t → s ≡ t
+      go : (s t : Bool) → heldTwice all ≡ s → clashes sector0 hs ≡ t → s ≡ t
       go true true e f = refl
       go false false e f = refl
       go true false e f = sym e ∙ clash-held f
       go false true e f = sym (held-clash e) ∙ f
 
-  pub map-left : heldTwice (0 ∷ (1 ∷ hs)) ≡ false → (k : ℕ) → k < 1600 → mapBit (markedAll 1 sector0 hs) k ≡ taken n (0 ∷ (1 ∷ hs)) k
-  map-left e = marked-holders n sector0 (0 ∷ (1 ∷ [])) hs (0 ∷ (1 ∷ hs)) long is (λ k. omega (arith, all-count k, held-once (0 ∷ (1 ∷ hs)) e k)) all-count
+  pub map-left : heldTwice all ≡ false → (k : ℕ) → k < 1600 → mapBit (markedAll 1 sector0 hs) k ≡ taken n all k
+  map-left e = marked-holders n sector0 (0 ∷ []) hs all long is (λ k. omega (arith, whole k, held-once all e k)) whole
 
 -- the marks are the map of the sector 0 that they stand for, and bytes as it
 as-map-part : (marks : List ℕ) → length marks ≡ 200 → part (asMap marks) 56 200 ≡ marks
@@ -134,51 +135,95 @@ map-below n hs once i =
       | no past ↦ rw (List·getD-eq-default (mapOf n hs) 0 {n = i} (omega (arith, map-length n hs))) (omega arith)
     ]
 
--- What the files hold, on an image that has passed the tests before, lies below its end.
-pub holders-below : (layout : Layout) (image : List ℕ) → FourPassed layout image → Below (sectorCount image) (fileHolders image (files image))
-unfolding files
-holders-below layout image passed k some =
-    file-holders-inside layout (sectorCount image) image (files image) k (index-is (sectorCount image) (sectorOf image 1) (passed .indexed) .range)
-    (descriptors-are layout (sectorCount image) image [] (files image) (passed .described)) some .1
+-- What is claimed is each index and what the files of all of them hold; with sector 0 these are the holders.
+claims-count : (image is : List ℕ) (k : ℕ) → count k (claims image is) ≡ count k is + count k (fileHolders image (filesOf image is))
+unfolding claims filesOf fileHolders
+claims-count image [] k = omega (arith, count-none k)
+claims-count image (i ∷ is) k =
+    let own = fileHolders image (filesIn image i) in
+    omega (
+      arith,
+      claims-count image is k,
+      held-append image k (filesIn image i) (filesOf image is),
+      count-append k (i ∷ []) (own ++ claims image is),
+      count-append k own (claims image is),
+      count-append k (i ∷ []) is,
+    )
 
--- The judge's marks on such an image, first the map with the two system sectors held.
-module _ (layout : Layout) (image marks : List ℕ) (first : marks ≡ mapOf (sectorCount image) (run 0 2)) (passed : FourPassed layout image) where
+holders-count : (layout : Layout) (image : List ℕ) (k : ℕ) → count k (holders layout image) ≡ count k (claims image (indexes layout image)) + count k (0 ∷ [])
+unfolding holders
+holders-count layout image k =
+    let is = indexes layout image in
+    let held = fileHolders image (filesOf image is) in
+    omega (arith, claims-count image is k, count-append k (0 ∷ []) (is ++ held), count-append k is held)
+
+-- On an image that has passed the test of its entries the indexes lie below its end; and where every index and the descriptors that it leads to have passed too, so does all that is claimed.
+pub indexes-below : (layout : Layout) (image : List ℕ) → sizeRule image ≡ true → Entered layout image true → Below (sectorCount image) (indexes layout image)
+indexes-below layout image sized entered k some =
+    let size = size-is image sized in
+    index-inside layout image (omega (arith, size .1)) (entries-are (sectorCount image) (entries layout (sectorOf image 0)) entered) k some .1
+
+pub claims-below : (layout : Layout) (image : List ℕ) → FourPassed layout image → Below (sectorCount image) (claims image (indexes layout image))
+claims-below layout image passed k some =
+    let n = sectorCount image in
+    let is = indexes layout image in
+    let ks = filesOf image is in
+    let rules =
+    files-range layout image is
+    (λ i among.
+    let descriptors = every-is (λ j. descriptorsRule layout n image [] (filesIn image j)) is (passed .described) i among in
+    record {
+      index = index-is n (sectorOf image i) (every-is (λ j. indexRule n (sectorOf image j)) is (passed .indexed) i among);
+      descriptors = descriptors-are layout n image [] (filesIn image i) descriptors;
+      ascending = ascend layout n image [] (filesIn image i) descriptors;
+    })
+    in
+    elim (decLt 0 (count k is)) [
+      | yes index ↦ indexes-below layout image (passed .sized) (passed .entered) k index
+      | no none ↦
+          file-holders-inside layout n image ks k (λ q h. let r = rules (getD ks q 0) (count-at ks q h) in (r .0, r .1)) (λ q h. rules (getD ks q 0) (count-at ks q h) .2)
+          (omega (arith, some, none, claims-count image is k)) .1
+    ]
+
+-- The judge's marks on such an image, first the map with sector 0 held.
+module _ (layout : Layout) (image marks : List ℕ) (first : marks ≡ mapOf (sectorCount image) (run 0 1)) (passed : FourPassed layout image) where
+  abbrev hs : List ℕ
+  hs = claims image (indexes layout image)
+
   long : length (asMap marks) ≡ 256
-  long = omega (arith, as-map-length marks, ap length first, map-length (sectorCount image) (run 0 2))
+  long = omega (arith, as-map-length marks, ap length first, map-length (sectorCount image) (run 0 1))
 
-  bits : (k : ℕ) → k < 1600 → mapBit (asMap marks) k ≡ taken (sectorCount image) (0 ∷ (1 ∷ [])) k
+  bits : (k : ℕ) → k < 1600 → mapBit (asMap marks) k ≡ taken (sectorCount image) (0 ∷ []) k
   unfolding run
-  bits = map-of-bits (sectorCount image) (0 ∷ (1 ∷ [])) (asMap marks) system-once (as-map-part marks (ap length first ∙ map-length (sectorCount image) (run 0 2)) ∙ first)
+  bits = map-of-bits (sectorCount image) (0 ∷ []) (asMap marks) (one-once 0) (as-map-part marks (ap length first ∙ map-length (sectorCount image) (run 0 1)) ∙ first)
 
   -- whether a sector was claimed twice
-  module _ (twice : Bool) (is : twice ≡ clashes (asMap marks) (fileHolders image (files image))) where
-    pub judged-twice : heldTwice (holders image) ≡ twice
-    unfolding holders
+  module _ (twice : Bool) (is : twice ≡ clashes (asMap marks) hs) where
+    pub judged-twice : heldTwice (holders layout image) ≡ twice
     judged-twice =
         let size = size-is image (passed .sized) in
-        clash-is (sectorCount image) (fileHolders image (files image)) (asMap marks) (size .1) (size .2) long bits (holders-below layout image passed) ∙ sym is
+        clash-is (sectorCount image) hs (holders layout image) (asMap marks) (size .2) long bits (claims-below layout image passed) (holders-count layout image) ∙ sym is
 
     -- where none was, a map that is compared with the marks is compared with the holders
-    module _ (once : twice ≡ false) (after : List ℕ) (left : asMap after ≡ markedAll 1 (asMap marks) (fileHolders image (files image))) (kept : length after ≡ 200) where
-      single : (k : ℕ) → count k (holders image) ≤ 1
-      single = held-once (holders image) (judged-twice ∙ once)
+    module _ (once : twice ≡ false) (after : List ℕ) (left : asMap after ≡ markedAll 1 (asMap marks) hs) (kept : length after ≡ 200) where
+      single : (k : ℕ) → count k (holders layout image) ≤ 1
+      single = held-once (holders layout image) (judged-twice ∙ once)
 
-      after-is : after ≡ mapOf (sectorCount image) (holders image)
-      unfolding holders run
+      after-is : after ≡ mapOf (sectorCount image) (holders layout image)
+      unfolding run
       after-is =
           let size = size-is image (passed .sized) in
-          let hs = fileHolders image (files image) in
           let whole = markedAll 1 (asMap marks) hs in
           let as-long = all-length 1 (asMap marks) hs ∙ long in
           sym (as-map-part after kept) ∙ ap (λ (s : List ℕ). part s 56 200) left
-          ∙ map-of-bytes (sectorCount image) (holders image) whole (part-length whole 56 200 (omega (arith, as-long)))
-          (all-below 1 (omega arith) (asMap marks) hs (as-map-below marks (rw first (map-below (sectorCount image) (0 ∷ (1 ∷ [])) system-once))))
-          (map-left (sectorCount image) hs (asMap marks) (size .1) (size .2) long bits (holders-below layout image passed) (judged-twice ∙ once))
+          ∙ map-of-bytes (sectorCount image) (holders layout image) whole (part-length whole 56 200 (omega (arith, as-long)))
+          (all-below 1 (omega arith) (asMap marks) hs (as-map-below marks (rw first (map-below (sectorCount image) (0 ∷ []) (one-once 0)))))
+          (map-left (sectorCount image) hs (holders layout image) (asMap marks) (size .2) long bits (claims-below layout image passed) (holders-count layout image) (judged-twice ∙ once))
 
       pub judged-map : (map sector0 : List ℕ) → map ≡ part sector0 56 200 → sector0 ≡ sectorOf image 0 → ((i : ℕ) → byteAt image i < 256)
-          → same map after ≡ mapRule (sectorCount image) (holders image) (sectorOf image 0)
+          → same map after ≡ mapRule (sectorCount image) (holders layout image) (sectorOf image 0)
       judged-map map sector0 cut read small =
           let size = size-is image (passed .sized) in
           rw (cut, read, after-is)
-          (map-compared (sectorCount image) (holders image) (sectorOf image 0) (sector-length image 0 (omega (arith, size .0, size .1)))
+          (map-compared (sectorCount image) (holders layout image) (sectorOf image 0) (sector-length image 0 (omega (arith, size .0, size .1)))
           (sector-below image 0 256 (omega arith) small) single)

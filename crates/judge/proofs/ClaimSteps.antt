@@ -1,6 +1,6 @@
 -- Claims, some neighbours at a time, in the order in which the two loops meet them: what is left to claim comes to what the whole comes to.
 use mathlib.Core.Path.{_≡_, refl, sym, ap, subst, _∙_}
-use mathlib.Core.Bool.{Bool, true, false, cond, not, _&&_}
+use mathlib.Core.Bool.{Bool, true, false, cond, not, _&&_, _||_}
 use mathlib.Core.List.{List, [], _∷_, _++_, append-assoc}
 use Prim.Native.Nat.{ℕ, _+_, _≤_, _<_}
 use native.Mathlib.Omega.{arith}
@@ -11,12 +11,12 @@ use Rattle.rules.specs.Sectors.{sectorOf}
 use Rattle.rules.specs.Chain.{run}
 use Rattle.rules.specs.Descriptor.{chainOf}
 use Rattle.rules.specs.Map.{mapBit, count, marked, markedAll}
-use Rattle.rules.specs.Volume.{placesIn, fileHolders}
+use Rattle.rules.specs.Volume.{filesIn, placesIn, fileHolders}
 use Rattle.rules.proofs.Tests.{absurd-test, both}
 use Rattle.rules.proofs.Chain.{run-length, run-none, run-step, run-counts, run-once}
 use Rattle.rules.proofs.Map.{count-here, count-more, count-append, count-apart}
 use Rattle.rules.proofs.Marking.{marked-other, all-append}
-use Rattle.judge.specs.Claim.{asMap, allFree, clashes, Below}
+use Rattle.judge.specs.Claim.{asMap, allFree, clashes, Below, claims}
 use Rattle.descriptor.specs.Cursor.{ahead, first, past}
 use Rattle.descriptor.specs.declared.chain.Cursor.{Cursor}
 use Rattle.descriptor.proofs.Ahead.{at-first, in-block-past}
@@ -50,6 +50,17 @@ clash-taken sector0 (j ∷ js) rest once taken =
         → cond t (clashes (marked 1 sector0 j) (js ++ rest)) true ≡ true
     go true taken more = more taken
     go false taken more = refl
+
+-- claims one after another: those behind come to what they come to on the map that the first leave, unless these clash
+clash-append : (sector0 js rest : List ℕ) → clashes sector0 (js ++ rest) ≡ (clashes sector0 js || clashes (markedAll 1 sector0 js) rest)
+unfolding clashes markedAll
+clash-append sector0 [] rest = refl
+clash-append sector0 (j ∷ js) rest = go (eqb (mapBit sector0 j) 0) (clash-append (marked 1 sector0 j) js rest)
+  where
+    go : (t : Bool) → clashes (marked 1 sector0 j) (js ++ rest) ≡ (clashes (marked 1 sector0 j) js || clashes (markedAll 1 (marked 1 sector0 j) js) rest)
+        → cond t (clashes (marked 1 sector0 j) (js ++ rest)) true ≡ (cond t (clashes (marked 1 sector0 j) js) true || clashes (markedAll 1 (marked 1 sector0 j) js) rest)
+    go true e = e
+    go false e = refl
 
 -- What is left to claim on the marks as they are, of sectors below n: it comes to what the whole comes to on the marks as they were.
 pub record Left (n : ℕ) (marks₀ whole marks rest : List ℕ) : Type 0 where
@@ -92,6 +103,29 @@ module _ (n : ℕ) (marks₀ whole : List ℕ) where
       pub left-clash : not free ≡ true → true ≡ clashes (asMap marks₀) whole
       left-clash e =
           sym (clash-taken (asMap marks) (run k many) rest (λ j. run-once j k many) (sym free-is ∙ not-true free e)) ∙ is .clash
+
+  -- several that were claimed at once, and whatever is behind them
+  module _ (marks js rest : List ℕ) (is : Left n marks₀ whole marks (js ++ rest)) (twice : Bool) (clash-is : twice ≡ clashes (asMap marks) js) where
+    pub left-behind : twice ≡ false → (after : List ℕ) → asMap after ≡ markedAll 1 (asMap marks) js → Left n marks₀ whole after rest
+    left-behind e after after-is =
+        record {
+          clash = ap (λ (s : List ℕ). clashes s rest) after-is ∙ sym (clash-append (asMap marks) js rest ∙ rw (← clash-is, e)) ∙ is .clash;
+          left = ap (λ (s : List ℕ). markedAll 1 s rest) after-is ∙ sym (all-append 1 (asMap marks) js rest) ∙ is .left;
+          below = λ j some. is .below j (omega (arith, some, count-append j js rest));
+        }
+
+    pub left-twice : twice ≡ true → true ≡ clashes (asMap marks₀) whole
+    left-twice e = sym (clash-append (asMap marks) js rest ∙ rw (← clash-is, e)) ∙ is .clash
+
+-- the indexes that are left
+module _ (image is : List ℕ) where
+  pub claims-step : (i : ℕ) (more : List ℕ) → is ≡ i ∷ more → claims image is ≡ i ∷ (fileHolders image (filesIn image i) ++ claims image more)
+  unfolding claims
+  claims-step i more here = rw here
+
+  pub claims-past : is ≡ [] → claims image is ≡ []
+  unfolding claims
+  claims-past none = rw none
 
 -- the files that are left
 module _ (image ks : List ℕ) where

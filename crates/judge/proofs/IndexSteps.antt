@@ -19,15 +19,15 @@ use Rattle.rules.proofs.Tests.{both, same-test}
 
 -- what is tested where the numbers end, and the rule of what is left
 abbrev pub indexEnd : List ℕ → ℕ → Bool
-indexEnd sector1 at = ltb at 256 && allAre 0 (drop at sector1)
+indexEnd index at = ltb at 256 && allAre 0 (drop at index)
 
 unfoldable pub indexRest : ℕ → List ℕ → ℕ → Bool
-indexRest n sector1 at = rangeRule n (numbers (drop at sector1)) && indexEnd sector1 (at + 2 * length (numbers (drop at sector1)))
+indexRest n index at = rangeRule n (numbers (drop at index)) && indexEnd index (at + 2 * length (numbers (drop at index)))
 
-pub index-start : (n : ℕ) (sector1 : List ℕ) → indexRest n sector1 0 ≡ indexRule n sector1
+pub index-start : (n : ℕ) (index : List ℕ) → indexRest n index 0 ≡ indexRule n index
 unfolding indexRest indexRule
-index-start n sector1 =
-    let many = length (numbers sector1) in
+index-start n index =
+    let many = length (numbers index) in
     let z : 0 + 2 * many ≡ 2 * many = omega arith in
     let few : ltb (2 * many) 256 ≡ ltb many 128 =
     same-test (ltb (2 * many) 256) (ltb many 128)
@@ -36,16 +36,16 @@ index-start n sector1 =
     in
     rw (z, few)
 
-module _ (n : ℕ) (sector1 : List ℕ) (at : ℕ) where
-  pub index-step : (k : ℕ) → numbers (drop at sector1) ≡ k ∷ numbers (drop (at + 2) sector1)
-      → indexRest n sector1 at ≡ ((leb 2 k && (ltb k n && rangeRule n (numbers (drop (at + 2) sector1)))) && indexEnd sector1 (at + 2 + 2 * length (numbers (drop (at + 2) sector1))))
+module _ (n : ℕ) (index : List ℕ) (at : ℕ) where
+  pub index-step : (k : ℕ) → numbers (drop at index) ≡ k ∷ numbers (drop (at + 2) index)
+      → indexRest n index at ≡ ((leb 2 k && (ltb k n && rangeRule n (numbers (drop (at + 2) index)))) && indexEnd index (at + 2 + 2 * length (numbers (drop (at + 2) index))))
   unfolding indexRest rangeRule
   index-step k here =
-      let more = numbers (drop (at + 2) sector1) in
+      let more = numbers (drop (at + 2) index) in
       let e : at + 2 * suc (length more) ≡ at + 2 + 2 * length more = omega arith in
       rw (here, e)
 
-  pub index-past : numbers (drop at sector1) ≡ [] → indexRest n sector1 at ≡ indexEnd sector1 at
+  pub index-past : numbers (drop at index) ≡ [] → indexRest n index at ≡ indexEnd index at
   unfolding indexRest rangeRule
   index-past none =
       let e : at + 2 * 0 ≡ at = omega arith in

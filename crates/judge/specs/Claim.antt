@@ -5,6 +5,7 @@ use Prim.Native.Nat.{ℕ, _≤_, _<_}
 use lib.Dec.{eqb}
 use lib.ListN.{replicate}
 use Rattle.rules.specs.Map.{mapBit, count, marked}
+use Rattle.rules.specs.Volume.{filesIn, fileHolders}
 
 -- the marks as the map of a sector 0; what stands before the map is of no account
 unfoldable pub asMap : List ℕ → List ℕ
@@ -23,3 +24,8 @@ clashes sector0 (k ∷ ks) = cond (eqb (mapBit sector0 k) 0) (clashes (marked 1 
 -- these sectors are below n
 abbrev pub Below : ℕ → List ℕ → Type 0
 Below n ks = (k : ℕ) → 1 ≤ count k ks → k < n
+
+-- what is claimed for these indexes: each of them, and what its files hold
+unfoldable pub claims : List ℕ → List ℕ → List ℕ
+claims image [] = []
+claims image (i ∷ is) = i ∷ (fileHolders image (filesIn image i) ++ claims image is)

@@ -1,2 +1,3 @@
--- The marks of the judge's loop over the holders.
+-- The entries of the directories, and the marks of the judge's loop over the holders.
+pub mod Entered
 pub mod Claim

@@ -2,14 +2,16 @@
 ghost use mathlib.Core.Path.{_≡_};
 ghost use mathlib.Core.Bool.{true};
 ghost use mathlib.Core.List.{[]};
-ghost use Prim.Native.Nat.{_*_, _≤_};
+ghost use Prim.Native.Nat.{_*_, _<_};
 ghost use lib.ListN.{length};
 ghost use Rattle.rules.specs.Chain.{chainRule};
 ghost use Rattle.rules.specs.Descriptor.{descriptorRule};
-ghost use Rattle.rules.specs.Index.{rangeRule};
+ghost use Rattle.rules.specs.Index.{rangeRule, indexRule};
 ghost use Rattle.rules.specs.Kind.{kindRule};
+ghost use Rattle.rules.specs.Sectors.{sectorOf};
 ghost use Rattle.rules.specs.Verdict.{descriptorsRule};
-ghost use Rattle.rules.specs.Volume.{files};
+ghost use Rattle.rules.specs.Volume.{indexes, every, filesIn};
+ghost use Rattle.judge.specs.Claim.{Below};
 use descriptor::chain::Met;
 use descriptor::chain::block_at;
 use descriptor::kind::kind_of;
@@ -23,6 +25,8 @@ use sector::bytes::byte;
 use sector::bytes::part;
 use sector::bytes::sector_in;
 use sector::bytes::word;
+use sector::directories::directory_count;
+use sector::directories::index_at;
 use sector::numbers::number_at;
 
 // The chain decoder: it receives the part of the descriptor that starts at byte 28. Past the last block c sectors are covered, and the rest is zero.
@@ -87,15 +91,16 @@ fn descriptor_rule(layout: Layout, n: usize, descriptor: &[u8]) -> bool
     chain_rule(n, c, part(descriptor, 28, 228))
 }
 
-pub(crate) fn descriptors_rule(layout: Layout, n: usize, image: &[u8]) -> bool
-    requires { ⌜ (2 ≤ n) × (length (now image) ≡ 256 * n) × (rangeRule n (files (now image)) ≡ true) ⌝ }
-    ensures { λ r. ⌜ r ≡ descriptorsRule layout n (now (image .entry)) [] (files (now (image .entry))) ⌝ }
+// The descriptors that the index in sector i leads to.
+fn descriptors_rule(layout: Layout, n: usize, image: &[u8], i: usize) -> bool
+    requires { ⌜ (i < n) × (length (now image) ≡ 256 * n) × (rangeRule n (filesIn (now image) i) ≡ true) ⌝ }
+    ensures { λ r. ⌜ r ≡ descriptorsRule layout n (now (image .entry)) [] (filesIn (now (image .entry)) i) ⌝ }
 {
-    let sector1 = sector_in(image, 1);
+    let index = sector_in(image, i);
     let mut previous = part(image, 0, 0);
     let mut at = 0;
     loop {
-        let k = number_at(sector1, at);
+        let k = number_at(index, at);
         if k == 0 {
             return true;
         }
@@ -110,4 +115,24 @@ pub(crate) fn descriptors_rule(layout: Layout, n: usize, image: &[u8]) -> bool
         previous = name;
         at += 2;
     }
+}
+
+// Those of every index that is there.
+pub(crate) fn catalogues_rule(layout: Layout, n: usize, image: &[u8]) -> bool
+    requires { ⌜ (length (now image) ≡ 256 * n) × Below n (indexes layout (now image)) × (every (λ i. indexRule n (sectorOf (now image) i)) (indexes layout (now image)) ≡ true) ⌝ }
+    ensures { λ r. ⌜ r ≡ every (λ i. descriptorsRule layout n (now (image .entry)) [] (filesIn (now (image .entry)) i)) (indexes layout (now (image .entry))) ⌝ }
+{
+    let many = directory_count(layout);
+    let mut directory = 0;
+    while directory < many {
+        let i = index_at(layout, image, directory);
+        directory += 1;
+        if i == 0 {
+            continue;
+        }
+        if !descriptors_rule(layout, n, image, i) {
+            return false;
+        }
+    }
+    true
 }

@@ -5,13 +5,16 @@ ghost use Prim.Native.Nat.{_+_, _%_, _≤_, _<_};
 ghost use lib.ListN.{length};
 ghost use Rattle.rules.specs.Sectors.{sectorCount};
 ghost use Rattle.rules.specs.Map.{markedAll};
-ghost use Rattle.rules.specs.Volume.{files, fileHolders};
-ghost use Rattle.judge.specs.Claim.{asMap, clashes, Below};
+ghost use Rattle.rules.specs.Volume.{indexes, filesIn, fileHolders};
+ghost use Rattle.judge.specs.Claim.{asMap, clashes, Below, claims};
 use crate::marks::take;
 use descriptor::chain::Cursor;
 use descriptor::chain::Step;
+use rules::Layout;
 use sector::bytes::part;
 use sector::bytes::sector_in;
+use sector::directories::directory_count;
+use sector::directories::index_at;
 use sector::numbers::number_at;
 
 // How many of the `left` sectors behind sector k are taken with it: those that share its byte of the marks.
@@ -25,18 +28,18 @@ fn beside(k: usize, left: usize) -> usize
     room
 }
 
-// Marks each file's sectors, the descriptor's and then its places, and answers whether one was taken already:
+// Marks the sectors of each file of the index in sector i, the descriptor's and then its places, and answers whether one was taken already:
 // it stops at the first sector claimed twice.
-pub(crate) fn claim_files(image: &[u8], marks: &mut [u8]) -> bool
-    requires { ⌜ (length (now marks) ≡ 200) × (2 ≤ sectorCount (now image)) × (sectorCount (now image) ≤ 1600) × Below (sectorCount (now image)) (fileHolders (now image) (files (now image))) ⌝ }
-    ensures { λ r. ⌜ r ≡ clashes (asMap (now (marks .entry))) (fileHolders (now (image .entry)) (files (now (image .entry)))) ⌝ }
-    ensures { λ r. ⌜ (r ≡ false → asMap (now (marks .exit)) ≡ markedAll 1 (asMap (now (marks .entry))) (fileHolders (now (image .entry)) (files (now (image .entry))))) ⌝ }
+fn claim_files(image: &[u8], i: usize, marks: &mut [u8]) -> bool
+    requires { ⌜ (length (now marks) ≡ 200) × (i < sectorCount (now image)) × (sectorCount (now image) ≤ 1600) × Below (sectorCount (now image)) (fileHolders (now image) (filesIn (now image) i)) ⌝ }
+    ensures { λ r. ⌜ r ≡ clashes (asMap (now (marks .entry))) (fileHolders (now (image .entry)) (filesIn (now (image .entry)) i)) ⌝ }
+    ensures { λ r. ⌜ (r ≡ false → asMap (now (marks .exit)) ≡ markedAll 1 (asMap (now (marks .entry))) (fileHolders (now (image .entry)) (filesIn (now (image .entry)) i))) ⌝ }
 {
-    let sector1 = sector_in(image, 1);
+    let index = sector_in(image, i);
     let mut twice = false;
     let mut at = 0;
     'files: loop {
-        let k = number_at(sector1, at);
+        let k = number_at(index, at);
         if k == 0 {
             break 'files;
         }
@@ -60,4 +63,28 @@ pub(crate) fn claim_files(image: &[u8], marks: &mut [u8]) -> bool
         at += 2;
     }
     twice
+}
+
+// Marks every holder but sector 0: each index that is there, and what its files hold. Answers whether one was taken already.
+pub(crate) fn claim_holders(layout: Layout, image: &[u8], marks: &mut [u8]) -> bool
+    requires { ⌜ (length (now marks) ≡ 200) × (sectorCount (now image) ≤ 1600) × Below (sectorCount (now image)) (claims (now image) (indexes layout (now image))) ⌝ }
+    ensures { λ r. ⌜ r ≡ clashes (asMap (now (marks .entry))) (claims (now (image .entry)) (indexes layout (now (image .entry)))) ⌝ }
+    ensures { λ r. ⌜ (r ≡ false → asMap (now (marks .exit)) ≡ markedAll 1 (asMap (now (marks .entry))) (claims (now (image .entry)) (indexes layout (now (image .entry))))) ⌝ }
+{
+    let many = directory_count(layout);
+    let mut directory = 0;
+    while directory < many {
+        let i = index_at(layout, image, directory);
+        directory += 1;
+        if i == 0 {
+            continue;
+        }
+        if !take(marks, i, 0) {
+            return true;
+        }
+        if claim_files(image, i, marks) {
+            return true;
+        }
+    }
+    false
 }

@@ -3,19 +3,21 @@
 ghost use mathlib.Core.Path.{_≡_};
 ghost use Rattle.rules.specs.Verdict.{verdict};
 
+mod directories;
 mod files;
 mod holders;
 mod marks;
 mod system;
 
-use files::descriptors_rule;
-use holders::claim_files;
+use directories::entries_rule;
+use directories::indexes_rule;
+use files::catalogues_rule;
+use holders::claim_holders;
 use map::laid::lay_map;
 use marks::map_rule;
 use rules::Layout;
 use sector::bytes::part;
 use sector::bytes::sector_in;
-use system::index_rule;
 use system::label_rule;
 
 // The number of an image by the table: 0 where it is a sound volume, else the first of 1 to 6 that is due.
@@ -36,15 +38,18 @@ pub fn judge(layout: Layout, image: &[u8]) -> u32
     if !label_rule(n, sector0) {
         return 2;
     }
-    if !index_rule(n, sector_in(image, 1)) {
+    if !entries_rule(layout, n, sector0) {
         return 3;
     }
-    if !descriptors_rule(layout, n, image) {
+    if !indexes_rule(layout, n, image) {
+        return 3;
+    }
+    if !catalogues_rule(layout, n, image) {
         return 4;
     }
     let mut marks = [0u8; 200];
-    lay_map(&mut marks, n, 2);
-    if claim_files(image, &mut marks) {
+    lay_map(&mut marks, n, 1);
+    if claim_holders(layout, image, &mut marks) {
         return 5;
     }
     if !map_rule(part(sector0, 56, 200), &marks) {

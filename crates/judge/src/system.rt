@@ -1,4 +1,4 @@
-// Sectors 0 and 1: tests 2 and 3.
+// The label, test 2, and an index, of test 3.
 ghost use mathlib.Core.Path.{_≡_};
 ghost use Rattle.rules.specs.Label.{labelRule};
 ghost use Rattle.rules.specs.Index.{indexRule};
@@ -28,17 +28,17 @@ pub(crate) fn label_rule(n: usize, sector0: &[u8]) -> bool
 }
 
 // Past the last number not all 128 are used, and the rest is zero.
-pub(crate) fn index_rule(n: usize, sector1: &[u8]) -> bool
-    ensures { λ r. ⌜ r ≡ indexRule n (now (sector1 .entry)) ⌝ }
+pub(crate) fn index_rule(n: usize, index: &[u8]) -> bool
+    ensures { λ r. ⌜ r ≡ indexRule n (now (index .entry)) ⌝ }
 {
     let mut at = 0;
     loop {
-        let k = number_at(sector1, at);
+        let k = number_at(index, at);
         if k == 0 {
             if at >= 256 {
                 return false;
             }
-            return all_are(0, sector1, at);
+            return all_are(0, index, at);
         }
         if k < 2 {
             return false;

@@ -1,4 +1,5 @@
-// The catalogue program's text: the listing of a sound volume, the line that stands for any other image, and the one or the other.
+// The catalogue program's text: the listing of a directory of a sound volume, the line that stands for any other image, and the one or the
+// other.
 ghost use mathlib.Core.Path.{_≡_};
 ghost use lib.ListN.{length};
 ghost use Rattle.rules.specs.Bytes.{splice};
@@ -14,21 +15,26 @@ use line::put_number;
 use lines::put_listing;
 use rules::Amount;
 use rules::Layout;
+use sector::directories::index_at;
 
 // The text is laid down twice, first where there is no room, which gives its length: nothing is written where it does not fit.
-pub fn listing(layout: Layout, image: &[u8], out: &mut [u8]) -> Amount
-    ensures { λ r. ⌜ Gives AmountSays (listingOf layout (now (image .entry)) (length (now (out .entry)))) r (now (out .entry)) (now (out .exit)) ⌝ }
+pub fn listing(layout: Layout, image: &[u8], directory: usize, out: &mut [u8]) -> Amount
+    ensures { λ r. ⌜ Gives AmountSays (listingOf layout (now (image .entry)) directory (length (now (out .entry)))) r (now (out .entry)) (now (out .exit)) ⌝ }
 {
     let number = judge(layout, image);
     if number != 0 {
         return Amount::Refused(number);
     }
+    let i = index_at(layout, image, directory);
+    if i == 0 {
+        return Amount::Refused(8);
+    }
     let mut nothing = [0u8; 0];
-    let size = put_listing(layout, &mut nothing, image);
+    let size = put_listing(layout, &mut nothing, image, i);
     if size > out.len() {
         return Amount::Refused(15);
     }
-    put_listing(layout, out, image);
+    put_listing(layout, out, image, i);
     Amount::Given(size)
 }
 
@@ -46,12 +52,12 @@ pub struct Shown {
     pub size: usize,
 }
 
-// The listing of an image, or the line of its refusal.
+// The listing of an image's root, or the line of its refusal.
 pub fn show(layout: Layout, image: &[u8], out: &mut [u8]) -> Shown
     ensures { λ r. ⌜ (r .size ≡ length (shown layout (now (image .entry)) (length (now (out .entry))))) × (now (out .exit) ≡ splice (now (out .entry)) 0 (shown layout (now (image .entry)) (length (now (out .entry))))) ⌝ }
-    ensures { λ r. ⌜ r .number ≡ listingOf layout (now (image .entry)) (length (now (out .entry))) .number ⌝ }
+    ensures { λ r. ⌜ r .number ≡ listingOf layout (now (image .entry)) 0 (length (now (out .entry))) .number ⌝ }
 {
-    let amount = listing(layout, image, out);
+    let amount = listing(layout, image, 0, out);
     match amount {
         Amount::Given(size) => Shown { number: 0, size },
         Amount::Refused(number) => Shown {

@@ -1,6 +1,6 @@
-// The lines of the listing: the disk's, then one a file in the order of sector 1.
-ghost use Prim.Native.Nat.{_≤_};
-ghost use Rattle.rules.specs.Volume.{files};
+// The lines of the listing: the disk's, then one a file in the order of the index.
+ghost use Prim.Native.Nat.{_≤_, _<_};
+ghost use Rattle.rules.specs.Volume.{filesIn};
 ghost use Rattle.rules.specs.Calls.Listing.{diskLine, fileLine, fileLines, listingText};
 ghost use Rattle.line.specs.Laid.{Laid};
 use crate::fields::put_kind;
@@ -44,16 +44,16 @@ fn put_file_line(layout: Layout, text: &mut [u8], at: usize, descriptor: &[u8]) 
     put_mark(layout, text, kept, status)
 }
 
-// A line for each number of sector 1 up to the first zero.
-fn put_file_lines(layout: Layout, text: &mut [u8], at: usize, image: &[u8]) -> usize
-    requires { ⌜ at ≤ 53 ⌝ }
-    ensures { λ r. ⌜ Laid 16640 (now (text .entry)) (now (text .exit)) at r (fileLines layout (now (image .entry)) (files (now (image .entry)))) ⌝ }
+// A line for each number of the index in sector i up to the first zero.
+fn put_file_lines(layout: Layout, text: &mut [u8], at: usize, image: &[u8], i: usize) -> usize
+    requires { ⌜ (at ≤ 53) × (i < 65536) ⌝ }
+    ensures { λ r. ⌜ Laid 16640 (now (text .entry)) (now (text .exit)) at r (fileLines layout (now (image .entry)) (filesIn (now (image .entry)) i)) ⌝ }
 {
-    let sector1 = sector_of(image, 1);
+    let index = sector_of(image, i);
     let mut next = at;
     let mut place = 0;
     loop {
-        let k = number_at(sector1, place);
+        let k = number_at(index, place);
         if k == 0 {
             return next;
         }
@@ -62,9 +62,10 @@ fn put_file_lines(layout: Layout, text: &mut [u8], at: usize, image: &[u8]) -> u
     }
 }
 
-pub(crate) fn put_listing(layout: Layout, text: &mut [u8], image: &[u8]) -> usize
-    ensures { λ r. ⌜ Laid 16693 (now (text .entry)) (now (text .exit)) 0 r (listingText layout (now (image .entry))) ⌝ }
+pub(crate) fn put_listing(layout: Layout, text: &mut [u8], image: &[u8], i: usize) -> usize
+    requires { ⌜ i < 65536 ⌝ }
+    ensures { λ r. ⌜ Laid 16693 (now (text .entry)) (now (text .exit)) 0 r (listingText layout (now (image .entry)) i) ⌝ }
 {
     let next = put_disk_line(text, image);
-    put_file_lines(layout, text, next, image)
+    put_file_lines(layout, text, next, image, i)
 }

@@ -181,19 +181,21 @@ fn run(
     if usage(
         options.help,
         options.unknown || options.verbose || options.sums,
-        b"usage: listings [--marks] [--] IMAGE...
+        b"usage: listings [--marks] [--directories] [--] IMAGE...
 Lists each image of a disk behind a line that names it: its name, size and free count, then a line a
 file. REFUSED and its number for one that is no sound volume, - for one that cannot be read.
 How many there were of each number is the last line on standard error.
-  --marks     by the rule with marks: status bit 10 hex, changed since backup, is allowed, and each
-              file has a last field, M where the bit is set or else a hyphen
-  -h, --help  this text
+  --marks        by the rule with marks: status bit 10 hex, changed since backup, is allowed, and
+                 each file has a last field, M where the bit is set or else a hyphen
+  --directories  by the second edition: sector 0 has entries of directories; the files are the root's
+  -h, --help     this text
 ",
     ) {
         return;
     }
     let layout = Layout {
         marks: options.marks,
+        directories: options.directories,
     };
     let first = options.first;
     let mut tally = [0usize; 8];

@@ -73,14 +73,20 @@ fn load_at(image: &[u8], k: usize, out: &mut [u8]) -> NamedAmount
     }
 }
 
-pub fn load(layout: Layout, image: &[u8], name: &[u8], out: &mut [u8]) -> NamedAmount
-    ensures { λ r. ⌜ Gives (NamedAmountSays (wrongPlace (now (name .entry)))) (loadOf layout (now (image .entry)) (now (name .entry)) (length (now (out .entry)))) r (now (out .entry)) (now (out .exit)) ⌝ }
+pub fn load(
+    layout: Layout,
+    image: &[u8],
+    directory: usize,
+    name: &[u8],
+    out: &mut [u8],
+) -> NamedAmount
+    ensures { λ r. ⌜ Gives (NamedAmountSays (wrongPlace (now (name .entry)))) (loadOf layout (now (image .entry)) directory (now (name .entry)) (length (now (out .entry)))) r (now (out .entry)) (now (out .exit)) ⌝ }
 {
-    let opened = find(layout, image, name);
+    let opened = find(layout, image, directory, name);
     match opened {
         Opened::Refused(number) => NamedAmount::Refused(number),
         Opened::Misnamed(place) => NamedAmount::Misnamed(place),
-        Opened::Absent => NamedAmount::Refused(8),
-        Opened::At(_, k) => load_at(image, k, out),
+        Opened::Absent(_) => NamedAmount::Refused(8),
+        Opened::At(_, _, k) => load_at(image, k, out),
     }
 }

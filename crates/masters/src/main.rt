@@ -422,15 +422,17 @@ fn run(
     if usage(
         options.help,
         options.unknown || options.verbose,
-        b"usage: masters [--sums] [--marks] [--] IMAGE...
+        b"usage: masters [--sums] [--marks] [--directories] [--] IMAGE...
 Finds duplicate disks: for each image a line with its number, the place among the images, from 1, of
 the first one that packs to the same bytes, and the image; - in the place of one that is no sound
 volume, - - for one that cannot be read.
 How many there were of each number is the last line on standard error.
-  --sums      in the place's stead the sum of the packed bytes, in 16 hexadecimal digits: images with
-              different sums are different disks, and those with equal ones are equal but for chance
-  --marks     by the rule with marks: status bit 10 hex, changed since backup, is allowed
-  -h, --help  this text
+  --sums         in the place's stead the sum of the packed bytes, in 16 hexadecimal digits: images
+                 with different sums are different disks, and those with equal ones are equal but
+                 for chance
+  --marks        by the rule with marks: status bit 10 hex, changed since backup, is allowed
+  --directories  by the second edition: sector 0 has entries of directories, which are packed too
+  -h, --help     this text
 ",
     ) {
         return;
@@ -441,6 +443,7 @@ How many there were of each number is the last line on standard error.
     }
     let layout = Layout {
         marks: options.marks,
+        directories: options.directories,
     };
     let images = end - first;
     let mut tally = [0usize; 8];

@@ -1,5 +1,6 @@
 // Overwriting: one data sector of a file, by its offset in the file; by the rule with marks its descriptor before it. The call takes any image and any arguments, answers with its number,
 // and leaves the image with the writes of the rules' definition laid over it; a refusal has none.
+ghost use Prim.Native.Nat.{ℕ};
 ghost use Rattle.rules.specs.Name.{wrongPlace};
 ghost use Rattle.rules.specs.Sound.{IsFile};
 ghost use Rattle.rules.specs.Outcome.{NamedSays, Meets};
@@ -25,7 +26,7 @@ fn overwrite_at(
     offset: usize,
     bytes: &[u8],
 ) -> NamedAnswer
-    requires { ⌜ IsFile layout (now image) k ⌝ }
+    requires { ⌜ ((i : ℕ) × IsFile layout (now image) i k) ⌝ }
     ensures { λ r. ⌜ Meets (NamedSays None) (overwriting layout (now (image .entry)) offset (now (bytes .entry)) k) r (now (image .entry)) (now (image .exit)) ⌝ }
 {
     let descriptor = sector_of(image, k);
@@ -53,17 +54,18 @@ fn overwrite_at(
 pub fn overwrite(
     layout: Layout,
     image: &mut [u8],
+    directory: usize,
     name: &[u8],
     offset: usize,
     bytes: &[u8],
 ) -> NamedAnswer
-    ensures { λ r. ⌜ Meets (NamedSays (wrongPlace (now (name .entry)))) (overwriteOf layout (now (image .entry)) (now (name .entry)) offset (now (bytes .entry))) r (now (image .entry)) (now (image .exit)) ⌝ }
+    ensures { λ r. ⌜ Meets (NamedSays (wrongPlace (now (name .entry)))) (overwriteOf layout (now (image .entry)) directory (now (name .entry)) offset (now (bytes .entry))) r (now (image .entry)) (now (image .exit)) ⌝ }
 {
-    let opened = find(layout, image, name);
+    let opened = find(layout, image, directory, name);
     match opened {
         Opened::Refused(number) => NamedAnswer::Refused(number),
         Opened::Misnamed(place) => NamedAnswer::Misnamed(place),
-        Opened::Absent => NamedAnswer::Refused(8),
-        Opened::At(_, k) => overwrite_at(layout, image, k, offset, bytes),
+        Opened::Absent(_) => NamedAnswer::Refused(8),
+        Opened::At(_, _, k) => overwrite_at(layout, image, k, offset, bytes),
     }
 }

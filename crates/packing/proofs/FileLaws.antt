@@ -1,40 +1,48 @@
--- The files by their numbers in sector 1: their descriptors keep the rules, and what is read of a descriptor is what the packed form has of the file.
+-- The files of all indexes by their numbers: their descriptors keep the rules, and what is read of a descriptor is what the packed form has of the file.
 use mathlib.Core.Path.{_≡_, ap, _∙_}
 use mathlib.Core.List.{List, _∷_, _++_, map}
-use Prim.Native.Nat.{ℕ, suc, _+_, _*_, _≤_, _<_}
+use Prim.Native.Nat.{ℕ, _+_, _*_, _≤_, _<_}
 use native.Mathlib.Omega.{arith}
-use lib.ListN.{length, getD, replicate, length-map}
+use lib.ListN.{length, replicate, length-map}
 use Rattle.rules.specs.Bytes.{part, over}
 use Rattle.rules.specs.Sectors.{sectorOf, sectorCount}
+use Rattle.rules.specs.Map.{count}
 use Rattle.rules.specs.Chain.{places, blocksBytes}
 use Rattle.rules.specs.Descriptor.{sectorsOf, chainOf, IsDescriptor}
-use Rattle.rules.specs.Volume.{files, placesIn, headerIn, contentsIn, fileIn, catalogue}
+use Rattle.rules.specs.Volume.{indexes, placesIn, headerIn, contentsIn, fileIn, catalogues}
 use Rattle.rules.specs.Sound.{Sound}
-use Rattle.rules.specs.Calls.Pack.{oneBlock, packedDescriptor, packedData, packedSectors}
+use Rattle.rules.specs.Calls.Pack.{oneBlock, packedDescriptor, packedData, dataSectors, together, packedSectors}
 use Rattle.rules.specs.declared.Layout.{Layout}
+use Rattle.rules.proofs.Map.{count-here, count-more}
 use Rattle.rules.proofs.Volume.{places-count}
-use Rattle.rules.proofs.Pack.{data-length, catalogue-whole}
+use Rattle.rules.proofs.Indexes.{files-range}
+use Rattle.rules.proofs.Pack.{data-length, allFiles, all-together, all-sectors, together-whole, used-inside}
 
--- the numbers of files whose descriptors keep their rules, by some layout
-pub record Kept (image ks : List ℕ) : Type 0 where
-  pub layout : Layout
-  pub inside : (q : ℕ) → q < length ks → getD ks q 0 < sectorCount image
-  pub descriptors : (q : ℕ) → q < length ks → IsDescriptor layout (sectorCount image) (sectorOf image (getD ks q 0))
+-- the indexes and descriptors are inside the volume
+pub descriptors-inside : (layout : Layout) (image : List ℕ) → Sound layout image → 1 + length (indexes layout image) + length (allFiles layout image) ≤ 1600
+descriptors-inside layout image is = omega (arith, used-inside layout image is, all-sectors layout image, is .size)
 
-pub all-kept : (layout : Layout) (image : List ℕ) → Sound layout image → Kept image (files image)
-unfolding files
-all-kept layout image is = record { layout = layout; inside = λ q h. is .index .range q h .1; descriptors = is .descriptors }
+-- the numbers of files whose descriptors keep their rules
+pub record Kept (layout : Layout) (image ks : List ℕ) : Type 0 where
+  pub each : (k : ℕ) → 1 ≤ count k ks → (2 ≤ k) × (k < sectorCount image) × IsDescriptor layout (sectorCount image) (sectorOf image k)
 
-pub first-kept : {image : List ℕ} {k : ℕ} {ks : List ℕ} (kept : Kept image (k ∷ ks)) → (k < sectorCount image) × IsDescriptor (kept .layout) (sectorCount image) (sectorOf image k)
-first-kept kept = (kept .inside 0 (omega arith), kept .descriptors 0 (omega arith))
+pub all-kept : (layout : Layout) (image : List ℕ) → Sound layout image → Kept layout image (allFiles layout image)
+all-kept layout image is = record { each = files-range layout image (indexes layout image) (is .each) }
 
-pub rest-kept : {image : List ℕ} {k : ℕ} {ks : List ℕ} → Kept image (k ∷ ks) → Kept image ks
-rest-kept kept = record { layout = kept .layout; inside = λ q h. kept .inside (suc q) (omega arith); descriptors = λ q h. kept .descriptors (suc q) (omega arith) }
+module _ {layout : Layout} {image : List ℕ} {k : ℕ} {ks : List ℕ} (kept : Kept layout image (k ∷ ks)) where
+  pub first-inside : k < sectorCount image
+  first-inside = kept .each k (omega (arith, count-here k ks)) .1
 
--- the contents of a file: c sectors
-pub contents-count : (layout : Layout) (image : List ℕ) (k : ℕ) → IsDescriptor layout (sectorCount image) (sectorOf image k) → length (fileIn image k .contents) ≡ sectorsOf (sectorOf image k)
-unfolding fileIn contentsIn
-contents-count layout image k is = length-map (placesIn image k) (sectorOf image) ∙ places-count layout (sectorCount image) image k is
+  pub first-descriptor : IsDescriptor layout (sectorCount image) (sectorOf image k)
+  first-descriptor = kept .each k (omega (arith, count-here k ks)) .2
+
+  pub rest-kept : Kept layout image ks
+  rest-kept = record { each = λ j h. kept .each j (omega (arith, h, count-more j k ks)) }
+
+  -- the contents of the first: c sectors
+  pub contents-count : length (fileIn image k .contents) ≡ sectorsOf (sectorOf image k)
+  unfolding fileIn contentsIn
+  contents-count = length-map (placesIn image k) (sectorOf image) ∙ places-count layout (sectorCount image) image k first-descriptor
 
 -- what is read of a descriptor: its header, its chain's sectors, and its packed form
 module _ (image : List ℕ) (k : ℕ) (descriptor : List ℕ) (is : descriptor ≡ sectorOf image k) where
@@ -51,11 +59,9 @@ pub descriptor-packed : (image : List ℕ) (k start sectors : ℕ) (header : Lis
 unfolding packedDescriptor fileIn
 descriptor-packed image k start sectors header e f = rw (e, ← f)
 
-pub files-few : (layout : Layout) (image : List ℕ) → Sound layout image → length (files image) ≤ 127
-unfolding files
-files-few layout image is = is .index .few
-
 -- the data ends with the sectors in use
-pub data-ends : (layout : Layout) (image : List ℕ) → Sound layout image → 512 + 256 * length (files image) + length (packedData (catalogue image)) ≡ 256 * packedSectors (catalogue image)
-unfolding packedSectors catalogue
-data-ends layout image is = omega (arith, data-length (catalogue image) (catalogue-whole layout image is), length-map (files image) (fileIn image))
+pub data-ends : (layout : Layout) (image : List ℕ) → Sound layout image
+    → 256 * (1 + length (indexes layout image) + length (allFiles layout image)) + length (packedData (together (catalogues layout image))) ≡ 256 * packedSectors (catalogues layout image)
+data-ends layout image is =
+    let long = data-length (together (catalogues layout image)) (together-whole layout image is) in
+    omega (arith, long, all-sectors layout image, ap dataSectors (all-together layout image))

@@ -13,9 +13,9 @@ use Rattle.rules.specs.declared.WrongPlace.the-variants.{At}
 use Rattle.rules.specs.declared.Kind.{Kind}
 use Rattle.rules.specs.declared.Kind.the-variants.{Program, Fixed, Variable}
 
--- a layout is a sum of bits: 1 for marks; other bits are not looked at
+-- a layout is a sum of bits: 1 for marks, 2 for directories; other bits are not looked at
 unfoldable pub layoutOf : ℕ → Layout
-layoutOf bits = record { marks = eqb (bitOf bits 0) 1 }
+layoutOf bits = record { marks = eqb (bitOf bits 0) 1; directories = eqb (bitOf bits 1) 1 }
 
 -- 0 PROGRAM, 1 DIS/FIX, 2 DIS/VAR, 3 INT/FIX, 4 INT/VAR
 unfoldable pub kindNumber : Kind → ℕ

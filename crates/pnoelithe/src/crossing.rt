@@ -18,6 +18,7 @@ pub(crate) fn layout_of(bits: u32) -> Layout
 {
     Layout {
         marks: bits % 2 == 1,
+        directories: bits / 2 % 2 == 1,
     }
 }
 

@@ -7,14 +7,13 @@ ghost use Rattle.rules.specs.Sectors.{sectorOf, sectorCount};
 ghost use Rattle.rules.specs.Name.{wrongPlace};
 ghost use Rattle.rules.specs.Descriptor.{statusOf, sectorsOf, fileKind};
 ghost use Rattle.rules.specs.Map.{freeCount};
-ghost use Rattle.rules.specs.Volume.{files};
-ghost use Rattle.rules.specs.Sound.{fileAt};
+ghost use Rattle.rules.specs.Volume.{indexes, filesOf};
 ghost use Rattle.rules.specs.Verdict.{verdict};
 ghost use Rattle.rules.specs.Outcome.{behind};
 ghost use Rattle.rules.specs.Calls.Format.{formatNumber, afterFormat};
 ghost use Rattle.rules.specs.Calls.Summary.{freeCountOf, summaryOf};
 ghost use Rattle.rules.specs.Kind.{isProtected};
-ghost use Rattle.rules.specs.Calls.Entry.{entryOf};
+ghost use Rattle.rules.specs.Calls.Entry.{entryAt, entryOf};
 ghost use Rattle.rules.specs.Calls.Read.{readOf};
 ghost use Rattle.rules.specs.Calls.Load.{loadOf};
 ghost use Rattle.rules.specs.Calls.Listing.{kindLength, listingOf};
@@ -83,7 +82,7 @@ pub extern "C" fn pno_free_count(image: &[u8], layout: u32, free: &mut usize) ->
     amount_number(summarizing::free_count(layout_of(layout), image), free)
 }
 
-// Disk name, number of sectors, of files, and of free sectors.
+// Disk name, number of sectors, of files in all directories, and of free sectors.
 #[no_mangle]
 pub extern "C" fn pno_summary(
     image: &[u8],
@@ -95,7 +94,7 @@ pub extern "C" fn pno_summary(
 ) -> u32
     ensures name { λ r. ⌜ ReportCrosses (summaryOf (layoutOf layout) (now (image .entry))) r (now (name .entry)) (now (name .exit)) ⌝ }
     ensures sectors { λ r. ⌜ now (sectors .exit) ≡ behind r (sectorCount (now (image .entry))) (now (sectors .entry)) ⌝ }
-    ensures count { λ r. ⌜ now (count .exit) ≡ behind r (length (files (now (image .entry)))) (now (count .entry)) ⌝ }
+    ensures count { λ r. ⌜ now (count .exit) ≡ behind r (length (filesOf (now (image .entry)) (indexes (layoutOf layout) (now (image .entry))))) (now (count .entry)) ⌝ }
     ensures free { λ r. ⌜ now (free .exit) ≡ behind r (freeCount (sectorOf (now (image .entry)) 0)) (now (free .entry)) ⌝ }
 {
     let summary = summarizing::summary(layout_of(layout), image, name);
@@ -114,11 +113,12 @@ pub extern "C" fn pno_summary(
     }
 }
 
-// A catalogue entry: the 28 header bytes, and the row's numbers.
+// A catalogue entry of a directory: the 28 header bytes, and the row's numbers.
 #[no_mangle]
 pub extern "C" fn pno_entry(
     image: &[u8],
     layout: u32,
+    directory: usize,
     place: usize,
     header: &mut [u8],
     kind: &mut usize,
@@ -126,13 +126,13 @@ pub extern "C" fn pno_entry(
     sectors: &mut usize,
     is_protected: &mut usize,
 ) -> u32
-    ensures header { λ r. ⌜ ReportCrosses (entryOf (layoutOf layout) (now (image .entry)) place (length (now (header .entry)))) r (now (header .entry)) (now (header .exit)) ⌝ }
-    ensures kind { λ r. ⌜ now (kind .exit) ≡ behind r (kindNumber (fileKind (sectorOf (now (image .entry)) (fileAt (now (image .entry)) place)))) (now (kind .entry)) ⌝ }
-    ensures size { λ r. ⌜ now (size .exit) ≡ behind r (kindLength (fileKind (sectorOf (now (image .entry)) (fileAt (now (image .entry)) place)))) (now (size .entry)) ⌝ }
-    ensures sectors { λ r. ⌜ now (sectors .exit) ≡ behind r (sectorsOf (sectorOf (now (image .entry)) (fileAt (now (image .entry)) place))) (now (sectors .entry)) ⌝ }
-    ensures protection { λ r. ⌜ now («is_protected» .exit) ≡ behind r (flag (isProtected (statusOf (sectorOf (now (image .entry)) (fileAt (now (image .entry)) place))))) (now («is_protected» .entry)) ⌝ }
+    ensures header { λ r. ⌜ ReportCrosses (entryOf (layoutOf layout) (now (image .entry)) directory place (length (now (header .entry)))) r (now (header .entry)) (now (header .exit)) ⌝ }
+    ensures kind { λ r. ⌜ now (kind .exit) ≡ behind r (kindNumber (fileKind (sectorOf (now (image .entry)) (entryAt (layoutOf layout) (now (image .entry)) directory place)))) (now (kind .entry)) ⌝ }
+    ensures size { λ r. ⌜ now (size .exit) ≡ behind r (kindLength (fileKind (sectorOf (now (image .entry)) (entryAt (layoutOf layout) (now (image .entry)) directory place)))) (now (size .entry)) ⌝ }
+    ensures sectors { λ r. ⌜ now (sectors .exit) ≡ behind r (sectorsOf (sectorOf (now (image .entry)) (entryAt (layoutOf layout) (now (image .entry)) directory place))) (now (sectors .entry)) ⌝ }
+    ensures protection { λ r. ⌜ now («is_protected» .exit) ≡ behind r (flag (isProtected (statusOf (sectorOf (now (image .entry)) (entryAt (layoutOf layout) (now (image .entry)) directory place))))) (now («is_protected» .entry)) ⌝ }
 {
-    let entry = cataloguing::entry(layout_of(layout), image, place, header);
+    let entry = cataloguing::entry(layout_of(layout), image, directory, place, header);
     let answer = entry.answer;
     let row = entry.row;
     match answer {
@@ -153,16 +153,17 @@ pub extern "C" fn pno_entry(
 pub extern "C" fn pno_read(
     image: &[u8],
     layout: u32,
+    directory: usize,
     name: &[u8],
     offset: usize,
     out: &mut [u8],
     wrong: &mut usize,
 ) -> u32
-    ensures bytes { λ r. ⌜ ReportCrosses (readOf (layoutOf layout) (now (image .entry)) (now (name .entry)) offset (length (now (out .entry)))) r (now (out .entry)) (now (out .exit)) ⌝ }
+    ensures bytes { λ r. ⌜ ReportCrosses (readOf (layoutOf layout) (now (image .entry)) directory (now (name .entry)) offset (length (now (out .entry)))) r (now (out .entry)) (now (out .exit)) ⌝ }
     ensures wrong { λ r. ⌜ now (wrong .exit) ≡ placeBehind r (wrongPlace (now (name .entry))) (now (wrong .entry)) ⌝ }
 {
     named_number(
-        reading::read(layout_of(layout), image, name, offset, out),
+        reading::read(layout_of(layout), image, directory, name, offset, out),
         wrong,
     )
 }
@@ -172,29 +173,39 @@ pub extern "C" fn pno_read(
 pub extern "C" fn pno_load(
     image: &[u8],
     layout: u32,
+    directory: usize,
     name: &[u8],
     out: &mut [u8],
     size: &mut usize,
     wrong: &mut usize,
 ) -> u32
-    ensures bytes { λ r. ⌜ ReportCrosses (loadOf (layoutOf layout) (now (image .entry)) (now (name .entry)) (length (now (out .entry)))) r (now (out .entry)) (now (out .exit)) ⌝ }
-    ensures size { λ r. ⌜ AmountCrosses (loadOf (layoutOf layout) (now (image .entry)) (now (name .entry)) (length (now (out .entry)))) r (now (size .entry)) (now (size .exit)) ⌝ }
+    ensures bytes { λ r. ⌜ ReportCrosses (loadOf (layoutOf layout) (now (image .entry)) directory (now (name .entry)) (length (now (out .entry)))) r (now (out .entry)) (now (out .exit)) ⌝ }
+    ensures size { λ r. ⌜ AmountCrosses (loadOf (layoutOf layout) (now (image .entry)) directory (now (name .entry)) (length (now (out .entry)))) r (now (size .entry)) (now (size .exit)) ⌝ }
     ensures wrong { λ r. ⌜ now (wrong .exit) ≡ placeBehind r (wrongPlace (now (name .entry))) (now (wrong .entry)) ⌝ }
 {
     named_amount_number(
-        loading::load(layout_of(layout), image, name, out),
+        loading::load(layout_of(layout), image, directory, name, out),
         size,
         wrong,
     )
 }
 
-// The catalogue program's text and its length.
+// The catalogue program's text of a directory, and its length.
 #[no_mangle]
-pub extern "C" fn pno_listing(image: &[u8], layout: u32, out: &mut [u8], size: &mut usize) -> u32
-    ensures bytes { λ r. ⌜ ReportCrosses (listingOf (layoutOf layout) (now (image .entry)) (length (now (out .entry)))) r (now (out .entry)) (now (out .exit)) ⌝ }
-    ensures size { λ r. ⌜ AmountCrosses (listingOf (layoutOf layout) (now (image .entry)) (length (now (out .entry)))) r (now (size .entry)) (now (size .exit)) ⌝ }
+pub extern "C" fn pno_listing(
+    image: &[u8],
+    layout: u32,
+    directory: usize,
+    out: &mut [u8],
+    size: &mut usize,
+) -> u32
+    ensures bytes { λ r. ⌜ ReportCrosses (listingOf (layoutOf layout) (now (image .entry)) directory (length (now (out .entry)))) r (now (out .entry)) (now (out .exit)) ⌝ }
+    ensures size { λ r. ⌜ AmountCrosses (listingOf (layoutOf layout) (now (image .entry)) directory (length (now (out .entry)))) r (now (size .entry)) (now (size .exit)) ⌝ }
 {
-    amount_number(listing::listing(layout_of(layout), image, out), size)
+    amount_number(
+        listing::listing(layout_of(layout), image, directory, out),
+        size,
+    )
 }
 
 // A file without sectors.
@@ -202,19 +213,21 @@ pub extern "C" fn pno_listing(image: &[u8], layout: u32, out: &mut [u8], size: &
 pub extern "C" fn pno_create(
     image: &mut [u8],
     layout: u32,
+    directory: usize,
     name: &[u8],
     status: u8,
     record_length: u8,
     records_per_sector: u8,
     wrong: &mut usize,
 ) -> u32
-    ensures image { λ r. ⌜ Crosses (createOf (layoutOf layout) (now (image .entry)) (now (name .entry)) status «record_length» «records_per_sector») r (now (image .entry)) (now (image .exit)) ⌝ }
+    ensures image { λ r. ⌜ Crosses (createOf (layoutOf layout) (now (image .entry)) directory (now (name .entry)) status «record_length» «records_per_sector») r (now (image .entry)) (now (image .exit)) ⌝ }
     ensures wrong { λ r. ⌜ now (wrong .exit) ≡ placeBehind r (wrongPlace (now (name .entry))) (now (wrong .entry)) ⌝ }
 {
     named_number(
         creating::create(
             layout_of(layout),
             image,
+            directory,
             name,
             status,
             record_length,
@@ -229,15 +242,16 @@ pub extern "C" fn pno_create(
 pub extern "C" fn pno_append(
     image: &mut [u8],
     layout: u32,
+    directory: usize,
     name: &[u8],
     bytes: &[u8],
     wrong: &mut usize,
 ) -> u32
-    ensures image { λ r. ⌜ Crosses (appendOf (layoutOf layout) (now (image .entry)) (now (name .entry)) (now (bytes .entry))) r (now (image .entry)) (now (image .exit)) ⌝ }
+    ensures image { λ r. ⌜ Crosses (appendOf (layoutOf layout) (now (image .entry)) directory (now (name .entry)) (now (bytes .entry))) r (now (image .entry)) (now (image .exit)) ⌝ }
     ensures wrong { λ r. ⌜ now (wrong .exit) ≡ placeBehind r (wrongPlace (now (name .entry))) (now (wrong .entry)) ⌝ }
 {
     named_number(
-        appending::append(layout_of(layout), image, name, bytes),
+        appending::append(layout_of(layout), image, directory, name, bytes),
         wrong,
     )
 }
@@ -247,27 +261,37 @@ pub extern "C" fn pno_append(
 pub extern "C" fn pno_overwrite(
     image: &mut [u8],
     layout: u32,
+    directory: usize,
     name: &[u8],
     offset: usize,
     bytes: &[u8],
     wrong: &mut usize,
 ) -> u32
-    ensures image { λ r. ⌜ Crosses (overwriteOf (layoutOf layout) (now (image .entry)) (now (name .entry)) offset (now (bytes .entry))) r (now (image .entry)) (now (image .exit)) ⌝ }
+    ensures image { λ r. ⌜ Crosses (overwriteOf (layoutOf layout) (now (image .entry)) directory (now (name .entry)) offset (now (bytes .entry))) r (now (image .entry)) (now (image .exit)) ⌝ }
     ensures wrong { λ r. ⌜ now (wrong .exit) ≡ placeBehind r (wrongPlace (now (name .entry))) (now (wrong .entry)) ⌝ }
 {
     named_number(
-        overwriting::overwrite(layout_of(layout), image, name, offset, bytes),
+        overwriting::overwrite(layout_of(layout), image, directory, name, offset, bytes),
         wrong,
     )
 }
 
 // The protection of a file.
 #[no_mangle]
-pub extern "C" fn pno_protect(image: &mut [u8], layout: u32, name: &[u8], wrong: &mut usize) -> u32
-    ensures image { λ r. ⌜ Crosses (protectOf (layoutOf layout) (now (image .entry)) (now (name .entry))) r (now (image .entry)) (now (image .exit)) ⌝ }
+pub extern "C" fn pno_protect(
+    image: &mut [u8],
+    layout: u32,
+    directory: usize,
+    name: &[u8],
+    wrong: &mut usize,
+) -> u32
+    ensures image { λ r. ⌜ Crosses (protectOf (layoutOf layout) (now (image .entry)) directory (now (name .entry))) r (now (image .entry)) (now (image .exit)) ⌝ }
     ensures wrong { λ r. ⌜ now (wrong .exit) ≡ placeBehind r (wrongPlace (now (name .entry))) (now (wrong .entry)) ⌝ }
 {
-    named_number(protecting::protect(layout_of(layout), image, name), wrong)
+    named_number(
+        protecting::protect(layout_of(layout), image, directory, name),
+        wrong,
+    )
 }
 
 // And its end.
@@ -275,13 +299,17 @@ pub extern "C" fn pno_protect(image: &mut [u8], layout: u32, name: &[u8], wrong:
 pub extern "C" fn pno_unprotect(
     image: &mut [u8],
     layout: u32,
+    directory: usize,
     name: &[u8],
     wrong: &mut usize,
 ) -> u32
-    ensures image { λ r. ⌜ Crosses (unprotectOf (layoutOf layout) (now (image .entry)) (now (name .entry))) r (now (image .entry)) (now (image .exit)) ⌝ }
+    ensures image { λ r. ⌜ Crosses (unprotectOf (layoutOf layout) (now (image .entry)) directory (now (name .entry))) r (now (image .entry)) (now (image .exit)) ⌝ }
     ensures wrong { λ r. ⌜ now (wrong .exit) ≡ placeBehind r (wrongPlace (now (name .entry))) (now (wrong .entry)) ⌝ }
 {
-    named_number(protecting::unprotect(layout_of(layout), image, name), wrong)
+    named_number(
+        protecting::unprotect(layout_of(layout), image, directory, name),
+        wrong,
+    )
 }
 
 // The backup mark of a file, cleared.
@@ -289,14 +317,15 @@ pub extern "C" fn pno_unprotect(
 pub extern "C" fn pno_clear_mark(
     image: &mut [u8],
     layout: u32,
+    directory: usize,
     name: &[u8],
     wrong: &mut usize,
 ) -> u32
-    ensures image { λ r. ⌜ Crosses (clearOf (layoutOf layout) (now (image .entry)) (now (name .entry))) r (now (image .entry)) (now (image .exit)) ⌝ }
+    ensures image { λ r. ⌜ Crosses (clearOf (layoutOf layout) (now (image .entry)) directory (now (name .entry))) r (now (image .entry)) (now (image .exit)) ⌝ }
     ensures wrong { λ r. ⌜ now (wrong .exit) ≡ placeBehind r (wrongPlace (now (name .entry))) (now (wrong .entry)) ⌝ }
 {
     named_number(
-        protecting::clear_mark(layout_of(layout), image, name),
+        protecting::clear_mark(layout_of(layout), image, directory, name),
         wrong,
     )
 }
@@ -306,23 +335,36 @@ pub extern "C" fn pno_clear_mark(
 pub extern "C" fn pno_store(
     image: &mut [u8],
     layout: u32,
+    directory: usize,
     name: &[u8],
     bytes: &[u8],
     wrong: &mut usize,
 ) -> u32
-    ensures image { λ r. ⌜ Crosses (storeOf (layoutOf layout) (now (image .entry)) (now (name .entry)) (now (bytes .entry))) r (now (image .entry)) (now (image .exit)) ⌝ }
+    ensures image { λ r. ⌜ Crosses (storeOf (layoutOf layout) (now (image .entry)) directory (now (name .entry)) (now (bytes .entry))) r (now (image .entry)) (now (image .exit)) ⌝ }
     ensures wrong { λ r. ⌜ now (wrong .exit) ≡ placeBehind r (wrongPlace (now (name .entry))) (now (wrong .entry)) ⌝ }
 {
-    named_number(storing::store(layout_of(layout), image, name, bytes), wrong)
+    named_number(
+        storing::store(layout_of(layout), image, directory, name, bytes),
+        wrong,
+    )
 }
 
 // A file less.
 #[no_mangle]
-pub extern "C" fn pno_delete(image: &mut [u8], layout: u32, name: &[u8], wrong: &mut usize) -> u32
-    ensures image { λ r. ⌜ Crosses (deleteOf (layoutOf layout) (now (image .entry)) (now (name .entry))) r (now (image .entry)) (now (image .exit)) ⌝ }
+pub extern "C" fn pno_delete(
+    image: &mut [u8],
+    layout: u32,
+    directory: usize,
+    name: &[u8],
+    wrong: &mut usize,
+) -> u32
+    ensures image { λ r. ⌜ Crosses (deleteOf (layoutOf layout) (now (image .entry)) directory (now (name .entry))) r (now (image .entry)) (now (image .exit)) ⌝ }
     ensures wrong { λ r. ⌜ now (wrong .exit) ≡ placeBehind r (wrongPlace (now (name .entry))) (now (wrong .entry)) ⌝ }
 {
-    named_number(deleting::delete(layout_of(layout), image, name), wrong)
+    named_number(
+        deleting::delete(layout_of(layout), image, directory, name),
+        wrong,
+    )
 }
 
 // A file under another name.
@@ -330,17 +372,18 @@ pub extern "C" fn pno_delete(image: &mut [u8], layout: u32, name: &[u8], wrong: 
 pub extern "C" fn pno_rename(
     image: &mut [u8],
     layout: u32,
+    directory: usize,
     old: &[u8],
     new: &[u8],
     which: &mut usize,
     wrong: &mut usize,
 ) -> u32
-    ensures image { λ r. ⌜ Crosses (renameOf (layoutOf layout) (now (image .entry)) (now (old .entry)) (now (new .entry))) r (now (image .entry)) (now (image .exit)) ⌝ }
+    ensures image { λ r. ⌜ Crosses (renameOf (layoutOf layout) (now (image .entry)) directory (now (old .entry)) (now (new .entry))) r (now (image .entry)) (now (image .exit)) ⌝ }
     ensures which { λ r. ⌜ now (which .exit) ≡ whichBehind r (wrongPlace (now (old .entry))) (now (which .entry)) ⌝ }
     ensures wrong { λ r. ⌜ now (wrong .exit) ≡ placeBehind r (firstWrong (wrongPlace (now (old .entry))) (wrongPlace (now (new .entry)))) (now (wrong .entry)) ⌝ }
 {
     rename_number(
-        renaming::rename(layout_of(layout), image, old, new),
+        renaming::rename(layout_of(layout), image, directory, old, new),
         which,
         wrong,
     )

@@ -11,16 +11,23 @@ use rules::NamedAnswer;
 use rules::Opened;
 
 // Bit j of the status made `bit`.
-fn set_bit(layout: Layout, image: &mut [u8], name: &[u8], j: usize, bit: u8) -> NamedAnswer
+fn set_bit(
+    layout: Layout,
+    image: &mut [u8],
+    directory: usize,
+    name: &[u8],
+    j: usize,
+    bit: u8,
+) -> NamedAnswer
     requires { ⌜ (j < 8) × (bit < 2) ⌝ }
-    ensures { λ r. ⌜ Meets (NamedSays (wrongPlace (now (name .entry)))) (setBitOf layout j bit (now (image .entry)) (now (name .entry))) r (now (image .entry)) (now (image .exit)) ⌝ }
+    ensures { λ r. ⌜ Meets (NamedSays (wrongPlace (now (name .entry)))) (setBitOf layout j bit (now (image .entry)) directory (now (name .entry))) r (now (image .entry)) (now (image .exit)) ⌝ }
 {
-    let opened = find(layout, image, name);
+    let opened = find(layout, image, directory, name);
     match opened {
         Opened::Refused(number) => NamedAnswer::Refused(number),
         Opened::Misnamed(place) => NamedAnswer::Misnamed(place),
-        Opened::Absent => NamedAnswer::Refused(8),
-        Opened::At(_, k) => {
+        Opened::Absent(_) => NamedAnswer::Refused(8),
+        Opened::At(_, _, k) => {
             let at = 256 * k + 12;
             image[at] = with_bit(image[at], j, bit);
             NamedAnswer::Done
@@ -28,22 +35,25 @@ fn set_bit(layout: Layout, image: &mut [u8], name: &[u8], j: usize, bit: u8) -> 
     }
 }
 
-pub fn protect(layout: Layout, image: &mut [u8], name: &[u8]) -> NamedAnswer
-    ensures { λ r. ⌜ Meets (NamedSays (wrongPlace (now (name .entry)))) (protectOf layout (now (image .entry)) (now (name .entry))) r (now (image .entry)) (now (image .exit)) ⌝ }
+pub fn protect(layout: Layout, image: &mut [u8], directory: usize, name: &[u8]) -> NamedAnswer
+    ensures { λ r. ⌜ Meets (NamedSays (wrongPlace (now (name .entry)))) (protectOf layout (now (image .entry)) directory (now (name .entry))) r (now (image .entry)) (now (image .exit)) ⌝ }
 {
-    set_bit(layout, image, name, 3, 1)
+    set_bit(layout, image, directory, name, 3, 1)
 }
 
-pub fn unprotect(layout: Layout, image: &mut [u8], name: &[u8]) -> NamedAnswer
-    ensures { λ r. ⌜ Meets (NamedSays (wrongPlace (now (name .entry)))) (unprotectOf layout (now (image .entry)) (now (name .entry))) r (now (image .entry)) (now (image .exit)) ⌝ }
+pub fn unprotect(layout: Layout, image: &mut [u8], directory: usize, name: &[u8]) -> NamedAnswer
+    ensures { λ r. ⌜ Meets (NamedSays (wrongPlace (now (name .entry)))) (unprotectOf layout (now (image .entry)) directory (now (name .entry))) r (now (image .entry)) (now (image .exit)) ⌝ }
 {
-    set_bit(layout, image, name, 3, 0)
+    set_bit(layout, image, directory, name, 3, 0)
 }
 
 // By the rule with marks, whichever the layout has.
-pub fn clear_mark(layout: Layout, image: &mut [u8], name: &[u8]) -> NamedAnswer
-    ensures { λ r. ⌜ Meets (NamedSays (wrongPlace (now (name .entry)))) (clearOf layout (now (image .entry)) (now (name .entry))) r (now (image .entry)) (now (image .exit)) ⌝ }
+pub fn clear_mark(layout: Layout, image: &mut [u8], directory: usize, name: &[u8]) -> NamedAnswer
+    ensures { λ r. ⌜ Meets (NamedSays (wrongPlace (now (name .entry)))) (clearOf layout (now (image .entry)) directory (now (name .entry))) r (now (image .entry)) (now (image .exit)) ⌝ }
 {
-    let with_marks = Layout { marks: true };
-    set_bit(with_marks, image, name, 4, 0)
+    let with_marks = Layout {
+        marks: true,
+        directories: layout.directories,
+    };
+    set_bit(with_marks, image, directory, name, 4, 0)
 }

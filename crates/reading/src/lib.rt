@@ -14,15 +14,22 @@ use sector::bytes::part;
 use sector::bytes::sector_of;
 use sector::bytes::word;
 
-pub fn read(layout: Layout, image: &[u8], name: &[u8], offset: usize, out: &mut [u8]) -> NamedAnswer
-    ensures { λ r. ⌜ Gives (ReadSays (wrongPlace (now (name .entry)))) (readOf layout (now (image .entry)) (now (name .entry)) offset (length (now (out .entry)))) r (now (out .entry)) (now (out .exit)) ⌝ }
+pub fn read(
+    layout: Layout,
+    image: &[u8],
+    directory: usize,
+    name: &[u8],
+    offset: usize,
+    out: &mut [u8],
+) -> NamedAnswer
+    ensures { λ r. ⌜ Gives (ReadSays (wrongPlace (now (name .entry)))) (readOf layout (now (image .entry)) directory (now (name .entry)) offset (length (now (out .entry)))) r (now (out .entry)) (now (out .exit)) ⌝ }
 {
-    let opened = find(layout, image, name);
+    let opened = find(layout, image, directory, name);
     match opened {
         Opened::Refused(number) => NamedAnswer::Refused(number),
         Opened::Misnamed(place) => NamedAnswer::Misnamed(place),
-        Opened::Absent => NamedAnswer::Refused(8),
-        Opened::At(_, k) => {
+        Opened::Absent(_) => NamedAnswer::Refused(8),
+        Opened::At(_, _, k) => {
             let descriptor = sector_of(image, k);
             if offset >= word(descriptor, 14) {
                 return NamedAnswer::Refused(15);

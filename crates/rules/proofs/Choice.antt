@@ -1,7 +1,7 @@
 -- Where a descriptor and data go: the search for a free sector a sector at a time, the range of what it finds, and that what is chosen was free.
 use mathlib.Core.Path.{_≡_, refl, sym, ap, _∙_}
 use mathlib.Core.Bool.{Bool, cond}
-use mathlib.Core.List.{List, [], _∷_}
+use mathlib.Core.List.{List, [], _∷_, _++_}
 use Prim.Native.Nat.{ℕ, zero, suc, _+_, _≤_, _<_}
 use native.Mathlib.Omega.{arith}
 use native.Mathlib.Decide.{decLt, ℕ-discrete}
@@ -9,13 +9,14 @@ use lib.ListN.{length}
 use borrow.Author.Tests.{eq-eqb, ne-eqb, lt-ltb, le-ltb}
 use Rattle.rules.specs.Sectors.{sectorOf, sectorCount}
 use Rattle.rules.specs.Map.{mapBit, count, zeroBits, freeCount, marked, markedAll}
-use Rattle.rules.specs.Volume.{files, fileHolders, holders}
+use Rattle.rules.specs.Volume.{filesIn, fileHolders}
 use Rattle.rules.specs.Sound.{Sound}
 use Rattle.rules.specs.Choice.{lowestFree, descriptorChoice, dataChoice, dataChoices}
 use Rattle.rules.specs.declared.Layout.{Layout}
 use Rattle.rules.proofs.Map.{count-none, count-here, count-other, count-more}
 use Rattle.rules.proofs.Free.{zeros-past, zeros-split}
 use Rattle.rules.proofs.Marking.{marked-length, marked-here, marked-other, marked-free, all-free}
+use Rattle.rules.proofs.Indexes.{root-indexed, others, holders-seen}
 
 -- the search from sector k on: none left, a free sector, a taken one
 module _ (sector0 : List ℕ) where
@@ -153,12 +154,12 @@ pub record Fenced (n : ℕ) (sector0 : List ℕ) : Type 0 where
   pub filled : (k : ℕ) → n ≤ k → k < 1600 → mapBit sector0 k ≡ 1
 
 pub sound-fenced : (layout : Layout) (image : List ℕ) → Sound layout image → Fenced (sectorCount image) (sectorOf image 0)
-unfolding holders
 sound-fenced layout image is =
-    let hs = fileHolders image (files image) in
+    let hs = fileHolders image (filesIn image 1) ++ others layout image 1 in
+    let seen = holders-seen layout image 1 (root-indexed layout image) in
     record {
-      label = omega (arith, is .size, is .marked 0 (omega (arith, is .size)), is .single 0, count-here 0 (1 ∷ hs));
-      index = omega (arith, is .size, is .marked 1 (omega (arith, is .size)), is .single 1, count-more 1 0 (1 ∷ hs), count-here 1 hs);
+      label = omega (arith, is .size, is .marked 0 (omega (arith, is .size)), is .single 0, seen 0, count-here 0 (1 ∷ hs));
+      index = omega (arith, is .size, is .marked 1 (omega (arith, is .size)), is .single 1, seen 1, count-more 1 0 (1 ∷ hs), count-here 1 hs);
       filled = is .filled;
     }
 

@@ -16,14 +16,16 @@ use Rattle.rules.specs.declared.Block.{Block}
 use Rattle.rules.specs.Chain.{blockBytes, endsChain, blocks, run, placesFrom, extended, extendedAll, blocksBytes, chainWith, Linked, IsChain}
 use Rattle.rules.specs.Map.{count}
 use Rattle.rules.specs.Descriptor.{sectorsOf, chainOf, withChain}
-use Rattle.rules.specs.Volume.{files, placesIn, fileHolders, holders}
-use Rattle.rules.specs.Sound.{fileAt, Sound}
+use Rattle.rules.specs.Volume.{filesIn, placesIn, fileHolders, holders}
+use Rattle.rules.specs.Sound.{fileAt, IsIndexed, Sound}
 use Rattle.rules.proofs.Bytes.{part-length, part-short, part-at}
 use Rattle.rules.proofs.Map.{count-here, count-more}
 use Rattle.rules.proofs.Splice.{splice-length, splice-inside, splice-below, splice-above, splice-parts}
 use Rattle.rules.proofs.Chain.{block-bytes, run-step}
 use Rattle.rules.proofs.Volume.{places-count}
 use Rattle.rules.proofs.Free.{free-holders}
+use Rattle.rules.proofs.Indexed.{counts-length}
+use Rattle.rules.proofs.Indexes.{others, holders-seen}
 
 -- three bytes a block
 pub blocks-bytes-length : (bs : List Block) → length (blocksBytes bs) ≡ 3 * length bs
@@ -355,7 +357,16 @@ places-among image (k ∷ ks) zero h = omega (arith, length-append (placesIn ima
 places-among image (k ∷ ks) (suc p) h =
     omega (arith, places-among image ks p (omega arith), length-append (placesIn image k) (fileHolders image ks))
 
-pub sectors-few : (layout : Layout) (image : List ℕ) (p : ℕ) → Sound layout image → p < length (files image) → sectorsOf (sectorOf image (fileAt image p)) ≤ 1600
-unfolding holders
-sectors-few layout image p is h =
-    omega (arith, free-holders layout image is, is .size, places-among image (files image) p h, places-count layout (sectorCount image) image (fileAt image p) (is .descriptors p h))
+pub sectors-few : (layout : Layout) (image : List ℕ) (i p : ℕ) → Sound layout image → IsIndexed layout image i → p < length (filesIn image i) → sectorsOf (sectorOf image (fileAt image i p)) ≤ 1600
+sectors-few layout image i p is indexed h =
+    let own = fileHolders image (filesIn image i) in
+    let all = counts-length (holders layout image) (0 ∷ (i ∷ (own ++ others layout image i))) (holders-seen layout image i indexed) in
+    omega (
+      arith,
+      free-holders layout image is,
+      is .size,
+      all,
+      length-append own (others layout image i),
+      places-among image (filesIn image i) p h,
+      places-count layout (sectorCount image) image (fileAt image i p) (is .each i indexed .descriptors p h),
+    )

@@ -14,7 +14,7 @@ use Rattle.rules.specs.Volume.{holders}
 use Rattle.rules.specs.Sound.{Sound}
 use Rattle.rules.specs.declared.Layout.{Layout}
 use Rattle.rules.proofs.Map.{count-none, count-here, count-more}
-use Rattle.rules.proofs.Volume.{holders-inside}
+use Rattle.rules.proofs.Indexes.{holders-inside}
 
 -- how many holders stand in the sectors from k on, `many` of them
 unfoldable counted : List ℕ → ℕ → ℕ → ℕ
@@ -91,13 +91,13 @@ counted-all n (h ∷ hs) inside =
     let more = counted-all n hs (λ k some. inside k (omega (arith, count-more k h hs))) in
     omega (arith, counted-one h hs n 0, hits-one h n 0 (omega arith) (omega (arith, low)), more)
 
-pub free-holders : (layout : Layout) (image : List ℕ) → Sound layout image → freeCount (sectorOf image 0) + length (holders image) ≡ sectorCount image
+pub free-holders : (layout : Layout) (image : List ℕ) → Sound layout image → freeCount (sectorOf image 0) + length (holders layout image) ≡ sectorCount image
 unfolding freeCount
 free-holders layout image is =
     let n = sectorCount image in
-    let below = zeros-below (sectorOf image 0) (holders image) (is .single) n 0 (λ j low high. is .marked j (omega arith)) in
+    let below = zeros-below (sectorOf image 0) (holders layout image) (is .single) n 0 (λ j low high. is .marked j (omega arith)) in
     let past = zeros-past (sectorOf image 0) (1600 - n) (0 + n) (λ j low high. is .filled j (omega arith) (omega (arith, is .size))) in
-    let all = counted-all n (holders image) (λ k some. holders-inside layout n image k (omega (arith, is .size)) (is .index) (is .descriptors) some) in
+    let all = counted-all n (holders layout image) (holders-inside layout image is) in
     let e : n + (1600 - n) ≡ 1600 = omega (arith, is .size) in
     let split = rw e at (zeros-split (sectorOf image 0) n (1600 - n) 0) in
     omega (arith, below, past, all, split)

@@ -1,4 +1,4 @@
--- Sector 1: its numbers, a number at a time, and its rule as a test and as facts.
+-- An index: its numbers, a number at a time, and its rule as a test and as facts.
 use mathlib.Core.Path.{_≡_, refl}
 use mathlib.Core.Bool.{Bool, true, false, cond, _&&_}
 use mathlib.Core.List.{List, [], _∷_}
@@ -13,18 +13,18 @@ use Rattle.rules.proofs.Tests.{both}
 use Rattle.rules.proofs.Bytes.{drop-two, zeros-at, at-zeros}
 
 -- the numbers from byte i on: one and the rest, the end, and too few bytes for one
-module _ (sector1 : List ℕ) (i : ℕ) where
-  pub numbers-step : i + 2 ≤ length sector1 → (wordAt sector1 i ≡ 0 → ⊥) → numbers (drop i sector1) ≡ wordAt sector1 i ∷ numbers (drop (i + 2) sector1)
+module _ (index : List ℕ) (i : ℕ) where
+  pub numbers-step : i + 2 ≤ length index → (wordAt index i ≡ 0 → ⊥) → numbers (drop i index) ≡ wordAt index i ∷ numbers (drop (i + 2) index)
   unfolding numbers
-  numbers-step h e = rw (drop-two sector1 i h, ne-eqb (wordAt sector1 i) 0 e)
+  numbers-step h e = rw (drop-two index i h, ne-eqb (wordAt index i) 0 e)
 
-  pub numbers-end : i + 2 ≤ length sector1 → wordAt sector1 i ≡ 0 → numbers (drop i sector1) ≡ []
+  pub numbers-end : i + 2 ≤ length index → wordAt index i ≡ 0 → numbers (drop i index) ≡ []
   unfolding numbers
-  numbers-end h e = rw (drop-two sector1 i h, eq-eqb (wordAt sector1 i) 0 e)
+  numbers-end h e = rw (drop-two index i h, eq-eqb (wordAt index i) 0 e)
 
-  pub numbers-short : length sector1 < i + 2 → numbers (drop i sector1) ≡ []
+  pub numbers-short : length index < i + 2 → numbers (drop i index) ≡ []
   unfolding numbers
-  numbers-short h = short (drop i sector1) (rw length-drop (omega arith))
+  numbers-short h = short (drop i index) (rw length-drop (omega arith))
     where
       short : (rest : List ℕ) → length rest < 2 → numbers rest ≡ []
       short [] k = refl
@@ -51,35 +51,35 @@ is-range n (k ∷ ks) f =
     let first = f 0 (omega arith) in
     rw (le-leb 2 k (first .0), lt-ltb k n (first .1)) (is-range n ks (λ p h. f (suc p) (omega arith)))
 
-pub index-is : (n : ℕ) (sector1 : List ℕ) → indexRule n sector1 ≡ true → IsIndex n sector1
+pub index-is : (n : ℕ) (index : List ℕ) → indexRule n index ≡ true → IsIndex n index
 unfolding indexRule
-index-is n sector1 e =
-    let few = ltb (length (numbers sector1)) 128 in
-    let rest = allAre 0 (drop (2 * length (numbers sector1)) sector1) in
-    let ranged = both (rangeRule n (numbers sector1)) (few && rest) e in
+index-is n index e =
+    let few = ltb (length (numbers index)) 128 in
+    let rest = allAre 0 (drop (2 * length (numbers index)) index) in
+    let ranged = both (rangeRule n (numbers index)) (few && rest) e in
     let ended = both few rest (ranged .1) in
     record {
-      range = range-is n (numbers sector1) (ranged .0);
-      few = omega (arith, ltb-true (length (numbers sector1)) 128 (ended .0));
-      rest = zeros-at sector1 (2 * length (numbers sector1)) (ended .1);
+      range = range-is n (numbers index) (ranged .0);
+      few = omega (arith, ltb-true (length (numbers index)) 128 (ended .0));
+      rest = zeros-at index (2 * length (numbers index)) (ended .1);
     }
 
-pub is-index : (n : ℕ) (sector1 : List ℕ) → IsIndex n sector1 → indexRule n sector1 ≡ true
+pub is-index : (n : ℕ) (index : List ℕ) → IsIndex n index → indexRule n index ≡ true
 unfolding indexRule
-is-index n sector1 is =
-    rw (is-range n (numbers sector1) (is .range), lt-ltb (length (numbers sector1)) 128 (omega (arith, is .few)), at-zeros sector1 (2 * length (numbers sector1)) (is .rest))
+is-index n index is =
+    rw (is-range n (numbers index) (is .range), lt-ltb (length (numbers index)) 128 (omega (arith, is .few)), at-zeros index (2 * length (numbers index)) (is .rest))
 
 -- a number by its place: two bytes at twice the place, and not zero
-pub number-at : (sector1 : List ℕ) (p : ℕ) → p < length (numbers sector1) → (getD (numbers sector1) p 0 ≡ wordAt sector1 (2 * p)) × (wordAt sector1 (2 * p) ≡ 0 → ⊥)
+pub number-at : (index : List ℕ) (p : ℕ) → p < length (numbers index) → (getD (numbers index) p 0 ≡ wordAt index (2 * p)) × (wordAt index (2 * p) ≡ 0 → ⊥)
 unfolding numbers
 number-at [] p h = absurd (omega arith)
 number-at (high ∷ []) p h = absurd (omega arith)
-number-at (high ∷ (low ∷ sector1)) p h = go (eqb (256 * high + low) 0) refl p h (number-at sector1)
+number-at (high ∷ (low ∷ index)) p h = go (eqb (256 * high + low) 0) refl p h (number-at index)
   where
-    go : (t : Bool) → eqb (256 * high + low) 0 ≡ t → (p : ℕ) → p < length (cond t [] ((256 * high + low) ∷ numbers sector1))
-        → ((p : ℕ) → p < length (numbers sector1) → (getD (numbers sector1) p 0 ≡ wordAt sector1 (2 * p)) × (wordAt sector1 (2 * p) ≡ 0 → ⊥))
-        → (getD (cond (eqb (256 * high + low) 0) [] ((256 * high + low) ∷ numbers sector1)) p 0 ≡ wordAt (high ∷ (low ∷ sector1)) (2 * p))
-        × (wordAt (high ∷ (low ∷ sector1)) (2 * p) ≡ 0 → ⊥)
+    go : (t : Bool) → eqb (256 * high + low) 0 ≡ t → (p : ℕ) → p < length (cond t [] ((256 * high + low) ∷ numbers index))
+        → ((p : ℕ) → p < length (numbers index) → (getD (numbers index) p 0 ≡ wordAt index (2 * p)) × (wordAt index (2 * p) ≡ 0 → ⊥))
+        → (getD (cond (eqb (256 * high + low) 0) [] ((256 * high + low) ∷ numbers index)) p 0 ≡ wordAt (high ∷ (low ∷ index)) (2 * p))
+        × (wordAt (high ∷ (low ∷ index)) (2 * p) ≡ 0 → ⊥)
     go true e p h more = absurd (omega arith)
     go false e zero h more = rw e (refl, eqb-false (256 * high + low) 0 e)
     go false e (suc p) h more =
@@ -88,5 +88,5 @@ number-at (high ∷ (low ∷ sector1)) p h = go (eqb (256 * high + low) 0) refl 
         rw (e, z, y) (more p (omega arith))
 
 -- past the last number the two bytes are zero
-pub number-past : (n : ℕ) (sector1 : List ℕ) → IsIndex n sector1 → (p : ℕ) → length (numbers sector1) ≤ p → wordAt sector1 (2 * p) ≡ 0
-number-past n sector1 is p h = omega (arith, is .rest (2 * p) (omega arith), is .rest (2 * p + 1) (omega arith))
+pub number-past : (n : ℕ) (index : List ℕ) → IsIndex n index → (p : ℕ) → length (numbers index) ≤ p → wordAt index (2 * p) ≡ 0
+number-past n index is p h = omega (arith, is .rest (2 * p) (omega arith), is .rest (2 * p + 1) (omega arith))

@@ -1,4 +1,4 @@
--- Sector 1 made anew: its numbers laid one behind the other; a number taken out and one put in its place by name, which count as they should and
+-- An index made anew: its numbers laid one behind the other; a number taken out and one put in its place by name, which count as they should and
 -- keep the name order; and that what is laid is an index with those numbers.
 use mathlib.Core.Path.{_≡_, refl, sym, ap, _∙_}
 use mathlib.Core.Logic.{_⊎_, inl, inr}
@@ -14,8 +14,8 @@ use Rattle.rules.specs.Bytes.{byteAt, wordBytes, over, splice}
 use Rattle.rules.specs.Name.{precedes, Before}
 use Rattle.rules.specs.Map.{count}
 use Rattle.rules.specs.Index.{numbers, numbersBytes, indexOf, without, IsIndex}
-use Rattle.rules.specs.Volume.{files, nameIn, placed}
-use Rattle.rules.specs.Sound.{Sound}
+use Rattle.rules.specs.Volume.{filesIn, nameIn, placed}
+use Rattle.rules.specs.Sound.{SoundIndex}
 use Rattle.rules.specs.declared.Layout.{Layout}
 use Rattle.rules.proofs.Tests.{absurd-test}
 use Rattle.rules.proofs.Splice.{splice-length, splice-none, splice-above, splice-append}
@@ -230,7 +230,7 @@ module _ (image : List ℕ) (k : ℕ) where
       behind : 1 ≤ count k js → precedes (nameIn image k) (nameIn image j) ≡ false
       behind more = not-precedes (nameIn image j) (nameIn image k) (counted-all (λ (i : ℕ). Before (nameIn image j) (nameIn image i)) js (λ p h. up 0 (suc p) (omega arith) (omega arith)) k more)
 
--- sector 1 with those numbers: its length, its numbers and its rule
+-- an index with those numbers: its length, its numbers and its rule
 pub numbers-bytes-length : (ks : List ℕ) → length (numbersBytes ks) ≡ 2 * length ks
 unfolding numbersBytes
 numbers-bytes-length [] = refl
@@ -269,7 +269,7 @@ index-is-index n ks range few =
     let e = numbers-index ks (λ p h. omega (arith, range p h .0)) (omega arith) in
     record { range = rw e range; few = rw e few; rest = rw e (index-past ks) }
 
--- sector 1 without a number, read back
+-- an index without a number, read back
 without-short : (k : ℕ) (ks : List ℕ) → length (without k ks) ≤ length ks
 without-short k ks =
     elim (decLt 0 (count k ks)) [
@@ -277,9 +277,9 @@ without-short k ks =
       | no there ↦ rw (without-absent k ks (omega arith)) (omega arith)
     ]
 
-pub left-numbers : (layout : Layout) (image : List ℕ) (k : ℕ) → Sound layout image → numbers (indexOf (without k (files image))) ≡ without k (files image)
-unfolding files
-left-numbers layout image k whole =
-    numbers-index (without k (files image))
-    (without-all (λ (j : ℕ). 1 ≤ j) k (files image) (λ p h. omega (arith, whole .index .range p h .0)))
-    (omega (arith, without-short k (files image), whole .index .few))
+pub left-numbers : (layout : Layout) (image : List ℕ) (i k : ℕ) → SoundIndex layout image i → numbers (indexOf (without k (filesIn image i))) ≡ without k (filesIn image i)
+unfolding filesIn
+left-numbers layout image i k is =
+    numbers-index (without k (filesIn image i))
+    (without-all (λ (j : ℕ). 1 ≤ j) k (filesIn image i) (λ p h. omega (arith, is .index .range p h .0)))
+    (omega (arith, without-short k (filesIn image i), is .index .few))

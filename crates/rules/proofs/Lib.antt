@@ -15,8 +15,10 @@ pub mod Length
 pub mod Descriptor
 pub mod Fields
 pub mod Index
+pub mod Directory
 pub mod Volume
 pub mod Indexed
+pub mod Indexes
 pub mod Written
 pub mod Staying
 pub mod Listed

@@ -7,14 +7,15 @@ use native.Mathlib.Omega.{arith}
 use native.Mathlib.Decide.{decLt}
 use lib.Dec.{eqb, ltb}
 use lib.ListN.{length, getD, length-append}
-use borrow.Author.Tests.{lt-ltb, le-ltb}
+use borrow.Author.Tests.{eq-eqb, ne-eqb, lt-ltb, le-ltb}
 use Rattle.rules.specs.Bytes.{byteAt, part}
 use Rattle.rules.specs.Sectors.{sectorOf, sectorCount}
 use Rattle.rules.specs.Kind.{isProgram, isInternal, isVariable, programLength, kindOf}
 use Rattle.rules.specs.Map.{mapBit, zeroBits, freeCount}
 use Rattle.rules.specs.Descriptor.{nameOf, statusOf, sectorsOf, fileKind}
-use Rattle.rules.specs.Volume.{files}
+use Rattle.rules.specs.Volume.{indexAt, filesIn}
 use Rattle.rules.specs.Verdict.{verdict}
+use Rattle.rules.specs.Sound.{IsIndexed}
 use Rattle.rules.specs.Tests.{Test, refuse, firstOf}
 use Rattle.rules.specs.Outcome.{gives, refuses}
 use Rattle.rules.specs.Calls.Listing.{digits, decimal, unpadded, kindWord, kindLength, diskLine, markField, fileLine, fileLines, listingText, listingTests, listingOf}
@@ -122,7 +123,7 @@ kind-length-below status c endOffset recordLength hc he hr = test (isProgram sta
 -- by the rule with marks a last field of two bytes
 mark-field-long : (layout : Layout) (status : ℕ) → length (markField layout status) ≡ cond (layout .marks) 2 0
 unfolding markField
-mark-field-long layout status = by-rule (λ layout. length (markField layout status) ≡ cond (layout .marks) 2 0) refl refl layout
+mark-field-long layout status = by-rule (λ layout. length (markField layout status) ≡ cond (layout .marks) 2 0) (λ edition. refl) (λ edition. refl) layout
 
 -- a file's line: 10 + 1 + 7 + 1 + 6 + 1 + 4 + 1 + 1 + 1, and that field
 file-line-short : (layout : Layout) (d : List ℕ) → ((i : ℕ) → byteAt d i < 256) → sectorsOf d ≤ 1600 → length (fileLine layout d) ≤ cond (layout .marks) 35 33
@@ -166,38 +167,48 @@ disk-line-short image size =
     let free = decimal-short 3 (freeCount (sectorOf image 0)) (omega (arith, free-few (sectorOf image 0))) in
     simp length-append (omega arith)
 
--- and a volume has at most 127 files, each of at most 1,600 sectors
-pub listing-short : (layout : Layout) (image : List ℕ) → ((i : ℕ) → byteAt image i < 256) → verdict layout image ≡ 0 → length (listingText layout image) ≤ cond (layout .marks) 4466 4212
-unfolding listingText files
-listing-short layout image small e =
+-- and an index has at most 127 files, each of at most 1,600 sectors
+pub listing-short : (layout : Layout) (image : List ℕ) (i : ℕ) → ((b : ℕ) → byteAt image b < 256) → verdict layout image ≡ 0 → IsIndexed layout image i → length (listingText layout image i) ≤ cond (layout .marks) 4466 4212
+unfolding listingText filesIn
+listing-short layout image i small e indexed =
     let is = sound layout image e in
-    let lines = file-lines-short layout image (files image) small (λ p h. sectors-few layout image p is h) in
-    rw length-append (go (layout .marks) (disk-line-short image (is .size .1)) lines (is .index .few))
+    let lines = file-lines-short layout image (filesIn image i) small (λ p h. sectors-few layout image i p is indexed h) in
+    rw length-append (go (layout .marks) (disk-line-short image (is .size .1)) lines (is .each i indexed .index .few))
   where
     go : (t : Bool) {a b many : ℕ} → a ≤ 21 → b ≤ cond t (35 * many) (33 * many) → many ≤ 127 → a + b ≤ cond t 4466 4212
     go true h h′ few = omega arith
     go false h h′ few = omega arith
 
-pub listing-room : (layout : Layout) (image : List ℕ) → ((i : ℕ) → byteAt image i < 256) → verdict layout image ≡ 0 → length (listingText layout image) ≤ 4466
-listing-room layout image small e = go (layout .marks) (listing-short layout image small e)
+pub listing-room : (layout : Layout) (image : List ℕ) (i : ℕ) → ((b : ℕ) → byteAt image b < 256) → verdict layout image ≡ 0 → IsIndexed layout image i → length (listingText layout image i) ≤ 4466
+listing-room layout image i small e indexed = go (layout .marks) (listing-short layout image i small e indexed)
   where
     go : (t : Bool) {a : ℕ} → a ≤ cond t 4466 4212 → a ≤ 4466
     go true h = h
     go false h = omega arith
 
--- the listing, for a buffer of `room` bytes: of an unsound image, where the text is too long, and where it fits
-module _ (layout : Layout) (image : List ℕ) (room : ℕ) where
-  abbrev narrow : List Test
-  narrow = refuse 15 (ltb room (length (listingText layout image))) ∷ []
+-- the listing of a directory, for a buffer of `room` bytes: of an unsound image, where there is no such directory, where the text is too long, and where it fits
+module _ (layout : Layout) (image : List ℕ) (directory room : ℕ) where
+  abbrev text : List ℕ
+  text = listingText layout image (indexAt layout image directory)
 
-  pub listing-unsound : (verdict layout image ≡ 0 → ⊥) → listingOf layout image room ≡ refuses (verdict layout image)
+  abbrev further : List Test
+  further = refuse 8 (eqb (indexAt layout image directory) 0) ∷ (refuse 15 (ltb room (length text)) ∷ [])
+
+  pub listing-unsound : (verdict layout image ≡ 0 → ⊥) → listingOf layout image directory room ≡ refuses (verdict layout image)
   unfolding listingOf listingTests
-  listing-unsound some = reported-refused (listingTests layout image room) _ _ (verdict layout image) some (unsound-first layout image narrow some)
+  listing-unsound some = reported-refused (listingTests layout image directory room) _ _ (verdict layout image) some (unsound-first layout image further some)
 
-  pub listing-narrow : verdict layout image ≡ 0 → room < length (listingText layout image) → listingOf layout image room ≡ refuses 15
+  pub listing-nowhere : verdict layout image ≡ 0 → indexAt layout image directory ≡ 0 → listingOf layout image directory room ≡ refuses 8
   unfolding listingOf listingTests firstOf
-  listing-narrow e h = reported-refused (listingTests layout image room) _ _ 15 (λ z. omega arith) (sound-first layout image narrow e ∙ rw (lt-ltb room (length (listingText layout image)) h))
+  listing-nowhere e none = reported-refused (listingTests layout image directory room) _ _ 8 (λ z. omega arith) (sound-first layout image further e ∙ rw (eq-eqb (indexAt layout image directory) 0 none))
 
-  pub listing-fits : verdict layout image ≡ 0 → length (listingText layout image) ≤ room → listingOf layout image room ≡ gives (length (listingText layout image)) (listingText layout image)
+  pub listing-narrow : verdict layout image ≡ 0 → (indexAt layout image directory ≡ 0 → ⊥) → room < length text → listingOf layout image directory room ≡ refuses 15
   unfolding listingOf listingTests firstOf
-  listing-fits e h = reported-given (listingTests layout image room) _ _ (sound-first layout image narrow e ∙ rw (le-ltb room (length (listingText layout image)) h))
+  listing-narrow e some h =
+      reported-refused (listingTests layout image directory room) _ _ 15 (λ z. omega arith)
+      (sound-first layout image further e ∙ rw (ne-eqb (indexAt layout image directory) 0 some, lt-ltb room (length text) h))
+
+  pub listing-fits : verdict layout image ≡ 0 → (indexAt layout image directory ≡ 0 → ⊥) → length text ≤ room → listingOf layout image directory room ≡ gives (length text) text
+  unfolding listingOf listingTests firstOf
+  listing-fits e some h =
+      reported-given (listingTests layout image directory room) _ _ (sound-first layout image further e ∙ rw (ne-eqb (indexAt layout image directory) 0 some, le-ltb room (length text) h))

@@ -30,8 +30,8 @@ pub record HoldsFour (bits : ℕ) : Type 0 where
 pub allowed-four : (layout : Layout) → HoldsFour (allowedBits layout)
 unfolding allowedBits
 allowed-four =
-    by-rule (λ layout. HoldsFour (allowedBits layout)) (record { program = refl; internal = refl; protected = refl; variable = refl })
-    (record { program = refl; internal = refl; protected = refl; variable = refl })
+    by-rule (λ layout. HoldsFour (allowedBits layout)) (λ edition. record { program = refl; internal = refl; protected = refl; variable = refl })
+    (λ edition. record { program = refl; internal = refl; protected = refl; variable = refl })
 
 -- a status with its bit 3 or 4 made `bit`: it keeps its rule where the set has that bit or the bit is made zero
 pub bit-status : (bits status j bit : ℕ) → bit ≤ 1 → 3 ≤ j → j ≤ 4 → (bitOf bits j ≡ 0 → bit ≡ 0) → IsStatus bits status → IsStatus bits (withBit status j bit)
@@ -63,13 +63,13 @@ bit-rules layout j bit small low high fits d long n is =
 module _ (layout : Layout) (status : ℕ) where
   pub marking-bit : (j : ℕ) → (j ≡ 4 → ⊥) → bitOf (marking layout status) j ≡ bitOf status j
   unfolding marking
-  marking-bit j other = by-rule (λ layout. bitOf (marking layout status) j ≡ bitOf status j) (with-bit-other status 4 1 (omega arith) j other) refl layout
+  marking-bit j other = by-rule (λ layout. bitOf (marking layout status) j ≡ bitOf status j) (λ edition. with-bit-other status 4 1 (omega arith) j other) (λ edition. refl) layout
 
   pub marking-status : IsStatus (allowedBits layout) status → IsStatus (allowedBits layout) (marking layout status)
   unfolding marking allowedBits
   marking-status =
       by-rule (λ layout. IsStatus (allowedBits layout) status → IsStatus (allowedBits layout) (marking layout status))
-      (λ is. bit-status _ status 4 1 (omega arith) (omega arith) (omega arith) (λ none. absurd (omega (arith, none))) is) (λ is. is) layout
+      (λ edition is. bit-status _ status 4 1 (omega arith) (omega arith) (omega arith) (λ none. absurd (omega (arith, none))) is) (λ edition is. is) layout
 
   -- so it is a file of the same kind
   pub marking-kind : (c endOffset recordLength : ℕ) → kindOf (marking layout status) c endOffset recordLength ≡ kindOf status c endOffset recordLength
@@ -126,7 +126,7 @@ overwrite-written layout image bytes offset k =
     (λ layout.
     written image (overwriteWrites layout image offset bytes k)
     ≡ splice (splice image (256 * k) (markedBy layout (sectorOf image k))) (256 * getD (placesIn image k) offset 0) bytes)
-    refl (rw (mark-none (record { marks = false }) (sectorOf image k) refl, sector-back image k)) layout
+    (λ edition. refl) (λ edition. rw (mark-none (record { marks = false; directories = edition }) (sectorOf image k) refl, sector-back image k)) layout
 
 -- The statuses of new files, by any set that has the four.
 module _ (bits : ℕ) (four : HoldsFour bits) where

@@ -1,4 +1,4 @@
--- Openings: a file that a call names, a number of sector 1 at a time; what is known of one that was found and of a name that was not; and what a call on it does.
+-- Openings: a file that a call names, a number of an index at a time; what is known of one that was found and of a name that was not; and what a call on it does.
 use mathlib.Core.Path.{_≡_, refl, sym, ap, _∙_}
 use mathlib.Core.Bool.{Bool, true, false, cond}
 use mathlib.Core.List.{List, [], _∷_}
@@ -6,17 +6,18 @@ use Prim.Native.Nat.{ℕ, suc, _+_, _-_, _*_, _≤_, _<_}
 use native.Mathlib.Omega.{arith}
 use native.Mathlib.Decide.{decLt, ℕ-discrete}
 use lib.ListN.{length, getD}
+use borrow.Author.Tests.{eq-eqb, ne-eqb}
 use Rattle.rules.specs.Bytes.{wordAt, same}
 use Rattle.rules.specs.Sectors.{sectorOf, sectorCount}
 use Rattle.rules.specs.Name.{nameRule, wrongPlace}
 use Rattle.rules.specs.Map.{count}
 use Rattle.rules.specs.Descriptor.{sectorsOf, IsDescriptor}
 use Rattle.rules.specs.Index.{numbers}
-use Rattle.rules.specs.Volume.{files, nameIn, placesIn}
+use Rattle.rules.specs.Volume.{indexAt, filesIn, nameIn, placesIn}
 use Rattle.rules.specs.Verdict.{volumeTests, verdict}
-use Rattle.rules.specs.Sound.{Sound, fileAt, IsFile}
+use Rattle.rules.specs.Sound.{fileAt, IsIndexed, SoundIndex, Sound, IsFile}
 use Rattle.rules.specs.Outcome.{Report, refuses, Outcome, refusal, Bare, NamedSays, NamedAmountSays, ReadSays, Meets, Gives}
-use Rattle.rules.specs.Opening.{findIn, onSound, underName, openOf, onFile, changing, adding}
+use Rattle.rules.specs.Opening.{findFrom, findIn, inDirectory, onSound, underName, openOf, onFile, changing, adding}
 use Rattle.rules.specs.declared.Layout.{Layout}
 use Rattle.rules.specs.declared.WrongPlace.{WrongPlace}
 use Rattle.rules.specs.declared.WrongPlace.the-variants as wrong
@@ -31,71 +32,94 @@ use Rattle.rules.proofs.Map.{count-none, count-other}
 use Rattle.rules.proofs.Sectors.{sector-length}
 use Rattle.rules.proofs.Index.{number-at, number-past}
 use Rattle.rules.proofs.Volume.{place-inside}
+use Rattle.rules.proofs.Indexes.{directory-indexed}
 use Rattle.rules.proofs.Verdict.{sound, verdict-small}
 use Rattle.rules.proofs.Misnamed.{rule-none, none-rule}
 use Rattle.rules.proofs.Outcome.{wrong-there, wrong-nowhere, bare, meets-refusal, gives-refusal}
 
 -- the search, a number at a time
-module _ (image name : List ℕ) (p : ℕ) (ks : List ℕ) where
-  pub find-step : (k : ℕ) (more there : List ℕ) → ks ≡ k ∷ more → there ≡ nameIn image k → findIn image name p ks ≡ cond (same name there) (At p k) (findIn image name (p + 1) more)
-  unfolding findIn
+module _ (image : List ℕ) (i : ℕ) (name : List ℕ) (p : ℕ) (ks : List ℕ) where
+  pub find-step : (k : ℕ) (more there : List ℕ) → ks ≡ k ∷ more → there ≡ nameIn image k → findFrom image i name p ks ≡ cond (same name there) (At i p k) (findFrom image i name (p + 1) more)
+  unfolding findFrom
   find-step k more there here e = rw (here, e)
 
-  pub find-past : ks ≡ [] → findIn image name p ks ≡ Absent
-  unfolding findIn
+  pub find-past : ks ≡ [] → findFrom image i name p ks ≡ Absent i
+  unfolding findFrom
   find-past none = rw none
 
+pub find-first : (image : List ℕ) (i : ℕ) (name : List ℕ) → findIn image i name ≡ findFrom image i name 0 (filesIn image i)
+unfolding findIn
+find-first image i name = refl
+
 -- what is found is there, under that name
-record Found (image name ks : List ℕ) (p q k : ℕ) : Type 0 where
+record Found (image : List ℕ) (i : ℕ) (name ks : List ℕ) (p h q k : ℕ) : Type 0 where
+  same-index : i ≡ h
   after : p ≤ q
   inside : q - p < length ks
   is : getD ks (q - p) 0 ≡ k
   named : name ≡ nameIn image k
 
-found : (image name : List ℕ) (p : ℕ) (ks : List ℕ) (q k : ℕ) → findIn image name p ks ≡ At q k → Found image name ks p q k
-unfolding findIn
-found image name p [] q k e = absurd (let z : _≡_ {A = ℕ} 0 1 = cc in omega arith)
-found image name p (j ∷ ks) q k e = go (same name (nameIn image j)) refl e (found image name (p + 1) ks q k)
+found : (image : List ℕ) (i : ℕ) (name : List ℕ) (p : ℕ) (ks : List ℕ) (h q k : ℕ) → findFrom image i name p ks ≡ At h q k → Found image i name ks p h q k
+unfolding findFrom
+found image i name p [] h q k e = absurd (let z : _≡_ {A = ℕ} 0 1 = cc in omega arith)
+found image i name p (j ∷ ks) h q k e = go (same name (nameIn image j)) refl e (found image i name (p + 1) ks h q k)
   where
-    go : (t : Bool) → same name (nameIn image j) ≡ t → cond t (At p j) (findIn image name (p + 1) ks) ≡ At q k
-        → (findIn image name (p + 1) ks ≡ At q k → Found image name ks (p + 1) q k) → Found image name (j ∷ ks) p q k
+    go : (t : Bool) → same name (nameIn image j) ≡ t → cond t (At i p j) (findFrom image i name (p + 1) ks) ≡ At h q k
+        → (findFrom image i name (p + 1) ks ≡ At h q k → Found image i name ks (p + 1) h q k) → Found image i name (j ∷ ks) p h q k
     go true s e more =
+        let same-i : i ≡ h = cc in
         let same-p : p ≡ q = cc in
         let same-j : j ≡ k = cc in
         let z : q - p ≡ 0 = omega arith in
-        record { after = omega arith; inside = rw z (omega arith); is = rw z same-j; named = rw (← same-j) (same-is name (nameIn image j) s) }
+        record { same-index = same-i; after = omega arith; inside = rw z (omega arith); is = rw z same-j; named = rw (← same-j) (same-is name (nameIn image j) s) }
     go false s e more =
         let f = more e in
         let z : q - p ≡ suc (q - (p + 1)) = omega (arith, f .after) in
-        record { after = omega (arith, f .after); inside = rw z (omega (arith, f .inside)); is = rw z (f .is); named = f .named }
+        record { same-index = f .same-index; after = omega (arith, f .after); inside = rw z (omega (arith, f .inside)); is = rw z (f .is); named = f .named }
+
+-- the index in which a name is not found
+found-none : (image : List ℕ) (i : ℕ) (name : List ℕ) (p : ℕ) (ks : List ℕ) (h : ℕ) → findFrom image i name p ks ≡ Absent h → i ≡ h
+unfolding findFrom
+found-none image i name p [] h e = cc
+found-none image i name p (j ∷ ks) h e = go (same name (nameIn image j)) e (found-none image i name (p + 1) ks h)
+  where
+    go : (t : Bool) → cond t (At i p j) (findFrom image i name (p + 1) ks) ≡ Absent h → (findFrom image i name (p + 1) ks ≡ Absent h → i ≡ h) → i ≡ h
+    go true e more = absurd (let z : _≡_ {A = ℕ} 0 1 = cc in omega arith)
+    go false e more = more e
+
+pub absent-index : (image : List ℕ) (i : ℕ) (name : List ℕ) (h : ℕ) → findIn image i name ≡ Absent h → i ≡ h
+unfolding findIn
+absent-index image i name h = found-none image i name 0 (filesIn image i) h
 
 -- what a call on a named file knows of it
-pub record IsOpened (layout : Layout) (image name : List ℕ) (p k : ℕ) : Type 0 where
+pub record IsOpened (layout : Layout) (image name : List ℕ) (i p k : ℕ) : Type 0 where
   pub whole : Sound layout image
+  pub indexed : IsIndexed layout image i
   pub rule : nameRule name ≡ true
-  pub inside : p < length (files image)
-  pub is : fileAt image p ≡ k
+  pub inside : p < length (filesIn image i)
+  pub is : fileAt image i p ≡ k
   pub named : name ≡ nameIn image k
   pub low : k < sectorCount image
   pub long : length (sectorOf image k) ≡ 256
   pub descriptor : IsDescriptor layout (sectorCount image) (sectorOf image k)
 
-opened-facts : (layout : Layout) (image name : List ℕ) (p k : ℕ) → Sound layout image → nameRule name ≡ true → Found image name (files image) 0 p k → IsOpened layout image name p k
-unfolding files
-opened-facts layout image name p k s r f =
+opened-facts : (layout : Layout) (image name : List ℕ) (i h p k : ℕ) → Sound layout image → IsIndexed layout image i → nameRule name ≡ true → Found image i name (filesIn image i) 0 h p k → IsOpened layout image name i p k
+unfolding filesIn
+opened-facts layout image name i h p k s indexed r f =
     let z : p - 0 ≡ p = omega arith in
-    let inside : p < length (files image) = rw z at (f .inside) in
-    let is : fileAt image p ≡ k = rw z at (f .is) in
-    let range = rw is at (s .index .range p inside) in
+    let inside : p < length (filesIn image i) = rw z at (f .inside) in
+    let is : fileAt image i p ≡ k = rw z at (f .is) in
+    let range = rw is at (s .each i indexed .index .range p inside) in
     record {
       whole = s;
+      indexed = indexed;
       rule = r;
       inside = inside;
       is = is;
       named = f .named;
       low = range .1;
       long = sector-length image k (omega (arith, s .whole, range .1));
-      descriptor = rw is at (s .descriptors p inside);
+      descriptor = rw is at (s .each i indexed .descriptors p inside);
     }
 
 -- looked for on a sound volume
@@ -120,19 +144,27 @@ module _ (name : List ℕ) (looked : Opened) where
 
 -- whether it was looked for: a file is there, or none is
 unfoldable pub wasLooked : Opened → Bool
-wasLooked (At p k) = true
-wasLooked Absent = true
+wasLooked (At i p k) = true
+wasLooked (Absent i) = true
 wasLooked (Refused number) = false
 wasLooked (Misnamed place) = false
 
-pub find-looks : (image name : List ℕ) (p : ℕ) (ks : List ℕ) → wasLooked (findIn image name p ks) ≡ true
-unfolding findIn wasLooked
-find-looks image name p [] = refl
-find-looks image name p (k ∷ ks) = go (same name (nameIn image k)) (find-looks image name (p + 1) ks)
+from-looks : (image : List ℕ) (i : ℕ) (name : List ℕ) (p : ℕ) (ks : List ℕ) → wasLooked (findFrom image i name p ks) ≡ true
+unfolding findFrom wasLooked
+from-looks image i name p [] = refl
+from-looks image i name p (k ∷ ks) = go (same name (nameIn image k)) (from-looks image i name (p + 1) ks)
   where
-    go : (t : Bool) → wasLooked (findIn image name (p + 1) ks) ≡ true → wasLooked (cond t (At p k) (findIn image name (p + 1) ks)) ≡ true
+    go : (t : Bool) → wasLooked (findFrom image i name (p + 1) ks) ≡ true → wasLooked (cond t (At i p k) (findFrom image i name (p + 1) ks)) ≡ true
     go true more = refl
     go false more = more
+
+pub find-looks : (image : List ℕ) (i : ℕ) (name : List ℕ) → wasLooked (findIn image i name) ≡ true
+unfolding findIn
+find-looks image i name = from-looks image i name 0 (filesIn image i)
+
+pub find-refused : (image : List ℕ) (i : ℕ) (name : List ℕ) (number : ℕ) → findIn image i name ≡ Refused number → ⊥
+unfolding wasLooked
+find-refused image i name number e = absurd-test (sym (find-looks image i name) ∙ ap wasLooked e)
 
 -- by what was opened: what was looked for, or the number of an unsound volume
 pub data OnSound (layout : Layout) (image : List ℕ) (looked opened : Opened) : Type 0 where
@@ -175,80 +207,144 @@ name-passed name looked opened was e = go (name-looked name looked opened e)
     go (ruled none same) = (none, same)
     go (unruled place there is) = absurd-test (sym was ∙ ap wasLooked is)
 
--- and a number is that of an unsound volume
-pub find-refused : (image name : List ℕ) (number : ℕ) → findIn image name 0 (files image) ≡ Refused number → ⊥
+-- in the index of a directory
+module _ (layout : Layout) (image : List ℕ) (directory : ℕ) (name : List ℕ) where
+  pub in-none : indexAt layout image directory ≡ 0 → inDirectory layout image directory name ≡ Refused 8
+  unfolding inDirectory
+  in-none none = rw (eq-eqb (indexAt layout image directory) 0 none)
+
+  pub in-there : (indexAt layout image directory ≡ 0 → ⊥) → inDirectory layout image directory name ≡ findIn image (indexAt layout image directory) name
+  unfolding inDirectory
+  in-there some = rw (ne-eqb (indexAt layout image directory) 0 some)
+
+-- what was found or not found in an index, or 8 where there is no such directory
+pub data InDirectory (layout : Layout) (image : List ℕ) (directory : ℕ) (name : List ℕ) (opened : Opened) : Type 0 where
+  in-index : (i : ℕ) → indexAt layout image directory ≡ i → IsIndexed layout image i → findIn image i name ≡ opened → InDirectory layout image directory name opened
+  nowhere : indexAt layout image directory ≡ 0 → opened ≡ Refused 8 → InDirectory layout image directory name opened
+
+pub directory-looked : (layout : Layout) (image : List ℕ) (directory : ℕ) (name : List ℕ) (opened : Opened) → inDirectory layout image directory name ≡ opened → InDirectory layout image directory name opened
+directory-looked layout image directory name opened e =
+    elim (ℕ-discrete (indexAt layout image directory) 0) [
+      | yes none ↦ nowhere none (sym e ∙ in-none layout image directory name none)
+      | no some ↦ in-index (indexAt layout image directory) refl (directory-indexed layout image directory some) (sym (in-there layout image directory name some) ∙ e)
+    ]
+
+-- a place where the name is wrong is none of these
+pub directory-misnamed : (layout : Layout) (image : List ℕ) (directory : ℕ) (name : List ℕ) (place : ℕ) → inDirectory layout image directory name ≡ Misnamed place → ⊥
 unfolding wasLooked
-find-refused image name number e = absurd-test (sym (find-looks image name 0 (files image)) ∙ ap wasLooked e)
-
-pub under-refused : (name : List ℕ) (looked : Opened) (number : ℕ) → (looked ≡ Refused number → ⊥) → underName name looked ≡ Refused number → ⊥
-under-refused name looked number none e = go (name-looked name looked (Refused number) e)
+directory-misnamed layout image directory name place e = go (directory-looked layout image directory name (Misnamed place) e)
   where
-    go : UnderName name looked (Refused number) → ⊥
-    go (ruled kept is) = none is
-    go (unruled place there is) = let z : _≡_ {A = ℕ} 0 1 = cc in omega arith
+    go : InDirectory layout image directory name (Misnamed place) → ⊥
+    go (in-index i is indexed looked) = absurd-test (sym (find-looks image i name) ∙ ap wasLooked looked)
+    go (nowhere none is) = let z : _≡_ {A = ℕ} 0 1 = cc in omega arith
 
-pub refused-bare : (layout : Layout) (image : List ℕ) (looked : Opened) → ((number : ℕ) → looked ≡ Refused number → ⊥) → (number : ℕ) → onSound layout image looked ≡ Refused number → Bare number number
-refused-bare layout image looked none number e = go (sound-looked layout image looked (Refused number) e)
+-- and a number is that of an unsound volume, or 8
+pub directory-refused : (layout : Layout) (image : List ℕ) (directory : ℕ) (name : List ℕ) (number : ℕ) → inDirectory layout image directory name ≡ Refused number → Bare number number
+unfolding wasLooked
+directory-refused layout image directory name number e = go (directory-looked layout image directory name (Refused number) e)
+  where
+    go : InDirectory layout image directory name (Refused number) → Bare number number
+    go (in-index i is indexed looked) = absurd-test (sym (find-looks image i name) ∙ ap wasLooked looked)
+    go (nowhere none is) = let eight : number ≡ 8 = cc in (refl, λ z. omega (arith, eight, z), λ z. omega (arith, eight, z))
+
+pub under-refused : (name : List ℕ) (looked : Opened) (number : ℕ) → (looked ≡ Refused number → Bare number number) → underName name looked ≡ Refused number → Bare number number
+under-refused name looked number carries e = go (name-looked name looked (Refused number) e)
+  where
+    go : UnderName name looked (Refused number) → Bare number number
+    go (ruled kept is) = carries is
+    go (unruled place there is) = absurd (let z : _≡_ {A = ℕ} 0 1 = cc in omega arith)
+
+pub refused-bare : (layout : Layout) (image : List ℕ) (looked : Opened) → ((number : ℕ) → looked ≡ Refused number → Bare number number) → (number : ℕ) → onSound layout image looked ≡ Refused number → Bare number number
+refused-bare layout image looked carries number e = go (sound-looked layout image looked (Refused number) e)
   where
     go : OnSound layout image looked (Refused number) → Bare number number
-    go (whole is same) = absurd (none number same)
+    go (whole is same) = carries number same
     go (broken some is) =
         let same : number ≡ verdict layout image = cc in
         (refl, λ z. some (sym same ∙ z), λ z. omega (arith, same, z, verdict-small layout image))
 
 -- what was found is a file of that name
-pub found-is : (layout : Layout) (image name : List ℕ) (p k : ℕ) → Sound layout image → wrongPlace name ≡ wrong.None → findIn image name 0 (files image) ≡ At p k → IsOpened layout image name p k
-found-is layout image name p k is none e = opened-facts layout image name p k is (none-rule name none) (found image name 0 (files image) p k e)
+pub found-is : (layout : Layout) (image name : List ℕ) (i h p k : ℕ) → Sound layout image → IsIndexed layout image i → wrongPlace name ≡ wrong.None → findIn image i name ≡ At h p k → (i ≡ h) × IsOpened layout image name i p k
+unfolding findIn
+found-is layout image name i h p k is indexed none e =
+    let f = found image i name 0 (filesIn image i) h p k e in
+    (f .same-index, opened-facts layout image name i h p k is indexed (none-rule name none) f)
 
--- a name that keeps the rule and is no file's, on a sound volume
-pub record IsAbsent (layout : Layout) (image name : List ℕ) : Type 0 where
+-- a name that keeps the rule and is no file's of an index, on a sound volume
+pub record IsAbsent (layout : Layout) (image name : List ℕ) (i : ℕ) : Type 0 where
   pub whole : Sound layout image
+  pub indexed : IsIndexed layout image i
   pub rule : nameRule name ≡ true
-  pub absent : findIn image name 0 (files image) ≡ Absent
+  pub absent : findIn image i name ≡ Absent i
+
+-- in a directory: it is there, and the file is or is not
+pub directory-found : (layout : Layout) (image : List ℕ) (directory : ℕ) (name : List ℕ) (i p k : ℕ) → Sound layout image → wrongPlace name ≡ wrong.None → inDirectory layout image directory name ≡ At i p k
+    → (indexAt layout image directory ≡ i) × IsOpened layout image name i p k
+directory-found layout image directory name i p k is none e = go (directory-looked layout image directory name (At i p k) e)
+  where
+    go : InDirectory layout image directory name (At i p k) → (indexAt layout image directory ≡ i) × IsOpened layout image name i p k
+    go (in-index h at indexed looked) = let f = found-is layout image name h i p k is indexed none looked in (at ∙ f .0, rw (f .0) at (f .1))
+    go (nowhere zero refused) = absurd (let z : _≡_ {A = ℕ} 0 1 = cc in omega arith)
+
+pub directory-absent : (layout : Layout) (image : List ℕ) (directory : ℕ) (name : List ℕ) (i : ℕ) → Sound layout image → wrongPlace name ≡ wrong.None → inDirectory layout image directory name ≡ Absent i
+    → (indexAt layout image directory ≡ i) × IsAbsent layout image name i
+directory-absent layout image directory name i is none e = go (directory-looked layout image directory name (Absent i) e)
+  where
+    go : InDirectory layout image directory name (Absent i) → (indexAt layout image directory ≡ i) × IsAbsent layout image name i
+    go (in-index h at indexed looked) =
+        let same = absent-index image h name i looked in
+        (at ∙ same, record { whole = is; indexed = rw same at indexed; rule = none-rule name none; absent = rw same at looked })
+    go (nowhere zero refused) = absurd (let z : _≡_ {A = ℕ} 0 1 = cc in omega arith)
 
 -- of a call that takes one name
-module _ (layout : Layout) (image name : List ℕ) where
+module _ (layout : Layout) (image : List ℕ) (directory : ℕ) (name : List ℕ) where
   abbrev found-there : Opened
-  found-there = findIn image name 0 (files image)
+  found-there = inDirectory layout image directory name
 
-  pub open-unsound : (verdict layout image ≡ 0 → ⊥) → openOf layout image name ≡ Refused (verdict layout image)
+  pub open-unsound : (verdict layout image ≡ 0 → ⊥) → openOf layout image directory name ≡ Refused (verdict layout image)
   unfolding openOf
   open-unsound some = on-unsound layout image _ some
 
-  pub open-wrong : (place : ℕ) → verdict layout image ≡ 0 → wrongPlace name ≡ wrong.At place → openOf layout image name ≡ Misnamed place
+  pub open-wrong : (place : ℕ) → verdict layout image ≡ 0 → wrongPlace name ≡ wrong.At place → openOf layout image directory name ≡ Misnamed place
   unfolding openOf
   open-wrong place e there = on-sound layout image _ e ∙ under-wrong name _ place there
 
-  pub open-looked : verdict layout image ≡ 0 → wrongPlace name ≡ wrong.None → openOf layout image name ≡ findIn image name 0 (files image)
+  pub open-looked : verdict layout image ≡ 0 → wrongPlace name ≡ wrong.None → openOf layout image directory name ≡ inDirectory layout image directory name
   unfolding openOf
   open-looked e none = on-sound layout image _ e ∙ under-kept name _ none
 
-  open-passed : (opened : Opened) → wasLooked opened ≡ true → openOf layout image name ≡ opened → Sound layout image × (wrongPlace name ≡ wrong.None) × (found-there ≡ opened)
+  open-passed : (opened : Opened) → wasLooked opened ≡ true → openOf layout image directory name ≡ opened → Sound layout image × (wrongPlace name ≡ wrong.None) × (found-there ≡ opened)
   unfolding openOf
   open-passed opened was e =
       let s = sound-passed layout image _ opened was e in
       let n = name-passed name _ opened was (s .1) in
       (s .0, n .0, n .1)
 
-  pub opened-is : (p k : ℕ) → openOf layout image name ≡ At p k → IsOpened layout image name p k
+  pub opened-at : (i p k : ℕ) → openOf layout image directory name ≡ At i p k → (indexAt layout image directory ≡ i) × IsOpened layout image name i p k
   unfolding wasLooked
-  opened-is p k e = let o = open-passed (At p k) refl e in found-is layout image name p k (o .0) (o .1) (o .2)
+  opened-at i p k e = let o = open-passed (At i p k) refl e in directory-found layout image directory name i p k (o .0) (o .1) (o .2)
 
-  pub absent-is : openOf layout image name ≡ Absent → IsAbsent layout image name
+  pub opened-is : (i p k : ℕ) → openOf layout image directory name ≡ At i p k → IsOpened layout image name i p k
+  opened-is i p k e = opened-at i p k e .1
+
+  pub absent-at : (i : ℕ) → openOf layout image directory name ≡ Absent i → (indexAt layout image directory ≡ i) × IsAbsent layout image name i
   unfolding wasLooked
-  absent-is e = let o = open-passed Absent refl e in record { whole = o .0; rule = none-rule name (o .1); absent = o .2 }
+  absent-at i e = let o = open-passed (Absent i) refl e in directory-absent layout image directory name i (o .0) (o .1) (o .2)
 
-  -- a refusal carries the volume's number, or the place where the name is wrong
-  pub open-refused : (number : ℕ) → openOf layout image name ≡ Refused number → Bare number number
+  pub absent-is : (i : ℕ) → openOf layout image directory name ≡ Absent i → IsAbsent layout image name i
+  absent-is i e = absent-at i e .1
+
+  -- a refusal carries the volume's number, or 8 where there is no such directory, or the place where the name is wrong
+  pub open-refused : (number : ℕ) → openOf layout image directory name ≡ Refused number → Bare number number
   unfolding openOf
-  open-refused = refused-bare layout image (underName name found-there) (λ number e. under-refused name found-there number (find-refused image name number) e)
+  open-refused = refused-bare layout image (underName name found-there) (λ number e. under-refused name found-there number (directory-refused layout image directory name number) e)
 
-  pub open-misnamed : (place : ℕ) → openOf layout image name ≡ Misnamed place → wrongPlace name ≡ wrong.At place
-  unfolding openOf wasLooked
+  pub open-misnamed : (place : ℕ) → openOf layout image directory name ≡ Misnamed place → wrongPlace name ≡ wrong.At place
+  unfolding openOf
   open-misnamed place e = go (sound-looked layout image _ (Misnamed place) e)
     where
       looks : UnderName name found-there (Misnamed place) → wrongPlace name ≡ wrong.At place
-      looks (ruled none is) = absurd-test (sym (find-looks image name 0 (files image)) ∙ ap wasLooked is)
+      looks (ruled none is) = absurd (directory-misnamed layout image directory name place is)
       looks (unruled found there is) = let same : found ≡ place = cc in there ∙ ap wrong.At same
 
       go : OnSound layout image (underName name found-there) (Misnamed place) → wrongPlace name ≡ wrong.At place
@@ -256,19 +352,23 @@ module _ (layout : Layout) (image name : List ℕ) where
       go (broken some is) = absurd (let z : _≡_ {A = ℕ} 0 1 = cc in omega arith)
 
 -- a name that the search does not find is no file's
-pub unfound : (image name : List ℕ) (p : ℕ) (ks : List ℕ) → findIn image name p ks ≡ Absent → (j : ℕ) → 1 ≤ count j ks → nameIn image j ≡ name → ⊥
-unfolding findIn
-unfound image name p [] e j some is = omega (arith, some, count-none j)
-unfound image name p (k ∷ ks) e j some is = go (same name (nameIn image k)) refl e (unfound image name (p + 1) ks)
+unfound-from : (image : List ℕ) (i : ℕ) (name : List ℕ) (p : ℕ) (ks : List ℕ) → findFrom image i name p ks ≡ Absent i → (j : ℕ) → 1 ≤ count j ks → nameIn image j ≡ name → ⊥
+unfolding findFrom
+unfound-from image i name p [] e j some is = omega (arith, some, count-none j)
+unfound-from image i name p (k ∷ ks) e j some is = go (same name (nameIn image k)) refl e (unfound-from image i name (p + 1) ks)
   where
-    go : (t : Bool) → same name (nameIn image k) ≡ t → cond t (At p k) (findIn image name (p + 1) ks) ≡ Absent
-        → (findIn image name (p + 1) ks ≡ Absent → (j : ℕ) → 1 ≤ count j ks → nameIn image j ≡ name → ⊥) → ⊥
+    go : (t : Bool) → same name (nameIn image k) ≡ t → cond t (At i p k) (findFrom image i name (p + 1) ks) ≡ Absent i
+        → (findFrom image i name (p + 1) ks ≡ Absent i → (j : ℕ) → 1 ≤ count j ks → nameIn image j ≡ name → ⊥) → ⊥
     go true s e more = let z : _≡_ {A = ℕ} 0 1 = cc in omega (arith, z)
     go false s e more =
         elim (ℕ-discrete k j) [
           | yes here ↦ absurd-test (sym (rw (here, is) (is-same name)) ∙ s)
           | no there ↦ more e j (omega (arith, some, count-other j k ks there)) is
         ]
+
+pub unfound : (image : List ℕ) (i : ℕ) (name : List ℕ) → findIn image i name ≡ Absent i → (j : ℕ) → 1 ≤ count j (filesIn image i) → nameIn image j ≡ name → ⊥
+unfolding findIn
+unfound image i name = unfound-from image i name 0 (filesIn image i)
 
 -- what a call makes of what was opened
 module _ (opened : Opened) where
@@ -280,162 +380,164 @@ module _ (opened : Opened) where
   unfolding onFile
   on-misnamed reading place e = rw e
 
-  on-absent : (reading : ℕ → Report) → opened ≡ Absent → onFile opened reading ≡ refuses 8
+  on-absent : (reading : ℕ → Report) (i : ℕ) → opened ≡ Absent i → onFile opened reading ≡ refuses 8
   unfolding onFile
-  on-absent reading e = rw e
+  on-absent reading i e = rw e
 
-  pub changing-refused : (change : ℕ → Outcome) (number : ℕ) → opened ≡ Refused number → changing opened change ≡ refusal number
+  pub changing-refused : (change : ℕ → ℕ → Outcome) (number : ℕ) → opened ≡ Refused number → changing opened change ≡ refusal number
   unfolding changing
   changing-refused change number e = rw e
 
-  pub changing-misnamed : (change : ℕ → Outcome) (place : ℕ) → opened ≡ Misnamed place → changing opened change ≡ refusal 7
+  pub changing-misnamed : (change : ℕ → ℕ → Outcome) (place : ℕ) → opened ≡ Misnamed place → changing opened change ≡ refusal 7
   unfolding changing
   changing-misnamed change place e = rw e
 
-  pub changing-absent : (change : ℕ → Outcome) → opened ≡ Absent → changing opened change ≡ refusal 8
+  pub changing-absent : (change : ℕ → ℕ → Outcome) (i : ℕ) → opened ≡ Absent i → changing opened change ≡ refusal 8
   unfolding changing
-  changing-absent change e = rw e
+  changing-absent change i e = rw e
 
-  pub changing-found : (change : ℕ → Outcome) (p k : ℕ) → opened ≡ At p k → changing opened change ≡ change k
+  pub changing-found : (change : ℕ → ℕ → Outcome) (i p k : ℕ) → opened ≡ At i p k → changing opened change ≡ change i k
   unfolding changing
-  changing-found change p k e = rw e
+  changing-found change i p k e = rw e
 
-  adding-refused : (addition : Outcome) (number : ℕ) → opened ≡ Refused number → adding opened addition ≡ refusal number
+  adding-refused : (addition : ℕ → Outcome) (number : ℕ) → opened ≡ Refused number → adding opened addition ≡ refusal number
   unfolding adding
   adding-refused addition number e = rw e
 
-  adding-misnamed : (addition : Outcome) (place : ℕ) → opened ≡ Misnamed place → adding opened addition ≡ refusal 7
+  adding-misnamed : (addition : ℕ → Outcome) (place : ℕ) → opened ≡ Misnamed place → adding opened addition ≡ refusal 7
   unfolding adding
   adding-misnamed addition place e = rw e
 
-  pub adding-present : (addition : Outcome) (p k : ℕ) → opened ≡ At p k → adding opened addition ≡ refusal 9
+  pub adding-present : (addition : ℕ → Outcome) (i p k : ℕ) → opened ≡ At i p k → adding opened addition ≡ refusal 9
   unfolding adding
-  adding-present addition p k e = rw e
+  adding-present addition i p k e = rw e
 
-  pub adding-absent : (addition : Outcome) → opened ≡ Absent → adding opened addition ≡ addition
+  pub adding-absent : (addition : ℕ → Outcome) (i : ℕ) → opened ≡ Absent i → adding opened addition ≡ addition i
   unfolding adding
-  adding-absent addition e = rw e
+  adding-absent addition i e = rw e
 
 -- what it promises: a reading call on the file of that name
-module _ (layout : Layout) (image name before : List ℕ) (reading : ℕ → Report) where
+module _ (layout : Layout) (image : List ℕ) (directory : ℕ) (name before : List ℕ) (reading : ℕ → Report) where
   abbrev report : Report
-  report = onFile (openOf layout image name) reading
+  report = onFile (openOf layout image directory name) reading
 
-  pub load-refused : (number : ℕ) → openOf layout image name ≡ Refused number → Gives (NamedAmountSays (wrongPlace name)) report (loaded.Refused number) before before
+  pub load-refused : (number : ℕ) → openOf layout image directory name ≡ Refused number → Gives (NamedAmountSays (wrongPlace name)) report (loaded.Refused number) before before
   unfolding NamedAmountSays
-  load-refused number e = gives-refusal (NamedAmountSays (wrongPlace name)) (loaded.Refused number) before report number (open-refused layout image name number e) (on-refused _ reading number e)
+  load-refused number e = gives-refusal (NamedAmountSays (wrongPlace name)) (loaded.Refused number) before report number (open-refused layout image directory name number e) (on-refused _ reading number e)
 
-  pub load-misnamed : (place : ℕ) → openOf layout image name ≡ Misnamed place → Gives (NamedAmountSays (wrongPlace name)) report (loaded.Misnamed place) before before
+  pub load-misnamed : (place : ℕ) → openOf layout image directory name ≡ Misnamed place → Gives (NamedAmountSays (wrongPlace name)) report (loaded.Misnamed place) before before
   unfolding NamedAmountSays
-  load-misnamed place e = gives-refusal (NamedAmountSays (wrongPlace name)) (loaded.Misnamed place) before report 7 (refl, open-misnamed layout image name place e) (on-misnamed _ reading place e)
+  load-misnamed place e = gives-refusal (NamedAmountSays (wrongPlace name)) (loaded.Misnamed place) before report 7 (refl, open-misnamed layout image directory name place e) (on-misnamed _ reading place e)
 
-  pub load-absent : openOf layout image name ≡ Absent → Gives (NamedAmountSays (wrongPlace name)) report (loaded.Refused 8) before before
+  pub load-absent : (i : ℕ) → openOf layout image directory name ≡ Absent i → Gives (NamedAmountSays (wrongPlace name)) report (loaded.Refused 8) before before
   unfolding NamedAmountSays
-  load-absent e = gives-refusal (NamedAmountSays (wrongPlace name)) (loaded.Refused 8) before report 8 (bare 8 refl) (on-absent _ reading e)
+  load-absent i e = gives-refusal (NamedAmountSays (wrongPlace name)) (loaded.Refused 8) before report 8 (bare 8 refl) (on-absent _ reading i e)
 
-  pub file-refused : (number : ℕ) → openOf layout image name ≡ Refused number → Gives (ReadSays (wrongPlace name)) report (named.Refused number) before before
+  pub file-refused : (number : ℕ) → openOf layout image directory name ≡ Refused number → Gives (ReadSays (wrongPlace name)) report (named.Refused number) before before
   unfolding NamedSays
-  file-refused number e = gives-refusal (ReadSays (wrongPlace name)) (named.Refused number) before report number (open-refused layout image name number e) (on-refused _ reading number e)
+  file-refused number e = gives-refusal (ReadSays (wrongPlace name)) (named.Refused number) before report number (open-refused layout image directory name number e) (on-refused _ reading number e)
 
-  pub file-misnamed : (place : ℕ) → openOf layout image name ≡ Misnamed place → Gives (ReadSays (wrongPlace name)) report (named.Misnamed place) before before
+  pub file-misnamed : (place : ℕ) → openOf layout image directory name ≡ Misnamed place → Gives (ReadSays (wrongPlace name)) report (named.Misnamed place) before before
   unfolding NamedSays
-  file-misnamed place e = gives-refusal (ReadSays (wrongPlace name)) (named.Misnamed place) before report 7 (refl, open-misnamed layout image name place e) (on-misnamed _ reading place e)
+  file-misnamed place e = gives-refusal (ReadSays (wrongPlace name)) (named.Misnamed place) before report 7 (refl, open-misnamed layout image directory name place e) (on-misnamed _ reading place e)
 
-  pub file-absent : openOf layout image name ≡ Absent → Gives (ReadSays (wrongPlace name)) report (named.Refused 8) before before
+  pub file-absent : (i : ℕ) → openOf layout image directory name ≡ Absent i → Gives (ReadSays (wrongPlace name)) report (named.Refused 8) before before
   unfolding NamedSays
-  file-absent e = gives-refusal (ReadSays (wrongPlace name)) (named.Refused 8) before report 8 (bare 8 refl) (on-absent _ reading e)
+  file-absent i e = gives-refusal (ReadSays (wrongPlace name)) (named.Refused 8) before report 8 (bare 8 refl) (on-absent _ reading i e)
 
-  pub on-found : {Given : Type 0} (Says : WrongPlace → Given → Report → Type 0) (p k : ℕ) → openOf layout image name ≡ At p k → (given : Given) (after : List ℕ)
+  pub on-found : {Given : Type 0} (Says : WrongPlace → Given → Report → Type 0) (i p k : ℕ) → openOf layout image directory name ≡ At i p k → (given : Given) (after : List ℕ)
       → Gives (Says wrong.None) (reading k) given before after → Gives (Says (wrongPlace name)) report given before after
   unfolding onFile
-  on-found Says p k e given after gives = rw (rule-none name (opened-is layout image name p k e .rule), e) gives
+  on-found Says i p k e given after gives = rw (rule-none name (opened-is layout image directory name i p k e .rule), e) gives
 
 -- a change of it
-module _ (layout : Layout) (image name : List ℕ) (change : ℕ → Outcome) where
+module _ (layout : Layout) (image : List ℕ) (directory : ℕ) (name : List ℕ) (change : ℕ → ℕ → Outcome) where
   abbrev outcome : Outcome
-  outcome = changing (openOf layout image name) change
+  outcome = changing (openOf layout image directory name) change
 
-  pub change-refused : (number : ℕ) → openOf layout image name ≡ Refused number → Meets (NamedSays (wrongPlace name)) outcome (named.Refused number) image image
+  pub change-refused : (number : ℕ) → openOf layout image directory name ≡ Refused number → Meets (NamedSays (wrongPlace name)) outcome (named.Refused number) image image
   unfolding NamedSays
-  change-refused number e = meets-refusal (NamedSays (wrongPlace name)) (named.Refused number) image outcome number (open-refused layout image name number e) (changing-refused _ change number e)
+  change-refused number e = meets-refusal (NamedSays (wrongPlace name)) (named.Refused number) image outcome number (open-refused layout image directory name number e) (changing-refused _ change number e)
 
-  pub change-misnamed : (place : ℕ) → openOf layout image name ≡ Misnamed place → Meets (NamedSays (wrongPlace name)) outcome (named.Misnamed place) image image
+  pub change-misnamed : (place : ℕ) → openOf layout image directory name ≡ Misnamed place → Meets (NamedSays (wrongPlace name)) outcome (named.Misnamed place) image image
   unfolding NamedSays
-  change-misnamed place e = meets-refusal (NamedSays (wrongPlace name)) (named.Misnamed place) image outcome 7 (refl, open-misnamed layout image name place e) (changing-misnamed _ change place e)
+  change-misnamed place e = meets-refusal (NamedSays (wrongPlace name)) (named.Misnamed place) image outcome 7 (refl, open-misnamed layout image directory name place e) (changing-misnamed _ change place e)
 
-  pub change-absent : openOf layout image name ≡ Absent → Meets (NamedSays (wrongPlace name)) outcome (named.Refused 8) image image
+  pub change-absent : (i : ℕ) → openOf layout image directory name ≡ Absent i → Meets (NamedSays (wrongPlace name)) outcome (named.Refused 8) image image
   unfolding NamedSays
-  change-absent e = meets-refusal (NamedSays (wrongPlace name)) (named.Refused 8) image outcome 8 (bare 8 refl) (changing-absent _ change e)
+  change-absent i e = meets-refusal (NamedSays (wrongPlace name)) (named.Refused 8) image outcome 8 (bare 8 refl) (changing-absent _ change i e)
 
-  pub change-found : (p k : ℕ) → openOf layout image name ≡ At p k → (given : NamedAnswer) (after : List ℕ) → Meets (NamedSays wrong.None) (change k) given image after
+  pub change-found : (i p k : ℕ) → openOf layout image directory name ≡ At i p k → (given : NamedAnswer) (after : List ℕ) → Meets (NamedSays wrong.None) (change i k) given image after
       → Meets (NamedSays (wrongPlace name)) outcome given image after
   unfolding changing
-  change-found p k e given after meets = rw (rule-none name (opened-is layout image name p k e .rule), e) meets
+  change-found i p k e given after meets = rw (rule-none name (opened-is layout image directory name i p k e .rule), e) meets
 
 -- an addition under its name
-module _ (layout : Layout) (image name : List ℕ) (addition : Outcome) where
+module _ (layout : Layout) (image : List ℕ) (directory : ℕ) (name : List ℕ) (addition : ℕ → Outcome) where
   abbrev added : Outcome
-  added = adding (openOf layout image name) addition
+  added = adding (openOf layout image directory name) addition
 
-  pub add-refused : (number : ℕ) → openOf layout image name ≡ Refused number → Meets (NamedSays (wrongPlace name)) added (named.Refused number) image image
+  pub add-refused : (number : ℕ) → openOf layout image directory name ≡ Refused number → Meets (NamedSays (wrongPlace name)) added (named.Refused number) image image
   unfolding NamedSays
-  add-refused number e = meets-refusal (NamedSays (wrongPlace name)) (named.Refused number) image added number (open-refused layout image name number e) (adding-refused _ addition number e)
+  add-refused number e = meets-refusal (NamedSays (wrongPlace name)) (named.Refused number) image added number (open-refused layout image directory name number e) (adding-refused _ addition number e)
 
-  pub add-misnamed : (place : ℕ) → openOf layout image name ≡ Misnamed place → Meets (NamedSays (wrongPlace name)) added (named.Misnamed place) image image
+  pub add-misnamed : (place : ℕ) → openOf layout image directory name ≡ Misnamed place → Meets (NamedSays (wrongPlace name)) added (named.Misnamed place) image image
   unfolding NamedSays
-  add-misnamed place e = meets-refusal (NamedSays (wrongPlace name)) (named.Misnamed place) image added 7 (refl, open-misnamed layout image name place e) (adding-misnamed _ addition place e)
+  add-misnamed place e = meets-refusal (NamedSays (wrongPlace name)) (named.Misnamed place) image added 7 (refl, open-misnamed layout image directory name place e) (adding-misnamed _ addition place e)
 
-  pub add-present : (p k : ℕ) → openOf layout image name ≡ At p k → Meets (NamedSays (wrongPlace name)) added (named.Refused 9) image image
+  pub add-present : (i p k : ℕ) → openOf layout image directory name ≡ At i p k → Meets (NamedSays (wrongPlace name)) added (named.Refused 9) image image
   unfolding NamedSays
-  add-present p k e = meets-refusal (NamedSays (wrongPlace name)) (named.Refused 9) image added 9 (bare 9 refl) (adding-present _ addition p k e)
+  add-present i p k e = meets-refusal (NamedSays (wrongPlace name)) (named.Refused 9) image added 9 (bare 9 refl) (adding-present _ addition i p k e)
 
-  pub add-absent : openOf layout image name ≡ Absent → (given : NamedAnswer) (after : List ℕ) → Meets (NamedSays wrong.None) addition given image after
+  pub add-absent : (i : ℕ) → openOf layout image directory name ≡ Absent i → (given : NamedAnswer) (after : List ℕ) → Meets (NamedSays wrong.None) (addition i) given image after
       → Meets (NamedSays (wrongPlace name)) added given image after
   unfolding adding
-  add-absent e given after meets = rw (rule-none name (absent-is layout image name e .rule), e) meets
+  add-absent i e given after meets = rw (rule-none name (absent-is layout image directory name i e .rule), e) meets
 
--- the file at a place of the catalogue, by the two bytes of sector 1 there
-pub place-none : (layout : Layout) (image : List ℕ) (p : ℕ) → Sound layout image → wordAt (sectorOf image 1) (2 * p) ≡ 0 → length (files image) ≤ p
-unfolding files
-place-none layout image p is z =
-    elim (decLt p (length (numbers (sectorOf image 1)))) [
-      | yes h ↦ absurd (number-at (sectorOf image 1) p h .1 z)
-      | no h ↦ omega arith
-    ]
+-- the file at a place of the catalogue, by the two bytes of the index there
+module _ (layout : Layout) (image : List ℕ) (i p : ℕ) (is : SoundIndex layout image i) where
+  pub place-none : wordAt (sectorOf image i) (2 * p) ≡ 0 → length (filesIn image i) ≤ p
+  unfolding filesIn
+  place-none z =
+      elim (decLt p (length (numbers (sectorOf image i)))) [
+        | yes h ↦ absurd (number-at (sectorOf image i) p h .1 z)
+        | no h ↦ omega arith
+      ]
 
-pub place-some : (layout : Layout) (image : List ℕ) (p : ℕ) → Sound layout image → (wordAt (sectorOf image 1) (2 * p) ≡ 0 → ⊥) → (p < length (files image)) × (fileAt image p ≡ wordAt (sectorOf image 1) (2 * p))
-unfolding files
-place-some layout image p is some =
-    elim (decLt p (length (numbers (sectorOf image 1)))) [
-      | yes h ↦ (h, number-at (sectorOf image 1) p h .0)
-      | no h ↦ absurd (some (number-past (sectorCount image) (sectorOf image 1) (is .index) p (omega arith)))
-    ]
+  pub place-some : (wordAt (sectorOf image i) (2 * p) ≡ 0 → ⊥) → (p < length (filesIn image i)) × (fileAt image i p ≡ wordAt (sectorOf image i) (2 * p))
+  unfolding filesIn
+  place-some some =
+      elim (decLt p (length (numbers (sectorOf image i)))) [
+        | yes h ↦ (h, number-at (sectorOf image i) p h .0)
+        | no h ↦ absurd (some (number-past (sectorCount image) (sectorOf image i) (is .index) p (omega arith)))
+      ]
 
-pub place-many : (layout : Layout) (image : List ℕ) → Sound layout image → length (files image) ≤ 127
-unfolding files
-place-many layout image is = is .index .few
+  -- a file's descriptor is a sector of the volume
+  pub file-low : p < length (filesIn image i) → fileAt image i p < sectorCount image
+  unfolding filesIn
+  file-low h = is .index .range p h .1
 
--- a file's descriptor is a sector of the volume
-pub file-low : (layout : Layout) (image : List ℕ) (p : ℕ) → Sound layout image → p < length (files image) → fileAt image p < sectorCount image
-unfolding files
-file-low layout image p is h = is .index .range p h .1
+pub place-many : (layout : Layout) (image : List ℕ) (i : ℕ) → SoundIndex layout image i → length (filesIn image i) ≤ 127
+unfolding filesIn
+place-many layout image i is = is .index .few
 
 pub file-long : (layout : Layout) (image : List ℕ) (k : ℕ) → Sound layout image → k < sectorCount image → length (sectorOf image k) ≡ 256
 file-long layout image k is h = sector-length image k (omega (arith, is .whole))
 
 -- a file that a call names
-pub is-file : (layout : Layout) (image name : List ℕ) (p k : ℕ) → openOf layout image name ≡ At p k → IsFile layout image k
-is-file layout image name p k e =
-    let o = opened-is layout image name p k e in
-    record { sound = o .whole; place = p; inside = o .inside; is = o .is }
+pub opened-file : (layout : Layout) (image name : List ℕ) (i p k : ℕ) → IsOpened layout image name i p k → IsFile layout image i k
+opened-file layout image name i p k o = record { sound = o .whole; indexed = o .indexed; place = p; inside = o .inside; is = o .is }
+
+pub is-file : (layout : Layout) (image : List ℕ) (directory : ℕ) (name : List ℕ) (i p k : ℕ) → openOf layout image directory name ≡ At i p k → IsFile layout image i k
+is-file layout image directory name i p k e = opened-file layout image name i p k (opened-is layout image directory name i p k e)
 
 -- what is known of a file
-module _ (layout : Layout) (image : List ℕ) (k : ℕ) (file : IsFile layout image k) where
+module _ (layout : Layout) (image : List ℕ) (i k : ℕ) (file : IsFile layout image i k) where
   pub in-volume : k < sectorCount image
-  in-volume = rw (← file .is) (file-low layout image (file .place) (file .sound) (file .inside))
+  in-volume = rw (← file .is) (file-low layout image i (file .place) (file .sound .each i (file .indexed)) (file .inside))
 
   pub has-rules : IsDescriptor layout (sectorCount image) (sectorOf image k)
-  has-rules = rw (← file .is) (file .sound .descriptors (file .place) (file .inside))
+  has-rules = rw (← file .is) (file .sound .each i (file .indexed) .descriptors (file .place) (file .inside))
 
   pub is-sector : length (sectorOf image k) ≡ 256
   is-sector = file-long layout image k (file .sound) in-volume
@@ -444,29 +546,31 @@ module _ (layout : Layout) (image : List ℕ) (k : ℕ) (file : IsFile layout im
   place-in-image offset h = omega (arith, place-inside layout (sectorCount image) image k offset has-rules h .1, file .sound .whole)
 
 -- a change that was done: the file was found, and the change of it was done
-pub record Changed (opened : Opened) (change : ℕ → Outcome) : Type 0 where
+pub record Changed (opened : Opened) (change : ℕ → ℕ → Outcome) : Type 0 where
+  pub index : ℕ
   pub place : ℕ
   pub sector : ℕ
-  pub found-at : opened ≡ At place sector
-  pub is : changing opened change ≡ change sector
-  pub number : change sector .number ≡ 0
+  pub found-at : opened ≡ At index place sector
+  pub is : changing opened change ≡ change index sector
+  pub number : change index sector .number ≡ 0
 
-pub changed-done : (opened : Opened) (change : ℕ → Outcome) → ((number : ℕ) → opened ≡ Refused number → Bare number number) → changing opened change .number ≡ 0 → Changed opened change
+pub changed-done : (opened : Opened) (change : ℕ → ℕ → Outcome) → ((number : ℕ) → opened ≡ Refused number → Bare number number) → changing opened change .number ≡ 0 → Changed opened change
 unfolding changing
-changed-done (At p k) change some e = record { place = p; sector = k; found-at = refl; is = refl; number = e }
-changed-done Absent change some e = absurd (omega (arith, e))
+changed-done (At i p k) change some e = record { index = i; place = p; sector = k; found-at = refl; is = refl; number = e }
+changed-done (Absent i) change some e = absurd (omega (arith, e))
 changed-done (Refused number) change some e = absurd (some number refl .1 e)
 changed-done (Misnamed place) change some e = absurd (omega (arith, e))
 
 -- an addition that was done: the name was not there
-pub record Added (opened : Opened) (addition : Outcome) : Type 0 where
-  pub absent : opened ≡ Absent
-  pub is : adding opened addition ≡ addition
-  pub number : addition .number ≡ 0
+pub record Added (opened : Opened) (addition : ℕ → Outcome) : Type 0 where
+  pub index : ℕ
+  pub absent : opened ≡ Absent index
+  pub is : adding opened addition ≡ addition index
+  pub number : addition index .number ≡ 0
 
-pub added-done : (opened : Opened) (addition : Outcome) → ((number : ℕ) → opened ≡ Refused number → Bare number number) → adding opened addition .number ≡ 0 → Added opened addition
+pub added-done : (opened : Opened) (addition : ℕ → Outcome) → ((number : ℕ) → opened ≡ Refused number → Bare number number) → adding opened addition .number ≡ 0 → Added opened addition
 unfolding adding
-added-done (At p k) addition some e = absurd (omega (arith, e))
-added-done Absent addition some e = record { absent = refl; is = refl; number = e }
+added-done (At i p k) addition some e = absurd (omega (arith, e))
+added-done (Absent i) addition some e = record { index = i; absent = refl; is = refl; number = e }
 added-done (Refused number) addition some e = absurd (some number refl .1 e)
 added-done (Misnamed place) addition some e = absurd (omega (arith, e))

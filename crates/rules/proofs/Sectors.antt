@@ -7,12 +7,16 @@ use lib.ListN.{length, set}
 use lib.Seq.{ext-getD}
 use Rattle.rules.specs.Bytes.{byteAt, wordAt, splice}
 use Rattle.rules.specs.Sectors.{sectorOf, sectorCount}
-use Rattle.rules.proofs.Bytes.{part-length, part-at, part-below}
+use Rattle.rules.proofs.Bytes.{part-short, part-length, part-at, part-below}
 use Rattle.rules.proofs.Splice.{splice-part, set-splice}
 
 pub sector-length : (image : List ℕ) (k : ℕ) → 256 * k + 256 ≤ length image → length (sectorOf image k) ≡ 256
 unfolding sectorOf
 sector-length image k h = part-length image (256 * k) 256 h
+
+pub sector-short : (image : List ℕ) (k : ℕ) → length (sectorOf image k) ≤ 256
+unfolding sectorOf
+sector-short image k = part-short image (256 * k) 256
 
 pub sector-below : (image : List ℕ) (k limit : ℕ) → 0 < limit → ((i : ℕ) → byteAt image i < limit) → (i : ℕ) → byteAt (sectorOf image k) i < limit
 unfolding sectorOf

@@ -106,24 +106,24 @@ plain-one status e =
 module _ (layout : Layout) (status : ℕ) where
   pub plain-allowed : status ≡ plain status → status ≡ within (allowedBits layout) status
   unfolding within allowedBits byteOf
-  plain-allowed = by-rule (λ layout. status ≡ plain status → status ≡ within (allowedBits layout) status) (λ e. omega (arith, e, plain-none status e)) (λ e. omega (arith, e)) layout
+  plain-allowed = by-rule (λ layout. status ≡ plain status → status ≡ within (allowedBits layout) status) (λ edition e. omega (arith, e, plain-none status e)) (λ edition e. omega (arith, e)) layout
 
   pub mark-allowed : layout .marks ≡ true → status ≡ plain status + 16 → status ≡ within (allowedBits layout) status
   unfolding within allowedBits byteOf
   mark-allowed =
-      by-rule (λ layout. layout .marks ≡ true → status ≡ plain status + 16 → status ≡ within (allowedBits layout) status) (λ with e. omega (arith, e, plain-one status e)) (λ with e. absurd-test (sym with)) layout
+      by-rule (λ layout. layout .marks ≡ true → status ≡ plain status + 16 → status ≡ within (allowedBits layout) status) (λ edition with e. omega (arith, e, plain-one status e)) (λ edition with e. absurd-test (sym with)) layout
 
   pub mark-forbidden : layout .marks ≡ false → (status ≡ plain status → ⊥) → status ≡ within (allowedBits layout) status → ⊥
   unfolding within allowedBits byteOf
   mark-forbidden =
-      by-rule (λ layout. layout .marks ≡ false → (status ≡ plain status → ⊥) → status ≡ within (allowedBits layout) status → ⊥) (λ without. absurd-test without)
-      (λ without other is. other (omega (arith, is))) layout
+      by-rule (λ layout. layout .marks ≡ false → (status ≡ plain status → ⊥) → status ≡ within (allowedBits layout) status → ⊥) (λ edition without. absurd-test without)
+      (λ edition without other is. other (omega (arith, is))) layout
 
   pub other-forbidden : (status ≡ plain status → ⊥) → (status ≡ plain status + 16 → ⊥) → status ≡ within (allowedBits layout) status → ⊥
   unfolding within allowedBits byteOf
   other-forbidden =
       by-rule (λ layout. (status ≡ plain status → ⊥) → (status ≡ plain status + 16 → ⊥) → status ≡ within (allowedBits layout) status → ⊥)
-      (λ other more is. omega (arith, is, other, more)) (λ other more is. other (omega (arith, is))) layout
+      (λ edition other more is. omega (arith, is, other, more)) (λ edition other more is. other (omega (arith, is))) layout
 
 pub kind-is : (kind : Kind) (c endOffset : ℕ) → kindRule kind c endOffset ≡ true → IsKind kind c endOffset
 unfolding kindRule IsKind

@@ -14,11 +14,13 @@ use Rattle.rules.specs.Name.{precedes}
 use Rattle.rules.specs.Map.{mapBit, count}
 use Rattle.rules.specs.Chain.{places}
 use Rattle.rules.specs.Descriptor.{nameOf, chainOf}
-use Rattle.rules.specs.Index.{without}
-use Rattle.rules.specs.Volume.{files, nameIn, placesIn, fileHolders, holders, headerIn, contentsIn, fileIn, catalogue, placed}
-use Rattle.rules.specs.Sound.{Sound}
+use Rattle.rules.specs.Index.{numbers, without}
+use Rattle.rules.specs.Directory.{entries, entryIndex}
+use Rattle.rules.specs.Volume.{directories, indexAt, present, indexes, filesIn, filesOf, nameIn, placesIn, fileHolders, holders, headerIn, contentsIn, fileIn, catalogue, placed}
+use Rattle.rules.specs.Sound.{SoundIndex, Sound}
 use Rattle.rules.specs.declared.Layout.{Layout}
 use Rattle.rules.proofs.Map.{count-none, count-here, count-other, count-more, count-at, count-append}
+use Rattle.rules.proofs.Indexes.{files-of-has, otherIndexes, others}
 
 -- the places of a descriptor that stands as it stood
 pub places-kept : (image after : List ℕ) (k : ℕ) → sectorOf after k ≡ sectorOf image k → placesIn after k ≡ placesIn image k
@@ -70,18 +72,18 @@ file-kept image after k e data-kept = rw (e, places-kept image after k e, map-ag
 pub files-kept : (image after ks : List ℕ) → ((k : ℕ) → 1 ≤ count k ks → fileIn after k ≡ fileIn image k) → map (fileIn after) ks ≡ map (fileIn image) ks
 files-kept image after ks kept = map-agree (fileIn after) (fileIn image) ks kept
 
--- a number put in among files whose names stand, and so among those of an image in which sector 1 and all descriptors stand
+-- a number put in among files whose names stand, and so among those of an image in which the index and all its descriptors stand
 placed-agree : (image after name : List ℕ) (k : ℕ) (ks : List ℕ) → ((j : ℕ) → 1 ≤ count j ks → nameIn after j ≡ nameIn image j) → placed after name k ks ≡ placed image name k ks
 unfolding placed
 placed-agree image after name k [] same = refl
 placed-agree image after name k (j ∷ js) same =
     rw (same j (omega (arith, count-here j js)), placed-agree image after name k js (λ i h. same i (omega (arith, h, count-more i j js))))
 
-pub placed-kept : (image after name : List ℕ) (k : ℕ) → sectorOf after 1 ≡ sectorOf image 1 → ((j : ℕ) → 1 ≤ count j (files image) → sectorOf after j ≡ sectorOf image j)
-    → placed after name k (files after) ≡ placed image name k (files image)
-unfolding files nameIn
-placed-kept image after name k index kept =
-    rw index (placed-agree image after name k (files image) (λ j h. ap nameOf (kept j h)))
+pub placed-kept : (image after name : List ℕ) (i k : ℕ) → sectorOf after i ≡ sectorOf image i → ((j : ℕ) → 1 ≤ count j (filesIn image i) → sectorOf after j ≡ sectorOf image j)
+    → placed after name k (filesIn after i) ≡ placed image name k (filesIn image i)
+unfolding filesIn nameIn
+placed-kept image after name i k index kept =
+    rw index (placed-agree image after name k (filesIn image i) (λ j h. ap nameOf (kept j h)))
 
 -- the holders where a file is put in, and where one is taken out
 pub holders-placed : (image names name : List ℕ) (k j : ℕ) (ks : List ℕ) → count j (fileHolders image (placed names name k ks)) ≡ count j (k ∷ placesIn image k) + count j (fileHolders image ks)
@@ -115,26 +117,79 @@ holders-without image k j (i ∷ is) there = go (eqb i k) refl (holders-without 
 pub file-holds : (image : List ℕ) (k j : ℕ) (ks : List ℕ) → 1 ≤ count k ks → count j (k ∷ placesIn image k) ≤ count j (fileHolders image ks)
 file-holds image k j ks there = omega (arith, holders-without image k j ks there)
 
-pub file-held : (image : List ℕ) (k j : ℕ) → 1 ≤ count k (files image) → count j (k ∷ placesIn image k) ≤ count j (holders image)
-unfolding holders
-file-held image k j there =
-    omega (arith, file-holds image k j (files image) there, count-more j 1 (fileHolders image (files image)), count-more j 0 (1 ∷ fileHolders image (files image)))
-
--- and so are the system sectors
-pub system-held : (image : List ℕ) → (1 ≤ count 0 (holders image)) × (1 ≤ count 1 (holders image))
-unfolding holders count
-system-held image = (omega arith, omega arith)
-
--- where all that is held stands as it stood, so does the catalogue
-pub catalogue-kept : (image after : List ℕ) → ((k : ℕ) → 1 ≤ count k (holders image) → sectorOf after k ≡ sectorOf image k) → catalogue after ≡ catalogue image
-unfolding catalogue files
-catalogue-kept image after kept =
-    rw (kept 1 (system-held image .1))
-    (files-kept image after (files image)
+-- where an index and all that its files hold stand as they stood, so does its catalogue
+pub catalogue-kept : (image after : List ℕ) (i : ℕ) → sectorOf after i ≡ sectorOf image i → ((k : ℕ) → 1 ≤ count k (fileHolders image (filesIn image i)) → sectorOf after k ≡ sectorOf image k)
+    → catalogue after i ≡ catalogue image i
+unfolding catalogue filesIn
+catalogue-kept image after i index kept =
+    rw index
+    (files-kept image after (filesIn image i)
     (λ k there.
-    file-kept image after k (kept k (omega (arith, file-held image k k there, count-here k (placesIn image k))))
-    (λ p placed. kept p (omega (arith, placed, file-held image k p there, count-more p k (placesIn image k))))))
+    file-kept image after k (kept k (omega (arith, file-holds image k k (filesIn image i) there, count-here k (placesIn image k))))
+    (λ p placed. kept p (omega (arith, placed, file-holds image k p (filesIn image i) there, count-more p k (placesIn image k))))))
 
 -- a sector that the map has free is nobody's
-pub free-unheld : (layout : Layout) (image : List ℕ) (k : ℕ) → Sound layout image → k < sectorCount image → mapBit (sectorOf image 0) k ≡ 0 → count k (holders image) ≡ 0
+pub free-unheld : (layout : Layout) (image : List ℕ) (k : ℕ) → Sound layout image → k < sectorCount image → mapBit (sectorOf image 0) k ≡ 0 → count k (holders layout image) ≡ 0
 free-unheld layout image k is inside free = sym (is .marked k inside) ∙ free
+
+-- the directories stand where their entries stand
+module _ (layout : Layout) (image after : List ℕ) (same : entries layout (sectorOf after 0) ≡ entries layout (sectorOf image 0)) where
+  directories-kept : directories layout after ≡ directories layout image
+  unfolding directories
+  directories-kept = ap (λ (es : List (List ℕ)). 1 ∷ map entryIndex es) same
+
+  pub index-at-kept : (directory : ℕ) → indexAt layout after directory ≡ indexAt layout image directory
+  unfolding indexAt
+  index-at-kept directory = ap (λ (l : List ℕ). getD l directory 0) directories-kept
+
+  pub indexes-kept : indexes layout after ≡ indexes layout image
+  unfolding indexes
+  indexes-kept = ap present directories-kept
+
+-- several indexes that stand list the files that they listed
+pub files-of-kept : (image after is : List ℕ) → ((i : ℕ) → 1 ≤ count i is → sectorOf after i ≡ sectorOf image i) → filesOf after is ≡ filesOf image is
+unfolding filesOf filesIn
+files-of-kept image after [] stands = refl
+files-of-kept image after (i ∷ is) stands = rw (stands i (omega (arith, count-here i is)), files-of-kept image after is (λ j h. stands j (omega (arith, h, count-more j i is))))
+
+-- where all that is held besides one index and its files stands as it stood, so do the other indexes with their files
+module _ (layout : Layout) (image after : List ℕ) (i : ℕ) (stands : (j : ℕ) → 1 ≤ count j (others layout image i) → sectorOf after j ≡ sectorOf image j) where
+  abbrev away : List ℕ
+  away = otherIndexes layout image i
+
+  pub other-index : (j : ℕ) → 1 ≤ count j away → sectorOf after j ≡ sectorOf image j
+  unfolding others
+  other-index j among = stands j (omega (arith, among, count-append j away (fileHolders image (filesOf image away))))
+
+  pub other-held : (j : ℕ) → 1 ≤ count j (fileHolders image (filesOf image away)) → sectorOf after j ≡ sectorOf image j
+  unfolding others
+  other-held j held = stands j (omega (arith, held, count-append j away (fileHolders image (filesOf image away))))
+
+  other-file : (k : ℕ) → 1 ≤ count k (filesOf image away) → sectorOf after k ≡ sectorOf image k
+  other-file k listed = other-held k (omega (arith, file-holds image k k (filesOf image away) listed, count-here k (placesIn image k)))
+
+  pub others-kept : indexes layout after ≡ indexes layout image → others layout after i ≡ others layout image i
+  unfolding others
+  others-kept same = rw (same, files-of-kept image after away other-index, holders-kept image after (filesOf image away) other-file)
+
+  -- the files and the catalogue of each
+  module _ (j : ℕ) (among : 1 ≤ count j away) where
+    pub other-files : filesIn after j ≡ filesIn image j
+    unfolding filesIn
+    other-files = ap numbers (other-index j among)
+
+    pub other-listed : (k : ℕ) → 1 ≤ count k (filesIn image j) → sectorOf after k ≡ sectorOf image k
+    other-listed k there = other-file k (omega (arith, there, files-of-has image j away among k))
+
+    pub other-sound : sectorCount after ≡ sectorCount image → SoundIndex layout image j → SoundIndex layout after j
+    unfolding nameIn
+    other-sound n is =
+        record {
+          index = rw (n, other-index j among) (is .index);
+          descriptors = rw (other-files, n) (λ p h. rw (other-listed (getD (filesIn image j) p 0) (count-at (filesIn image j) p h)) (is .descriptors p h));
+          ascending =
+              rw other-files
+              (λ p q l h.
+              rw (other-listed (getD (filesIn image j) p 0) (count-at (filesIn image j) p (omega arith)), other-listed (getD (filesIn image j) q 0) (count-at (filesIn image j) q h))
+              (is .ascending p q l h));
+        }

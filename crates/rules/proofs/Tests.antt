@@ -98,9 +98,9 @@ unfolding unlessMet
 unless-met tests there otherwise some = rw (ne-eqb (firstOf tests) 0 some)
 
 -- what holds of either rule holds of a layout
-pub by-rule : (P : Layout → Type 0) → P (record { marks = true }) → P (record { marks = false }) → (layout : Layout) → P layout
+pub by-rule : (P : Layout → Type 0) → ((edition : Bool) → P (record { marks = true; directories = edition })) → ((edition : Bool) → P (record { marks = false; directories = edition })) → (layout : Layout) → P layout
 by-rule P with without layout = go (layout .marks)
   where
-    go : (marks : Bool) → P (record { marks = marks })
-    go true = with
-    go false = without
+    go : (marks : Bool) → P (record { marks = marks; directories = layout .directories })
+    go true = with (layout .directories)
+    go false = without (layout .directories)

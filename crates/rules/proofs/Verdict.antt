@@ -15,10 +15,11 @@ use Rattle.rules.specs.Label.{labelRule}
 use Rattle.rules.specs.Map.{count, mapRule}
 use Rattle.rules.specs.Descriptor.{descriptorRule, IsDescriptor}
 use Rattle.rules.specs.Index.{indexRule}
-use Rattle.rules.specs.Volume.{files, nameIn, holders}
+use Rattle.rules.specs.Directory.{entries, entriesRule}
+use Rattle.rules.specs.Volume.{indexes, every, filesIn, nameIn, holders}
 use Rattle.rules.specs.Tests.{Test, firstOf, Passed}
 use Rattle.rules.specs.Verdict.{sizeRule, descriptorsRule, heldTwice, volumeTests, verdict}
-use Rattle.rules.specs.Sound.{Sound, fileAt}
+use Rattle.rules.specs.Sound.{fileAt, IsIndexed, SoundIndex, Sound}
 use Rattle.rules.specs.declared.Layout.{Layout}
 use Rattle.rules.proofs.Tests.{both, neither, all-passed, first-passed, first-met, AtMost, first-most}
 use Rattle.rules.proofs.Name.{precedes-is, is-precedes, before-trans}
@@ -26,6 +27,8 @@ use Rattle.rules.proofs.Label.{label-is, is-label}
 use Rattle.rules.proofs.Map.{count-none, count-here, count-other, count-more, taken-below, taken-past, bits-taken, map-at, at-map}
 use Rattle.rules.proofs.Descriptor.{descriptor-is, is-descriptor}
 use Rattle.rules.proofs.Index.{index-is, is-index}
+use Rattle.rules.proofs.Directory.{entries-are, are-entries}
+use Rattle.rules.proofs.Indexes.{every-is, is-every}
 
 -- 1: the size
 pub size-is : (image : List ℕ) → sizeRule image ≡ true → (length image ≡ 256 * sectorCount image) × (3 ≤ sectorCount image) × (sectorCount image ≤ 1600)
@@ -123,22 +126,34 @@ once-held (h ∷ hs) f =
 pub record Keeps (layout : Layout) (image : List ℕ) : Type 0 where
   pub size : sizeRule image ≡ true
   pub label : labelRule (sectorCount image) (sectorOf image 0) ≡ true
-  pub index : indexRule (sectorCount image) (sectorOf image 1) ≡ true
-  pub descriptors : descriptorsRule layout (sectorCount image) image [] (files image) ≡ true
-  pub single : heldTwice (holders image) ≡ false
-  pub map : mapRule (sectorCount image) (holders image) (sectorOf image 0) ≡ true
+  pub entered : entriesRule (sectorCount image) (entries layout (sectorOf image 0)) ≡ true
+  pub index : (i : ℕ) → IsIndexed layout image i → indexRule (sectorCount image) (sectorOf image i) ≡ true
+  pub descriptors : (i : ℕ) → IsIndexed layout image i → descriptorsRule layout (sectorCount image) image [] (filesIn image i) ≡ true
+  pub single : heldTwice (holders layout image) ≡ false
+  pub map : mapRule (sectorCount image) (holders layout image) (sectorOf image 0) ≡ true
 
 pub rules-kept : (layout : Layout) (image : List ℕ) → verdict layout image ≡ 0 → Keeps layout image
 unfolding verdict volumeTests Passed
 rules-kept layout image e =
+    let n = sectorCount image in
     let passed = all-passed (volumeTests layout image) e in
+    let three = both (entriesRule n (entries layout (sectorOf image 0))) (every (λ i. indexRule n (sectorOf image i)) (indexes layout image)) (not-false _ (passed .1 .1 .0)) in
     record {
       size = not-false (sizeRule image) (passed .0);
       label = not-false _ (passed .1 .0);
-      index = not-false _ (passed .1 .1 .0);
-      descriptors = not-false _ (passed .1 .1 .1 .0);
+      entered = three .0;
+      index = every-is (λ i. indexRule n (sectorOf image i)) (indexes layout image) (three .1);
+      descriptors = every-is (λ i. descriptorsRule layout n image [] (filesIn image i)) (indexes layout image) (not-false _ (passed .1 .1 .1 .0));
       single = passed .1 .1 .1 .1 .0;
       map = not-false _ (passed .1 .1 .1 .1 .1 .0);
+    }
+
+sound-index : (layout : Layout) (image : List ℕ) (i : ℕ) → indexRule (sectorCount image) (sectorOf image i) ≡ true → descriptorsRule layout (sectorCount image) image [] (filesIn image i) ≡ true → SoundIndex layout image i
+sound-index layout image i index descriptors =
+    record {
+      index = index-is (sectorCount image) (sectorOf image i) index;
+      descriptors = descriptors-are layout (sectorCount image) image [] (filesIn image i) descriptors;
+      ascending = ascend layout (sectorCount image) image [] (filesIn image i) descriptors;
     }
 
 pub sound : (layout : Layout) (image : List ℕ) → verdict layout image ≡ 0 → Sound layout image
@@ -146,18 +161,22 @@ sound layout image e =
     let n = sectorCount image in
     let kept = rules-kept layout image e in
     let size = size-is image (kept .size) in
-    let bits = map-at n (holders image) (sectorOf image 0) (kept .map) in
+    let bits = map-at n (holders layout image) (sectorOf image 0) (kept .map) in
     record {
       whole = size .0;
       size = (size .1, size .2);
       label = label-is n (sectorOf image 0) (kept .label);
-      index = index-is n (sectorOf image 1) (kept .index);
-      descriptors = descriptors-are layout n image [] (files image) (kept .descriptors);
-      ascending = ascend layout n image [] (files image) (kept .descriptors);
-      single = held-once (holders image) (kept .single);
-      marked = λ k h. bits k (omega (arith, size .2)) ∙ taken-below n (holders image) k h;
-      filled = λ k h l. bits k l ∙ taken-past n (holders image) k h;
+      entered = entries-are n (entries layout (sectorOf image 0)) (kept .entered);
+      each = λ i indexed. sound-index layout image i (kept .index i indexed) (kept .descriptors i indexed);
+      single = held-once (holders layout image) (kept .single);
+      marked = λ k h. bits k (omega (arith, size .2)) ∙ taken-below n (holders layout image) k h;
+      filled = λ k h l. bits k l ∙ taken-past n (holders layout image) k h;
     }
+
+pub index-passes : (layout : Layout) (image : List ℕ) (i : ℕ) → SoundIndex layout image i → descriptorsRule layout (sectorCount image) image [] (filesIn image i) ≡ true
+index-passes layout image i is =
+    are-descriptors layout (sectorCount image) image [] (filesIn image i) (is .descriptors)
+    (λ p h. precedes-none (nameIn image (fileAt image i p)) (name-long layout (sectorCount image) image (fileAt image i p) (is .descriptors p h))) (is .ascending)
 
 pub passes : (layout : Layout) (image : List ℕ) → Sound layout image → verdict layout image ≡ 0
 unfolding verdict volumeTests firstOf
@@ -166,11 +185,11 @@ passes layout image is =
     rw (
       is-size image (is .whole) (is .size .0) (is .size .1),
       is-label n (sectorOf image 0) (is .label),
-      is-index n (sectorOf image 1) (is .index),
-      are-descriptors layout n image [] (files image) (is .descriptors)
-          (λ p h. precedes-none (nameIn image (fileAt image p)) (name-long layout n image (fileAt image p) (is .descriptors p h))) (is .ascending),
-      once-held (holders image) (is .single),
-      at-map n (holders image) (sectorOf image 0) (bits-taken n (holders image) (sectorOf image 0) (is .marked) (is .filled)),
+      are-entries n (entries layout (sectorOf image 0)) (is .entered),
+      is-every (λ i. indexRule n (sectorOf image i)) (indexes layout image) (λ i indexed. is-index n (sectorOf image i) (is .each i indexed .index)),
+      is-every (λ i. descriptorsRule layout n image [] (filesIn image i)) (indexes layout image) (λ i indexed. index-passes layout image i (is .each i indexed)),
+      once-held (holders layout image) (is .single),
+      at-map n (holders layout image) (sectorOf image 0) (bits-taken n (holders layout image) (sectorOf image 0) (is .marked) (is .filled)),
     )
 
 pub verdict-sound : (layout : Layout) (image : List ℕ) → (verdict layout image ≡ 0) ↔ Sound layout image

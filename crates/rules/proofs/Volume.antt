@@ -1,4 +1,4 @@
--- The files of an image: how many places and contents they have, and what is read of them; and the holders: how they count, and that those of kept rules are sectors of the volume.
+-- The files of an image: how many places and contents they have, and what is read of them; and what they hold: that those of kept rules hold sectors of the volume.
 use mathlib.Core.Path.{_≡_, refl, _∙_}
 use mathlib.Core.List.{List, [], _∷_, _++_, map}
 use Prim.Native.Nat.{ℕ, zero, suc, _+_, _≤_, _<_}
@@ -11,8 +11,7 @@ use Rattle.rules.specs.Sectors.{sectorOf}
 use Rattle.rules.specs.Chain.{places, blocks}
 use Rattle.rules.specs.Map.{count}
 use Rattle.rules.specs.Descriptor.{nameOf, sectorsOf, chainOf, IsDescriptor}
-use Rattle.rules.specs.Index.{IsIndex}
-use Rattle.rules.specs.Volume.{files, nameIn, placesIn, fileHolders, holders, headerIn, contentsIn}
+use Rattle.rules.specs.Volume.{nameIn, placesIn, fileHolders, headerIn, contentsIn}
 use Rattle.rules.specs.declared.Layout.{Layout}
 use Rattle.rules.proofs.Bytes.{part-at}
 use Rattle.rules.proofs.Map.{count-none, count-here, count-other, count-more, count-at, counted-all, count-append}
@@ -73,32 +72,9 @@ file-holders-all P image (k ∷ ks) described placed p some =
           ]
     ]
 
--- and if it holds of the two system sectors, of all holders
-pub holders-all : (P : ℕ → Type 0) (image : List ℕ) → P 0 → P 1 → ((k : ℕ) → 1 ≤ count k (files image) → P k)
-    → ((k p : ℕ) → 1 ≤ count k (files image) → 1 ≤ count p (placesIn image k) → P p) → (p : ℕ) → 1 ≤ count p (holders image) → P p
-unfolding holders
-holders-all P image zeroth first described placed p some =
-    elim (ℕ-discrete 0 p) [
-      | yes here ↦ rw (← here) zeroth
-      | no other ↦
-          elim (ℕ-discrete 1 p) [
-            | yes here ↦ rw (← here) first
-            | no further ↦
-                file-holders-all P image (files image) described placed p
-                (omega (arith, some, count-other p 0 (1 ∷ fileHolders image (files image)) other, count-other p 1 (fileHolders image (files image)) further))
-          ]
-    ]
-
--- they are sectors of the volume, and all but those two are from 2 up
+-- they are sectors of the volume from 2 up
 pub file-holders-inside : (layout : Layout) (n : ℕ) (image ks : List ℕ) (p : ℕ) → ((q : ℕ) → q < length ks → (2 ≤ getD ks q 0) × (getD ks q 0 < n))
     → ((q : ℕ) → q < length ks → IsDescriptor layout n (sectorOf image (getD ks q 0))) → 1 ≤ count p (fileHolders image ks) → (2 ≤ p) × (p < n)
 file-holders-inside layout n image ks p range is h =
     file-holders-all (λ (j : ℕ). (2 ≤ j) × (j < n)) image ks (counted-all (λ (k : ℕ). (2 ≤ k) × (k < n)) ks range)
     (λ k j there placed. places-inside layout n image k j (counted-all (λ (i : ℕ). IsDescriptor layout n (sectorOf image i)) ks is k there) placed) p h
-
-pub holders-inside : (layout : Layout) (n : ℕ) (image : List ℕ) (p : ℕ) → 2 ≤ n → IsIndex n (sectorOf image 1)
-    → ((q : ℕ) → q < length (files image) → IsDescriptor layout n (sectorOf image (getD (files image) q 0))) → 1 ≤ count p (holders image) → p < n
-unfolding files
-holders-inside layout n image p large index is h =
-    holders-all (λ (j : ℕ). j < n) image (omega arith) (omega arith) (counted-all (λ (k : ℕ). k < n) (files image) (λ q l. index .range q l .1))
-    (λ k j there placed. places-inside layout n image k j (counted-all (λ (i : ℕ). IsDescriptor layout n (sectorOf image i)) (files image) is k there) placed .1) p h

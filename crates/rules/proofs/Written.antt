@@ -3,7 +3,7 @@ use mathlib.Core.Path.{_≡_, refl, sym, ap, _∙_}
 use mathlib.Core.List.{List, [], _∷_, _++_}
 use Prim.Native.Nat.{ℕ, _+_, _*_, _/_, _≤_, _<_}
 use native.Mathlib.Omega.{arith}
-use native.Mathlib.Decide.{decLt}
+use native.Mathlib.Decide.{decLt, ℕ-discrete}
 use lib.ListN.{length, getD, drop, replicate, length-replicate}
 use lib.Seq.{ext-getD}
 use Rattle.rules.specs.Bytes.{byteAt, part, over, splice}
@@ -12,8 +12,9 @@ use Rattle.rules.specs.Label.{IsLabel}
 use Rattle.rules.specs.Map.{mapBit, count, taken}
 use Rattle.rules.specs.Descriptor.{IsDescriptor}
 use Rattle.rules.specs.Index.{IsIndex}
-use Rattle.rules.specs.Volume.{files, fileHolders, holders}
-use Rattle.rules.specs.Sound.{Sound}
+use Rattle.rules.specs.Directory.{entries}
+use Rattle.rules.specs.Volume.{indexes, filesIn, fileHolders, holders}
+use Rattle.rules.specs.Sound.{IsIndexed, SoundIndex, Sound}
 use Rattle.rules.specs.Calls.Store.{dataWrites}
 use Rattle.rules.specs.declared.Layout.{Layout}
 use Rattle.rules.proofs.Bytes.{part-length, part-at, part-same}
@@ -21,6 +22,9 @@ use Rattle.rules.proofs.Splice.{splice-length, splice-none, splice-insi
 use Rattle.rules.proofs.Sectors.{sector-length}
 use Rattle.rules.proofs.Map.{count-here, count-more, count-apart, taken-below, taken-past}
 use Rattle.rules.proofs.Indexed.{Ascending}
+use Rattle.rules.proofs.Directory.{entries-kept}
+use Rattle.rules.proofs.Indexes.{others, holders-seen, other-indexed}
+use Rattle.rules.proofs.Staying.{indexes-kept, others-kept, other-sound}
 
 -- one sector written
 module _ (image : List ℕ) (k : ℕ) (sector : List ℕ) (long : length sector ≡ 256) where
@@ -101,16 +105,17 @@ unfolding Apart dataWrites
 data-apart bytes [] j other = tt
 data-apart bytes (k ∷ ks) j other = let apart = count-apart j k ks other in (apart .0, data-apart (drop 256 bytes) ks j (apart .1))
 
--- a volume of the same size and label whose files are ks
-pub record Rebuilt (layout : Layout) (image after ks : List ℕ) : Type 0 where
+-- a volume of the same size and label, in which index i lists the files ks; what the other indexes and their files hold stands as it stood
+pub record Rebuilt (layout : Layout) (image after : List ℕ) (i : ℕ) (ks : List ℕ) : Type 0 where
   pub size : length after ≡ length image
-  pub label : (i : ℕ) → i < 56 → byteAt (sectorOf after 0) i ≡ byteAt (sectorOf image 0) i
-  pub index : IsIndex (sectorCount image) (sectorOf after 1)
-  pub files-are : files after ≡ ks
+  pub label : (b : ℕ) → b < 56 → byteAt (sectorOf after 0) b ≡ byteAt (sectorOf image 0) b
+  pub index : IsIndex (sectorCount image) (sectorOf after i)
+  pub files-are : filesIn after i ≡ ks
   pub descriptors : (p : ℕ) → p < length ks → IsDescriptor layout (sectorCount image) (sectorOf after (getD ks p 0))
   pub ascending : Ascending after ks
-  pub single : (k : ℕ) → count k (0 ∷ (1 ∷ fileHolders after ks)) ≤ 1
-  pub map : (k : ℕ) → k < 1600 → mapBit (sectorOf after 0) k ≡ taken (sectorCount image) (0 ∷ (1 ∷ fileHolders after ks)) k
+  pub elsewhere : (j : ℕ) → 1 ≤ count j (others layout image i) → sectorOf after j ≡ sectorOf image j
+  pub single : (k : ℕ) → count k (0 ∷ (i ∷ (fileHolders after ks ++ others layout image i))) ≤ 1
+  pub map : (k : ℕ) → k < 1600 → mapBit (sectorOf after 0) k ≡ taken (sectorCount image) (0 ∷ (i ∷ (fileHolders after ks ++ others layout image i))) k
 
 label-kept : (n : ℕ) (before after : List ℕ) → length before ≡ 256 → length after ≡ 256 → ((i : ℕ) → i < 56 → byteAt after i ≡ byteAt before i) → IsLabel n before → IsLabel n after
 label-kept n before after long long′ same is =
@@ -121,20 +126,38 @@ label-kept n before after long long′ same is =
       dsk = rw (same 13 (omega arith), same 14 (omega arith), same 15 (omega arith)) (is .dsk);
     }
 
-pub sound-again : (layout : Layout) (image after ks : List ℕ) → Sound layout image → Rebuilt layout image after ks → Sound layout after
-unfolding holders
-sound-again layout image after ks is re =
+-- so its entries are those that it had
+pub entries-stand : (layout : Layout) (image after : List ℕ) → Sound layout image → length after ≡ length image → ((b : ℕ) → b < 56 → byteAt (sectorOf after 0) b ≡ byteAt (sectorOf image 0) b)
+    → entries layout (sectorOf after 0) ≡ entries layout (sectorOf image 0)
+entries-stand layout image after is size label =
+    let long : length (sectorOf image 0) ≡ 256 = sector-length image 0 (omega (arith, is .whole, is .size)) in
+    let long′ : length (sectorOf after 0) ≡ 256 = sector-length after 0 (omega (arith, size, is .whole, is .size)) in
+    entries-kept layout (sectorOf image 0) (sectorOf after 0) (long′ ∙ sym long) label
+
+pub sound-again : (layout : Layout) (image after : List ℕ) (i : ℕ) (ks : List ℕ) → Sound layout image → IsIndexed layout image i → Rebuilt layout image after i ks → Sound layout after
+sound-again layout image after i ks is indexed re =
     let n : sectorCount after ≡ sectorCount image = ap (λ (m : ℕ). m / 256) (re .size) in
     let long : length (sectorOf image 0) ≡ 256 = sector-length image 0 (omega (arith, is .whole, is .size)) in
     let long′ : length (sectorOf after 0) ≡ 256 = sector-length after 0 (omega (arith, re .size, is .whole, is .size)) in
+    let same = entries-stand layout image after is (re .size) (re .label) in
+    let is-same = indexes-kept layout image after same in
+    let seen : (k : ℕ) → count k (holders layout after) ≡ count k (0 ∷ (i ∷ (fileHolders after ks ++ others layout image i))) =
+    λ k. rw (re .files-are, others-kept layout image after i (re .elsewhere) is-same) at (holders-seen layout after i (rw is-same indexed) k)
+    in
     record {
       whole = re .size ∙ is .whole ∙ ap (λ (m : ℕ). 256 * m) (sym n);
       size = rw n (is .size);
       label = rw n (label-kept (sectorCount image) (sectorOf image 0) (sectorOf after 0) long long′ (re .label) (is .label));
-      index = rw n (re .index);
-      descriptors = rw (re .files-are, n) (re .descriptors);
-      ascending = rw (re .files-are) (re .ascending);
-      single = rw (re .files-are) (re .single);
-      marked = rw (re .files-are, n) (λ k h. re .map k (omega (arith, is .size)) ∙ taken-below (sectorCount image) (0 ∷ (1 ∷ fileHolders after ks)) k h);
-      filled = rw n (λ k h low. re .map k low ∙ taken-past (sectorCount image) (0 ∷ (1 ∷ fileHolders after ks)) k h);
+      entered = rw (n, same) (is .entered);
+      each = λ j there. each n j (rw is-same at there);
+      single = λ k. rw (seen k) (re .single k);
+      marked = λ k h. re .map k (omega (arith, is .size, n, h)) ∙ taken-below (sectorCount image) (0 ∷ (i ∷ (fileHolders after ks ++ others layout image i))) k (omega (arith, n, h)) ∙ sym (seen k);
+      filled = rw n (λ k h low. re .map k low ∙ taken-past (sectorCount image) (0 ∷ (i ∷ (fileHolders after ks ++ others layout image i))) k h);
     }
+  where
+    each : sectorCount after ≡ sectorCount image → (j : ℕ) → 1 ≤ count j (indexes layout image) → SoundIndex layout after j
+    each n j there =
+        elim (ℕ-discrete j i) [
+          | yes here ↦ rw here (record { index = rw n (re .index); descriptors = rw (re .files-are, n) (re .descriptors); ascending = rw (re .files-are) (re .ascending) })
+          | no other ↦ other-sound layout image after i (re .elsewhere) j (other-indexed layout image i j indexed other there) n (is .each j there)
+        ]

@@ -1,4 +1,4 @@
--- Sector 1: 128 numbers, each a descriptor's sector, from 2 to n-1. The first zero ends the list and all after it are zero. The last number is zero, so there are at most 127 files.
+-- Sector 1, and in the second edition the index of a directory: 128 numbers, each a descriptor's sector, from 2 to n-1. The first zero ends the list and all after it are zero. The last number is zero, so there are at most 127 files in it.
 use mathlib.Core.Path.{_≡_}
 use mathlib.Core.Bool.{Bool, true, cond, _&&_}
 use mathlib.Core.List.{List, [], _∷_, _++_}
@@ -11,18 +11,18 @@ use Rattle.rules.specs.Bytes.{byteAt, wordBytes, allAre, over}
 unfoldable pub numbers : List ℕ → List ℕ
 numbers [] = []
 numbers (high ∷ []) = []
-numbers (high ∷ (low ∷ sector1)) = cond (eqb (256 * high + low) 0) [] ((256 * high + low) ∷ numbers sector1)
+numbers (high ∷ (low ∷ index)) = cond (eqb (256 * high + low) 0) [] ((256 * high + low) ∷ numbers index)
 
 unfoldable pub rangeRule : ℕ → List ℕ → Bool
 rangeRule n [] = true
 rangeRule n (k ∷ ks) = leb 2 k && (ltb k n && rangeRule n ks)
 
 unfoldable pub indexRule : ℕ → List ℕ → Bool
-indexRule n sector1 =
-    rangeRule n (numbers sector1)
-    && (ltb (length (numbers sector1)) 128 && allAre 0 (drop (2 * length (numbers sector1)) sector1))
+indexRule n index =
+    rangeRule n (numbers index)
+    && (ltb (length (numbers index)) 128 && allAre 0 (drop (2 * length (numbers index)) index))
 
--- sector 1 with those numbers
+-- an index with those numbers
 unfoldable pub numbersBytes : List ℕ → List ℕ
 numbersBytes [] = []
 numbersBytes (k ∷ ks) = wordBytes k ++ numbersBytes ks
@@ -36,7 +36,7 @@ without k [] = []
 without k (j ∷ js) = cond (eqb j k) js (j ∷ without k js)
 
 -- The same as facts.
-pub record IsIndex (n : ℕ) (sector1 : List ℕ) : Type 0 where
-  pub range : (p : ℕ) → p < length (numbers sector1) → (2 ≤ getD (numbers sector1) p 0) × (getD (numbers sector1) p 0 < n)
-  pub few : length (numbers sector1) ≤ 127
-  pub rest : (i : ℕ) → 2 * length (numbers sector1) ≤ i → byteAt sector1 i ≡ 0
+pub record IsIndex (n : ℕ) (index : List ℕ) : Type 0 where
+  pub range : (p : ℕ) → p < length (numbers index) → (2 ≤ getD (numbers index) p 0) × (getD (numbers index) p 0 < n)
+  pub few : length (numbers index) ≤ 127
+  pub rest : (i : ℕ) → 2 * length (numbers index) ≤ i → byteAt index i ≡ 0

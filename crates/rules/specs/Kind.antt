@@ -41,7 +41,7 @@ marking layout status = cond (layout .marks) (withBit status 4 1) status
 
 -- the same layout, by the rule with marks
 abbrev pub withMarks : Layout → Layout
-withMarks layout = record { marks = true }
+withMarks layout = record { marks = true; directories = layout .directories }
 
 -- a program's length in bytes, of its c sectors: end offset 0 means a full last sector
 unfoldable pub programLength : ℕ → ℕ → ℕ

@@ -8,6 +8,7 @@ pub mod Chain
 pub mod Kind
 pub mod Descriptor
 pub mod Index
+pub mod Directory
 pub mod Volume
 pub mod Tests
 pub mod Verdict

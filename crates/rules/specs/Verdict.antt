@@ -10,7 +10,8 @@ use Rattle.rules.specs.Label.{labelRule}
 use Rattle.rules.specs.Map.{count, mapRule}
 use Rattle.rules.specs.Descriptor.{descriptorRule}
 use Rattle.rules.specs.Index.{indexRule}
-use Rattle.rules.specs.Volume.{files, nameIn, holders}
+use Rattle.rules.specs.Directory.{entries, entriesRule}
+use Rattle.rules.specs.Volume.{indexes, every, filesIn, nameIn, holders}
 use Rattle.rules.specs.Tests.{Test, refuse, firstOf}
 use Rattle.rules.specs.declared.Layout.{Layout}
 
@@ -32,11 +33,12 @@ heldTwice (h ∷ hs) = ltb 0 (count h hs) || heldTwice hs
 unfoldable pub volumeTests : Layout → List ℕ → List Test
 volumeTests layout image =
     let n = sectorCount image in
+    let is = indexes layout image in
     refuse 1 (not (sizeRule image))
     ∷ (refuse 2 (not (labelRule n (sectorOf image 0)))
-    ∷ (refuse 3 (not (indexRule n (sectorOf image 1)))
-    ∷ (refuse 4 (not (descriptorsRule layout n image [] (files image)))
-    ∷ (refuse 5 (heldTwice (holders image)) ∷ (refuse 6 (not (mapRule n (holders image) (sectorOf image 0))) ∷ [])))))
+    ∷ (refuse 3 (not (entriesRule n (entries layout (sectorOf image 0)) && every (λ i. indexRule n (sectorOf image i)) is))
+    ∷ (refuse 4 (not (every (λ i. descriptorsRule layout n image [] (filesIn image i)) is))
+    ∷ (refuse 5 (heldTwice (holders layout image)) ∷ (refuse 6 (not (mapRule n (holders layout image) (sectorOf image 0))) ∷ [])))))
 
 unfoldable pub verdict : Layout → List ℕ → ℕ
 verdict layout image = firstOf (volumeTests layout image)

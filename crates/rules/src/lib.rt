@@ -1,9 +1,11 @@
 // The value types of the rules. What they mean is said in specs/, which holds the paper as definitions;
 // proofs/ holds the laws about them.
 
-// The rules that an image is read by: whether status bit 10 hex is the backup mark, "changed since backup", or forbidden.
+// The rules that an image is read by: whether status bit 10 hex is the backup mark, "changed since backup", or forbidden; and
+// whether sector 0 has entries of directories, as in the second edition, or bytes that are carried there, as in the first.
 pub struct Layout {
     pub marks: bool,
+    pub directories: bool,
 }
 
 // A block of a chain: its first sector, and the last offset in the file that it covers.
@@ -92,11 +94,11 @@ pub struct Entry {
     pub row: Row,
 }
 
-// A file that a call names: its place in the catalogue and its descriptor's sector; absent; or not looked for, with the number of the
-// refusal or, for 7, with the place where the name is wrong.
+// A file that a call names: the sector of the index that lists it, its place there and its descriptor's sector; absent from the index
+// in that sector; or not looked for, with the number of the refusal or, for 7, with the place where the name is wrong.
 pub enum Opened {
-    At(usize, usize),
-    Absent,
+    At(usize, usize, usize),
+    Absent(usize),
     Refused(u32),
     Misnamed(usize),
 }

@@ -1,2 +1,3 @@
--- The walk over the numbers of sector 1.
+-- The walks over the numbers of an index, and over the directories.
 pub mod Numbers
+pub mod Directories

@@ -15,8 +15,8 @@ use Rattle.rules.specs.Chain.{blocks, places, blocksBytes}
 use Rattle.rules.specs.Kind.{sectorsFor, marking}
 use Rattle.rules.specs.Descriptor.{newDescriptor, chainOf, withChain}
 use Rattle.rules.specs.Index.{indexOf}
-use Rattle.rules.specs.Volume.{files, placed}
-use Rattle.rules.specs.Sound.{Sound}
+use Rattle.rules.specs.Volume.{filesIn, placed}
+use Rattle.rules.specs.Sound.{IsIndexed, Sound}
 use Rattle.rules.specs.Choice.{descriptorChoice}
 use Rattle.rules.specs.Outcome.{write}
 use Rattle.rules.specs.Calls.Create.{entered}
@@ -83,8 +83,8 @@ module _ (image name bytes : List ℕ) (k many : ℕ) (chosen : k ≡ descriptor
     program-written layout one two descriptor one-is two-is descriptor-is =
         rw (two-is, one-is, descriptor-is, is .places-are, is .blocks-are, is .map, chosen, so-many) (written-both image (dataWrites bytes (newSectors image (sectorsFor (length bytes)))) _)
 
--- and then entered: all its sectors were free
-module _ (layout : Layout) (image name bytes : List ℕ) (whole : Sound layout image) (ten : length name ≡ 10) (room : 1 + sectorsFor (length bytes) ≤ freeCount (sectorOf image 0)) where
+-- and then entered into index i: all its sectors were free
+module _ (layout : Layout) (image : List ℕ) (i : ℕ) (name bytes : List ℕ) (whole : Sound layout image) (indexed : IsIndexed layout image i) (ten : length name ≡ 10) (room : 1 + sectorsFor (length bytes) ≤ freeCount (sectorOf image 0)) where
   descriptor-long : length (programDescriptor layout image name bytes) ≡ 256
   unfolding programDescriptor
   descriptor-long = with-chain-length _ (sectorsFor (length bytes)) (newBlocks image (sectorsFor (length bytes))) ∙ new-length name (marking layout 0x01) 0 (length bytes % 256) 0 ten
@@ -94,10 +94,10 @@ module _ (layout : Layout) (image name bytes : List ℕ) (whole : Sound layout i
   map-long = all-length 1 (sectorOf image 0) _ ∙ label-long layout image whole
 
   pub program-entered : (k : ℕ) → k ≡ descriptorChoice (sectorOf image 0) → (there after : List ℕ) → there ≡ written image (programWrites layout image name bytes)
-      → after ≡ written there (write 1 (indexOf (placed there name k (files there))) ∷ [])
-      → after ≡ written image (dataWrites bytes (newSectors image (sectorsFor (length bytes))) ++ entered image name (descriptorChoice (sectorOf image 0)) (programDescriptor layout image name bytes) (programMap image bytes))
+      → after ≡ written there (write i (indexOf (placed there name k (filesIn there i))) ∷ [])
+      → after ≡ written image (dataWrites bytes (newSectors image (sectorsFor (length bytes))) ++ entered image i name (descriptorChoice (sectorOf image 0)) (programDescriptor layout image name bytes) (programMap image bytes))
   unfolding programWrites newSectors
   program-entered k chosen there after there-is after-is =
-      written-entered layout image name bytes (descriptorChoice (sectorOf image 0)) (newSectors image (sectorsFor (length bytes))) (programDescriptor layout image name bytes) (programMap image bytes) whole
+      written-entered layout image i name bytes (descriptorChoice (sectorOf image 0)) (newSectors image (sectorsFor (length bytes))) (programDescriptor layout image name bytes) (programMap image bytes) whole indexed
       (new-free (sectorCount image) (sectorOf image 0) (sectorsFor (length bytes)) (label-long layout image whole) (sound-fenced layout image whole) room) descriptor-long map-long there after there-is
-      (after-is ∙ ap (λ (j : ℕ). written there (write 1 (indexOf (placed there name j (files there))) ∷ [])) chosen)
+      (after-is ∙ ap (λ (j : ℕ). written there (write i (indexOf (placed there name j (filesIn there i))) ∷ [])) chosen)

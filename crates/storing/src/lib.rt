@@ -12,7 +12,7 @@ ghost use Rattle.rules.specs.Name.{nameRule, wrongPlace};
 ghost use Rattle.rules.specs.Chain.{places};
 ghost use Rattle.rules.specs.Kind.{sectorsFor, marking};
 ghost use Rattle.rules.specs.Descriptor.{newDescriptor};
-ghost use Rattle.rules.specs.Sound.{Sound};
+ghost use Rattle.rules.specs.Sound.{IsIndexed, Sound};
 ghost use Rattle.rules.specs.Choice.{descriptorChoice};
 ghost use Rattle.rules.specs.Outcome.{NamedSays, Meets};
 ghost use Rattle.rules.specs.Calls.Store.{dataWrites, newBlocks, storing, storeOf};
@@ -135,16 +135,16 @@ fn write_program(
     true
 }
 
-// On a sound volume, under a name that keeps the rule and is not there.
-fn store_new(layout: Layout, image: &mut [u8], name: &[u8], bytes: &[u8]) -> NamedAnswer
-    requires { ⌜ Sound layout (now image) × (nameRule (now name) ≡ true) ⌝ }
-    ensures { λ r. ⌜ Meets (NamedSays None) (storing layout (now (image .entry)) (now (name .entry)) (now (bytes .entry))) r (now (image .entry)) (now (image .exit)) ⌝ }
+// On a sound volume, under a name that keeps the rule and is not there in the index in sector i.
+fn store_new(layout: Layout, image: &mut [u8], i: usize, name: &[u8], bytes: &[u8]) -> NamedAnswer
+    requires { ⌜ Sound layout (now image) × IsIndexed layout (now image) i × (nameRule (now name) ≡ true) ⌝ }
+    ensures { λ r. ⌜ Meets (NamedSays None) (storing layout (now (image .entry)) (now (name .entry)) (now (bytes .entry)) i) r (now (image .entry)) (now (image .exit)) ⌝ }
 {
     if bytes.len() > 32768 {
         return NamedAnswer::Refused(15);
     }
-    // the 127th number of sector 1
-    if word(image, 508) != 0 {
+    // the 127th number of the index
+    if word(sector_of(image, i), 252) != 0 {
         return NamedAnswer::Refused(11);
     }
     let many = (bytes.len() + 255) / 256;
@@ -155,18 +155,24 @@ fn store_new(layout: Layout, image: &mut [u8], name: &[u8], bytes: &[u8]) -> Nam
     if !write_program(layout, image, k, name, many, bytes) {
         return NamedAnswer::Refused(13);
     }
-    enter(image, name, k);
+    enter(image, i, name, k);
     NamedAnswer::Done
 }
 
-pub fn store(layout: Layout, image: &mut [u8], name: &[u8], bytes: &[u8]) -> NamedAnswer
-    ensures { λ r. ⌜ Meets (NamedSays (wrongPlace (now (name .entry)))) (storeOf layout (now (image .entry)) (now (name .entry)) (now (bytes .entry))) r (now (image .entry)) (now (image .exit)) ⌝ }
+pub fn store(
+    layout: Layout,
+    image: &mut [u8],
+    directory: usize,
+    name: &[u8],
+    bytes: &[u8],
+) -> NamedAnswer
+    ensures { λ r. ⌜ Meets (NamedSays (wrongPlace (now (name .entry)))) (storeOf layout (now (image .entry)) directory (now (name .entry)) (now (bytes .entry))) r (now (image .entry)) (now (image .exit)) ⌝ }
 {
-    let opened = find(layout, image, name);
+    let opened = find(layout, image, directory, name);
     match opened {
         Opened::Refused(number) => NamedAnswer::Refused(number),
         Opened::Misnamed(place) => NamedAnswer::Misnamed(place),
-        Opened::At(_, _) => NamedAnswer::Refused(9),
-        Opened::Absent => store_new(layout, image, name, bytes),
+        Opened::At(_, _, _) => NamedAnswer::Refused(9),
+        Opened::Absent(i) => store_new(layout, image, i, name, bytes),
     }
 }

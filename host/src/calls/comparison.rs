@@ -5,8 +5,9 @@ use crate::comparison::Part;
 use crate::layout::Layout;
 use crate::outside::Outside;
 use crate::random::Random;
-use crate::suites::{Batch, Image};
-use crate::table::{self, calls_in, compared, Arguments, Call, Desk, Meeting, CALLS, SINGLE};
+use crate::suites::{Batch, Image, Numbers};
+use crate::table::{self, calls_in, compared, Arguments, Call, Desk, Meeting};
+use crate::table::{CALLS, LAYOUTS_MET, SINGLE};
 use crate::tally::Tally;
 use crate::volumes::{Disk, MOST_SECTORS, SECTOR_BYTES};
 use std::collections::BTreeMap;
@@ -21,9 +22,6 @@ const CHANGES: usize = 60;
 const MET: &[Meeting] = &[
     ("unsound image and bad name", |case| case.is_unsound() && case.due.contains(&7)),
     ("unsound image and short buffer", |case| case.is_unsound() && case.due.contains(&15)),
-    ("volume with a mark by the old rule", |case| {
-        case.number == 4 && case.asked.image.planned.is_some()
-    }),
     ("volume with a mark by the new rule", |case| {
         case.is_done() && case.asked.disk().map_or(false, Disk::is_marked)
     }),
@@ -51,7 +49,12 @@ impl Part for Calls {
 
     fn new() -> Self {
         let (buffer, on_outside) = (Vec::new(), BTreeMap::new());
-        Calls { tally: Tally::of(calls_in(SINGLE), MET), buffer, outside: 0, on_outside }
+        Calls {
+            tally: Tally::of(calls_in(SINGLE), &[MET, LAYOUTS_MET]),
+            buffer,
+            outside: 0,
+            on_outside,
+        }
     }
 
     fn begin(&mut self, random: &mut Random) -> Result<(), String> {
@@ -73,14 +76,16 @@ impl Part for Calls {
     /// All that can be read of it.
     fn on_outside(&mut self, outside: &Outside, random: &mut Random) -> Result<(), String> {
         let image = Image::of_outside(outside);
-        let files = outside::files(&outside.image);
         self.outside += 1;
         for (call, reading) in CALLS.iter().filter_map(|call| Some((call, call.reading()?))) {
-            for arguments in (reading.all)(&files) {
-                for layout in Layout::BOTH {
-                    let arguments = arguments.clone().by(layout, random);
-                    self.call(call, &arguments, &image, random)?;
-                    *self.on_outside.entry(call.title).or_default() += 1;
+            for layout in Layout::ALL {
+                for directory in outside::directories(&outside.image, call, layout) {
+                    let files = outside::files(&outside.image, layout, directory);
+                    for arguments in (reading.all)(&files) {
+                        let arguments = Arguments { directory, ..arguments }.by(layout, random);
+                        self.call(call, &arguments, &image, random)?;
+                        *self.on_outside.entry(call.title).or_default() += 1;
+                    }
                 }
             }
         }
@@ -107,8 +112,8 @@ impl Calls {
         batch.each_image(&mut buffer, |image| {
             let (disk, image_bytes) = (&batch.disk, image.bytes.len());
             for _ in 0..image.planned.map_or(1, calls_as_planned) {
-                let layout = any_layout(disk, random);
-                let desk = Desk { disk, layout, image_bytes, pool: &[] };
+                let (layout, directory) = (any_layout(disk, random), 0);
+                let desk = Desk { disk, layout, directory, image_bytes, pool: &[] };
                 let (call, arguments) = table::any(SINGLE, &desk, random);
                 self.call(call, &arguments, image, random)?;
             }
@@ -132,10 +137,13 @@ impl Calls {
 
 /// Mostly one by which the disk is sound.
 fn any_layout(disk: &Disk, random: &mut Random) -> Layout {
-    if disk.is_marked() && !random.once_in(6) {
-        Layout::MARKS
+    let sound = Numbers::of_sound(disk);
+    let sound: Vec<Layout> =
+        Layout::ALL.into_iter().filter(|layout| sound.by(*layout) == Some(0)).collect();
+    if sound.is_empty() || random.once_in(6) {
+        random.pick(&Layout::ALL)
     } else {
-        random.pick(&Layout::BOTH)
+        random.pick(&sound)
     }
 }
 

@@ -4,27 +4,44 @@ use crate::layout::Layout;
 use crate::outside::Outside;
 use crate::pnoelithe::{self, Refusal};
 use crate::reference;
-use crate::table::Listed;
+use crate::table::{Call, Listed};
+use crate::volumes::MOST_DIRECTORIES;
 
-/// The files of a volume, by the reference: names and numbers of sectors. Of an image that is sound
-/// by neither rule, none.
-pub(super) fn files(image: &[u8]) -> Vec<Listed> {
+/// The files of a directory, by the reference: names and numbers of sectors. Of an image that is
+/// sound by neither rule, and of a directory that is not there, none.
+pub(super) fn files(image: &[u8], layout: Layout, directory: usize) -> Vec<Listed> {
     let file = |(_, file): (usize, reference::Descriptor)| (*file.name(), file.sectors());
-    let volume = reference::judge(image, Layout::MARKS);
-    volume.map_or(Vec::new(), |volume| volume.files().map(file).collect())
+    let volume = reference::judge(image, layout.with_marks()).ok();
+    let directory = volume.and_then(|volume| volume.directory(directory));
+    directory.map_or(Vec::new(), |directory| directory.files().map(file).collect())
+}
+
+/// The directories in which a call looks: the root, and one further than the last that is there.
+pub(super) fn directories(image: &[u8], call: &Call, layout: Layout) -> Vec<usize> {
+    let volume = reference::judge(image, layout.with_marks()).ok();
+    let is_there =
+        |number: &usize| volume.map_or(false, |volume| volume.directory(*number).is_some());
+    let last = (0..=MOST_DIRECTORIES).filter(is_there).last().unwrap_or(0);
+    if call.in_directory {
+        (0..=last + 1).collect()
+    } else {
+        vec![0]
+    }
 }
 
 /// Holds what the library and the reference make of an image to the texts beside it.
 pub(super) fn texts(outside: &Outside) -> Result<(), String> {
-    Layout::BOTH.into_iter().try_for_each(|layout| texts_by(layout, outside))
+    Layout::ALL.into_iter().try_for_each(|layout| texts_by(layout, outside))
 }
 
 fn texts_by(layout: Layout, outside: &Outside) -> Result<(), String> {
     let Outside { name, image, rows, programs, .. } = outside;
-    let (rows, program) = (rows.by(layout), programs.by(layout));
+    // The programs go by the first edition.
+    let program = programs.by(layout).filter(|_| !layout.directories);
+    let rows = rows.by(layout);
     let printed = reference::catalogue(image, layout);
     let texts = [
-        ("listing by the library", rows, text(pnoelithe::catalogue(image, layout.for_host()))),
+        ("listing by the library", rows, text(pnoelithe::catalogue(image, layout.for_host(), 0))),
         (
             "summary and entries by the library",
             rows,
@@ -53,7 +70,7 @@ fn summary_and_entries(image: &[u8], layout: pnoelithe::Layout) -> Result<String
     for place in 0..files {
         let mut header = [0; pnoelithe::HEADER_BYTES];
         let pnoelithe::Entry { kind, sectors, is_protected } =
-            pnoelithe::entry(image, layout, place, &mut header)?;
+            pnoelithe::entry(image, layout, 0, place, &mut header)?;
         let (name, length) = (unpadded(&header[..10]), kind.length());
         let protection = if is_protected { 'P' } else { 'U' };
         let mark = match (layout.marks, header[12] & 0x10) {

@@ -7,7 +7,8 @@ use crate::volumes::{Disk, File, Name, Run, HEADER_BYTES, SECTOR_BYTES};
 
 pub(super) fn cases(random: &mut Random) -> Result<(), String> {
     let image = case_m(random).image;
-    let lists = |layout, text: &str| pnoelithe::catalogue(&image, layout) == Ok(text.to_string());
+    let lists =
+        |layout, text: &str| pnoelithe::catalogue(&image, layout, 0) == Ok(text.to_string());
     all_shown(&[
         ("case M", lists(Layout::OLD, CASE_M)),
         ("case M by the new rule", lists(Layout::MARKS, CASE_M_UNMARKED)),
@@ -46,12 +47,16 @@ fn case_m(random: &mut Random) -> Disk {
     let alpha = header(b"ALPHA     ", 0x01, 2, 44, 0);
     let notes = header(b"NOTES     ", 0x80, 1, 0, 80);
     let files = vec![
-        File { descriptor: 2, header: alpha, runs: vec![Run { start: 34, length: 2 }] },
-        File { descriptor: 3, header: notes, runs: vec![Run { start: 36, length: 1 }] },
+        file(2, alpha, Run { start: 34, length: 2 }),
+        file(3, notes, Run { start: 36, length: 1 }),
     ];
     let mut disk = Disk::of_files(64, files, random);
     disk.image[..10].copy_from_slice(b"SHELF     ");
     disk
+}
+
+fn file(descriptor: usize, header: [u8; HEADER_BYTES], run: Run) -> File {
+    File { directory: 0, descriptor, header, runs: vec![run] }
 }
 
 fn header(name: &Name, status: u8, count: u8, end: u8, record_length: u8) -> [u8; HEADER_BYTES] {

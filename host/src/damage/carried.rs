@@ -3,12 +3,15 @@
 
 use super::{in_descriptor, Damage};
 use crate::random::Random;
-use crate::volumes::{File, MARK, SECTOR_BYTES};
+use crate::volumes::{File, ENTRIES, MAP, MARK, SECTOR_BYTES};
 
 impl Damage<'_> {
     pub(super) fn carried(&mut self, random: &mut Random) {
         self.put("sectors per track", 0, 12, &random.bytes(1));
-        self.put("label's carried bytes", 0, 16, &random.bytes(40));
+        let by_all = ENTRIES - 16;
+        let carried = if self.disk.has_directories() { by_all } else { MAP - 16 };
+        self.put("label's carried bytes", 0, 16, &random.bytes(by_all));
+        self.put("label's carried bytes", 0, 16, &random.bytes(carried));
         for sector in self.disk.free() {
             if random.once_in(200) {
                 self.put("free sector", 0, SECTOR_BYTES * sector, &random.bytes(SECTOR_BYTES));

@@ -1,8 +1,9 @@
 //! Changes that may break anything, and several faults at once.
 
-use super::{edit, in_descriptor, Change, Damage, INDEX, INDEX_PLACES};
+use super::editions::of_both;
+use super::{edit, in_descriptor, Change, Damage, INDEX_PLACES};
 use crate::random::Random;
-use crate::volumes::{word, HEADER_BYTES, SECTOR_BYTES};
+use crate::volumes::{word, ENTRIES, HEADER_BYTES, MAP, SECTOR_BYTES};
 
 impl Damage<'_> {
     pub(super) fn bytes_at_random(&mut self, random: &mut Random) {
@@ -15,17 +16,16 @@ impl Damage<'_> {
             let edits = edits.collect();
             self.keep("bytes at random", None, edits);
         }
-        for sector in 0..2 {
-            self.keep(
-                "random sector",
-                None,
-                vec![edit(SECTOR_BYTES * sector, &random.bytes(SECTOR_BYTES))],
-            );
+        let index = self.index(random.pick(&self.disk.numbers()));
+        for at in [0, index] {
+            self.keep("random sector", None, vec![edit(at, &random.bytes(SECTOR_BYTES))]);
         }
+        let entries = random.bytes(MAP - ENTRIES);
+        self.keep_entries("random entries", 3, vec![edit(ENTRIES, &entries)]);
         let numbers = (0..INDEX_PLACES - 1).map(|_| word(random.within(2..=self.disk.sectors - 1)));
-        let mut index: Vec<u8> = numbers.flatten().collect();
-        index.truncate(2 * random.within(1..=INDEX_PLACES - 1));
-        self.keep("index of random numbers", None, vec![edit(INDEX, &index)]);
+        let mut numbers: Vec<u8> = numbers.flatten().collect();
+        numbers.truncate(2 * random.within(1..=INDEX_PLACES - 1));
+        self.keep("index of random numbers", None, vec![edit(index, &numbers)]);
         if let Some(file) = self.some_file(random) {
             let at = in_descriptor(file, 0);
             self.keep("random descriptor", None, vec![edit(at, &random.bytes(SECTOR_BYTES))]);
@@ -37,13 +37,13 @@ impl Damage<'_> {
         }
     }
 
-    /// A byte of sector 0, sector 1 or a descriptor.
+    /// A byte of sector 0, an index or a descriptor.
     fn judged_byte(&self, random: &mut Random) -> usize {
+        let directory = random.pick(&self.disk.numbers());
         let sector = match (random.below(4), self.some_file(random)) {
             (0, _) => 0,
-            (1, _) => 1,
-            (_, Some(file)) => file.descriptor,
-            (_, None) => 1,
+            (2 | 3, Some(file)) => file.descriptor,
+            _ => self.disk.index_of(directory),
         };
         SECTOR_BYTES * sector + random.below(SECTOR_BYTES)
     }
@@ -54,28 +54,33 @@ impl Damage<'_> {
             self.changes.iter().filter(|change| stays(change)).cloned().collect();
         for _ in 0..30 {
             let (one, other) = (random.below(single.len()), random.below(single.len()));
-            self.changes.extend(both(&single[one], &single[other]));
+            self.changes.extend(self.both(&single[one], &single[other]));
         }
+    }
+
+    fn both(&self, one: &Change, other: &Change) -> Option<Change> {
+        let apart = one.edits.iter().all(|edit| !other.edits.iter().any(|also| edit.meets(also)));
+        if one.number >= other.number || !apart {
+            return None;
+        }
+        let (what, number) = ("several faults", one.number);
+        let edits = [&one.edits[..], &other.edits[..]].concat();
+        let by_both = of_both(one.by_other, other.by_other).filter(|_| self.disk.has_directories());
+        let by_other = by_both.or_else(|| self.roles.by_other(self.disk, number, &edits));
+        // Only faults of number 1 and 2 change the length, so the other's is the disk's own or is
+        // of no account beside number 1.
+        Some(Change { what, number, by_other, edits, length: one.length })
     }
 }
 
-/// Whether a fault goes with others: not where number 6 comes of a file taken away or moved, which
-/// may take another fault with it.
+/// Whether a fault goes with others: not where number 6 comes of a file taken away or moved, or a
+/// later one than 3 of a directory that is elsewhere, which may take another fault with it.
 fn stays(change: &Change) -> bool {
+    let is_of_entries = change.edits.iter().any(|edit| edit.touches(&(ENTRIES..MAP)));
     match change.number {
+        Some(4..=6) if is_of_entries => false,
         Some(6) => change.edits.iter().all(|edit| edit.at < SECTOR_BYTES),
         Some(number) => number > 0,
         None => false,
     }
-}
-
-fn both(one: &Change, other: &Change) -> Option<Change> {
-    let apart = one.edits.iter().all(|edit| !other.edits.iter().any(|also| edit.meets(also)));
-    if one.number >= other.number || !apart {
-        return None;
-    }
-    let edits = [&one.edits[..], &other.edits[..]].concat();
-    // Only faults of number 1 and 2 change the length, so the other's is the disk's own or is
-    // of no account beside number 1.
-    Some(Change { what: "several faults", number: one.number, edits, length: one.length })
 }

@@ -1,14 +1,15 @@
 //! Number 4 but for the chain: names and their order, status, the end offset of a program without
 //! sectors, the number of sectors.
 
-use super::{changed_names, edit, in_descriptor, Damage, INDEX};
+use super::{changed_names, edit, in_descriptor, Damage};
 use crate::random::Random;
 use crate::volumes::{is_name, word, File, Name, DATA_STATUS, MARK, PROGRAM_STATUS};
 
 impl Damage<'_> {
     pub(super) fn file_name(&mut self, file: &File, random: &mut Random) {
         for changed in changed_names(file.name(), random) {
-            let names = self.disk.files.iter().map(|other| match other.descriptor {
+            let listed = self.disk.files_in(file.directory);
+            let names = listed.map(|other| match other.descriptor {
                 own if own == file.descriptor => changed,
                 _ => other.name(),
             });
@@ -44,14 +45,14 @@ impl Damage<'_> {
         self.put("number of sectors low byte first", 4, at, &[low, high]);
     }
 
-    pub(super) fn order_of_names(&mut self, random: &mut Random) {
-        let files = &self.disk.files;
+    pub(super) fn order_of_names(&mut self, directory: usize, random: &mut Random) {
+        let files: Vec<&File> = self.disk.files_in(directory).collect();
         if files.len() < 2 {
             return;
         }
         for place in [0, files.len() - 2, random.below(files.len() - 1)] {
-            let (file, next) = (&files[place], &files[place + 1]);
-            let at = INDEX + 2 * place;
+            let (file, next) = (files[place], files[place + 1]);
+            let at = self.in_index(file);
             let (own, other) = (word(file.descriptor), word(next.descriptor));
             self.put("numbers swapped", 4, at, &[other, own].concat());
             self.put("number repeated", 4, at + 2, &own);
@@ -62,7 +63,7 @@ impl Damage<'_> {
             self.keep("names swapped", Some(4), swapped);
         }
         let first = word(files[0].descriptor);
-        let last = INDEX + 2 * files.len() - 2;
+        let last = self.in_index(files[files.len() - 1]);
         self.put("first number again as the last", 4, last, &first);
     }
 }

@@ -16,8 +16,9 @@ impl Damage<'_> {
         } else {
             1
         };
-        let what = "length of the image";
-        self.changes.push(Change { what, number: Some(number), edits: Vec::new(), length });
+        let (what, number) = ("length of the image", Some(number));
+        let by_other = self.roles.by_other(self.disk, number, &[]);
+        self.changes.push(Change { what, number, by_other, edits: Vec::new(), length });
     }
 
     pub(super) fn lengths(&mut self, random: &mut Random) {

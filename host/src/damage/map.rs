@@ -1,8 +1,8 @@
 //! Number 6: the map beside its holders, either of them changed.
 
-use super::{edit, in_chain, Damage, INDEX, MAP};
+use super::{edit, in_chain, Damage};
 use crate::random::Random;
-use crate::volumes::{block, word, File, MOST_SECTORS, SECTOR_BYTES};
+use crate::volumes::{block, word, File, MAP, MOST_SECTORS, SECTOR_BYTES};
 
 impl Damage<'_> {
     pub fn map_bit(&mut self, sector: usize) {
@@ -35,8 +35,8 @@ impl Damage<'_> {
 
     /// The map as it was, with a file less, a file moved or a file grown.
     pub(super) fn other_holders(&mut self, file: &File, random: &mut Random) {
-        let last = INDEX + 2 * self.disk.files.len() - 2;
-        self.put("last file not listed", 6, last, &[0, 0]);
+        let last = self.disk.files_in(file.directory).last().unwrap_or(file);
+        self.put("last file not listed", 6, self.in_index(last), &[0, 0]);
         let free = self.disk.free();
         if free.is_empty() {
             return;
@@ -52,9 +52,7 @@ impl Damage<'_> {
     }
 
     fn descriptor_elsewhere(&mut self, file: &File, free: usize) {
-        let place = self.disk.files.iter().position(|other| other.descriptor == file.descriptor);
-        let number = INDEX + 2 * place.expect("a file of the disk");
-        let listed = edit(number, &word(free));
+        let listed = edit(self.in_index(file), &word(free));
         let moved = vec![listed.clone(), edit(SECTOR_BYTES * free, &file.described())];
         self.keep("descriptor moved to a free sector", Some(6), moved);
         let formatted = vec![listed, edit(SECTOR_BYTES * free, &[0xE5; SECTOR_BYTES])];

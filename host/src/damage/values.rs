@@ -1,6 +1,6 @@
 //! Every value of a field, one after the other.
 
-use super::{edit, in_chain, in_descriptor, Damage, INDEX};
+use super::{edit, in_chain, in_descriptor, Damage};
 use crate::volumes::{is_name, File, HEADER_BYTES, MOST_BLOCKS, SECTOR_BYTES};
 
 const VALUE: &str = "value of a byte";
@@ -40,10 +40,11 @@ impl Damage<'_> {
     }
 
     /// A bit of the listed numbers, or of the zero after them, may leave numbers in range.
-    pub fn every_index_bit(&mut self) {
-        let end = INDEX + 2 * self.disk.files.len() + 2;
-        for at in INDEX..2 * SECTOR_BYTES {
-            let last = at >= 2 * SECTOR_BYTES - 2;
+    pub fn every_index_bit(&mut self, directory: usize) {
+        let (index, files) = (self.index(directory), self.disk.files_in(directory).count());
+        let (end, index_end) = (index + 2 * files + 2, index + SECTOR_BYTES);
+        for at in index..index_end {
+            let last = at >= index_end - 2;
             let number = if at < end && !last { None } else { Some(3) };
             self.every_bit("bit of the index", at, number);
         }

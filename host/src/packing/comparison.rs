@@ -6,11 +6,12 @@ use super::paper;
 use super::tally::{self, LEFT_BY_CALLS, RELAID};
 use super::twins::{relaid, Difference};
 use crate::comparison::Part;
+use crate::directories::planned;
 use crate::layout::Layout;
 use crate::outside::Outside;
 use crate::random::Random;
 use crate::sequences::{built, damaged, left_by_calls};
-use crate::suites::Image;
+use crate::suites::{Image, Numbers};
 use crate::table::plan::{numbers_of, of_image};
 use crate::tally::Tally;
 use crate::volumes::{Disk, MOST_SECTORS, SECTOR_BYTES};
@@ -37,9 +38,11 @@ impl Part for Packs {
     }
 
     fn on_volume_of(&mut self, sectors: usize, random: &mut Random) -> Result<(), String> {
-        let layout = random.pick(&Layout::BOTH);
+        let layout = random.pick(&Layout::ALL);
         if random.once_in(20) {
-            let disk = Disk::of_files(sectors, Vec::new(), random);
+            let disk = planned(sectors, layout.directories, random, |sectors, _, random| {
+                Disk::of_files(sectors, Vec::new(), random)
+            });
             return self.volume("empty disk", &disk, layout, random);
         }
         if !random.once_in(6) {
@@ -52,10 +55,10 @@ impl Part for Packs {
     }
 
     fn on_outside(&mut self, outside: &Outside, random: &mut Random) -> Result<(), String> {
-        for layout in Layout::BOTH {
+        for layout in Layout::ALL {
             let (source, length) = (Image::of_outside(outside), outside.image.len());
             match of_image(&outside.image) {
-                Some(disk) if layout.marks || !disk.is_marked() => {
+                Some(disk) if Numbers::of_sound(&disk).by(layout) == Some(0) => {
                     self.volume(&outside.name, &disk, layout, random)?;
                 }
                 _ => drop(self.pack(&source, length, layout, random)?),
@@ -95,6 +98,11 @@ impl Packs {
             let length = other_length(disk.image.len(), random);
             let _ = self.pack(&Image::as_planned(what, disk), length, layout, random)?;
         }
+        if random.once_in(3) {
+            // By another layout it may be unsound, or packed as something else.
+            let by = random.pick(&Layout::ALL);
+            let _ = self.pack(&Image::as_planned(what, disk), disk.image.len(), by, random)?;
+        }
         self.unsound(&source, random)
     }
 
@@ -111,7 +119,7 @@ impl Packs {
     /// A catalogue or a label area that differs in one thing packs to other bytes.
     fn changed(&mut self, source: &Source, random: &mut Random) -> Result<(), String> {
         let difference = Difference::any(source.layout, random);
-        let mut other = match difference.of(source.disk, random) {
+        let mut other = match difference.of(source.disk, source.layout, random) {
             Some(other) => other,
             None => return Ok(()),
         };

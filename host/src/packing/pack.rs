@@ -48,11 +48,22 @@ fn not_kept(
     random: &mut Random,
 ) -> Option<&'static str> {
     let number = reference::number(packed, layout);
-    let listed = |image| pnoelithe::catalogue(image, layout.for_host());
+    let listed = |image| {
+        let host = layout.for_host();
+        [0, 1, 2, 3, 4].map(|directory| pnoelithe::catalogue(image, host, directory))
+    };
+    let label = |image: &[u8]| {
+        let mut label = image[..56].to_vec();
+        if layout.directories {
+            // The label area is read without the three sector numbers.
+            [30, 42, 54].into_iter().for_each(|number| label[number..number + 2].fill(0));
+        }
+        label
+    };
     let rules = [
         (number == 0, "is not sound"),
-        (source[..56] == packed[..56], "has another label area"),
-        (Shelf::of(source).is_on(packed, layout), "has another catalogue"),
+        (label(source) == label(packed), "has another label area"),
+        (Shelf::of(source, layout).is_on(packed, layout), "has another catalogue"),
         (listed(source) == listed(packed), "is listed otherwise"),
         (
             number != 0 || is_left_by_packing(packed, layout, random),

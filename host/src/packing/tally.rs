@@ -3,7 +3,7 @@
 use super::twins::Difference;
 use crate::table::{Case, Meeting, PACK};
 use crate::tally::Tally;
-use crate::volumes::{Disk, File, MOST_BLOCKS, MOST_FILES, SECTOR_BYTES};
+use crate::volumes::{Disk, File, Name, MOST_BLOCKS, MOST_FILES, SECTOR_BYTES};
 
 pub(super) const LEFT_BY_CALLS: &str = "volume left by calls packed";
 pub(super) const RELAID: &str = "laid out otherwise: the same bytes";
@@ -13,6 +13,33 @@ const MET: &[Meeting] = &[
     ("empty volume packed", |case| packs(case, |disk| disk.files.is_empty())),
     ("full volume packed", |case| packs(case, |disk| disk.free().is_empty())),
     ("volume of 127 files packed", |case| packs(case, |disk| disk.files.len() == MOST_FILES)),
+    ("volume with directories packed", |case| packs(case, Disk::has_directories)),
+    ("volume with three directories packed", |case| packs(case, |disk| disk.numbers().len() == 4)),
+    ("volume with an absent entry before a directory packed", |case| {
+        packs(case, |disk| {
+            let [one, two, three] = disk.directories.map(|directory| directory.is_some());
+            three && !(one && two) || two && !one
+        })
+    }),
+    ("volume with a directory without files packed", |case| {
+        packs(case, |disk| {
+            disk.numbers()[1..].iter().any(|number| disk.files_in(*number).count() == 0)
+        })
+    }),
+    ("volume with a directory of 127 files packed", |case| {
+        packs(case, |disk| {
+            disk.numbers()[1..].iter().any(|number| disk.files_in(*number).count() == MOST_FILES)
+        })
+    }),
+    ("volume of more than 127 files packed", |case| {
+        packs(case, |disk| disk.files.len() > MOST_FILES)
+    }),
+    ("volume with one name in several directories packed", |case| packs(case, has_shared_name)),
+    ("volume with directories by the first edition", |case| {
+        let disk = case.asked.image.planned;
+        let is_second = !case.asked.by.directories && disk.map_or(false, Disk::has_directories);
+        case.number == 6 && is_second
+    }),
     ("volume with remains in free sectors packed", |case| packs(case, has_remains)),
     ("empty volume with remains packed", |case| {
         packs(case, |disk| disk.files.is_empty() && has_remains(disk))
@@ -50,6 +77,12 @@ fn packs_file(case: &Case, rule: fn(&File) -> bool) -> bool {
     case.is_done() && disk.map_or(false, |disk| disk.files.iter().any(rule))
 }
 
+fn has_shared_name(disk: &Disk) -> bool {
+    let mut names: Vec<Name> = disk.files.iter().map(File::name).collect();
+    names.sort_unstable();
+    names.windows(2).any(|pair| pair[0] == pair[1])
+}
+
 /// Whether the target has so many bytes more or less than the source.
 fn is_off_by(case: &Case, bytes: usize) -> bool {
     let (source, target) = (case.asked.image.bytes.len(), case.asked.room);
@@ -69,7 +102,7 @@ fn pairs(file: &File, rule: fn(usize, usize) -> bool) -> bool {
 }
 
 pub(super) fn new() -> Tally {
-    let mut tally = Tally::of([&PACK].into_iter(), MET);
+    let mut tally = Tally::of([&PACK].into_iter(), &[MET]);
     tally.mean([LEFT_BY_CALLS, RELAID]);
     tally.mean(Difference::ALL.map(Difference::title));
     tally

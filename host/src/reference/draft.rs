@@ -1,6 +1,6 @@
 //! An image that a call has found no fault with and now changes.
 
-use super::volume::{Block, Descriptor, Sector, Volume, HEADER_BYTES, SECTOR_BYTES};
+use super::volume::{Block, Name, Sector, HEADER_BYTES, SECTOR_BYTES};
 
 pub(super) struct Draft<'image>(&'image mut [u8]);
 
@@ -22,28 +22,35 @@ impl<'image> Draft<'image> {
         self.sector(0)[56 + sector / 8] &= !(1 << (sector % 8));
     }
 
-    /// Lists a file that the index does not have, at the place that its name has in the order.
-    pub(super) fn list(&mut self, number: usize) {
-        let volume = Volume::new(self.0);
-        let name = Descriptor::new(volume.sector(number)).name();
-        let place = volume.files().take_while(|(_, listed)| listed.name() < name).count();
-        let mut numbers = self.listed();
+    /// Lists a file that the index in a sector does not have, at the place that its name has in the
+    /// order.
+    pub(super) fn list(&mut self, index: usize, number: usize) {
+        let name = self.name(number);
+        let mut numbers = self.listed(index);
+        let place = numbers.iter().take_while(|listed| self.name(**listed) < name).count();
         numbers.insert(place, number);
-        self.set_listed(&numbers);
+        self.set_listed(index, &numbers);
     }
 
-    pub(super) fn unlist(&mut self, number: usize) {
-        let mut numbers = self.listed();
+    pub(super) fn unlist(&mut self, index: usize, number: usize) {
+        let mut numbers = self.listed(index);
         numbers.retain(|listed| *listed != number);
-        self.set_listed(&numbers);
+        self.set_listed(index, &numbers);
     }
 
-    fn listed(&self) -> Vec<usize> {
-        Volume::new(self.0).files().map(|(number, _)| number).collect()
+    /// The name in a descriptor.
+    fn name(&self, number: usize) -> Name {
+        self.0[SECTOR_BYTES * number..][..10].try_into().expect("ten bytes")
     }
 
-    fn set_listed(&mut self, numbers: &[usize]) {
-        let index = self.sector(1);
+    fn listed(&self, index: usize) -> Vec<usize> {
+        let pairs = self.0[SECTOR_BYTES * index..][..SECTOR_BYTES].chunks_exact(2);
+        let numbers = pairs.map(|pair| usize::from(u16::from_be_bytes([pair[0], pair[1]])));
+        numbers.take_while(|number| *number != 0).collect()
+    }
+
+    fn set_listed(&mut self, index: usize, numbers: &[usize]) {
+        let index = self.sector(index);
         index.fill(0);
         for (bytes, number) in index.chunks_exact_mut(2).zip(numbers) {
             bytes.copy_from_slice(&(*number as u16).to_be_bytes());

@@ -3,15 +3,16 @@
 
 use super::name::is_name;
 use super::refusal::{holds, Refusal};
-use super::volume::{Block, Chain, Descriptor, Volume};
+use super::volume::{Block, Chain, Descriptor, Directory, Volume};
 use super::volume::{MOST_SECTORS, SECTOR_BYTES};
 use crate::layout::Layout;
 
 /// The sound volume that an image is, or the first refusal in the paper's order.
 pub fn judge(image: &[u8], layout: Layout) -> Result<Volume<'_>, Refusal> {
-    let volume = judge_length(image)?;
+    let volume = judge_length(image, layout)?;
     judge_label(volume)?;
-    judge_index(volume)?;
+    judge_entries(volume)?;
+    volume.directories().try_for_each(|directory| judge_index(directory, volume.sectors()))?;
     judge_descriptors(volume, layout)?;
     let marks = judge_holders(volume)?;
     judge_map(volume, marks)?;
@@ -26,9 +27,9 @@ pub fn number(image: &[u8], layout: Layout) -> u32 {
     }
 }
 
-fn judge_length(image: &[u8]) -> Result<Volume<'_>, Refusal> {
+fn judge_length(image: &[u8], layout: Layout) -> Result<Volume<'_>, Refusal> {
     holds(is_length(image.len()), Refusal::Length)?;
-    Ok(Volume::new(image))
+    Ok(Volume::new(image, layout))
 }
 
 /// Whether an image of so many bytes can be a volume.
@@ -43,25 +44,40 @@ fn judge_label(volume: Volume) -> Result<(), Refusal> {
     holds(rule, Refusal::Label)
 }
 
-fn judge_index(volume: Volume) -> Result<(), Refusal> {
-    let mut numbers = volume.index().numbers();
+/// Each entry that is there has a name that no other has, and an index that lies on the disk.
+fn judge_entries(volume: Volume) -> Result<(), Refusal> {
+    let mut names = Vec::new();
+    for entry in volume.entries().filter(|entry| !entry.is_absent()) {
+        let is_new = is_name(entry.name()) && !names.contains(&entry.name());
+        let is_placed = (2..volume.sectors()).contains(&entry.index());
+        holds(is_new && is_placed, Refusal::Index)?;
+        names.push(entry.name());
+    }
+    Ok(())
+}
+
+fn judge_index(directory: Directory, sectors: usize) -> Result<(), Refusal> {
+    let index = directory.index();
+    let mut numbers = index.numbers();
     let in_range = numbers
         .by_ref()
         .take_while(|number| *number != 0)
-        .all(|number| (2..volume.sectors()).contains(&number));
-    let ended = numbers.all(|number| number == 0) && volume.index().last() == 0;
+        .all(|number| (2..sectors).contains(&number));
+    let ended = numbers.all(|number| number == 0) && index.last() == 0;
     holds(in_range && ended, Refusal::Index)
 }
 
 fn judge_descriptors(volume: Volume, layout: Layout) -> Result<(), Refusal> {
     let allowed = allowed_bits(layout);
-    // None is below every name.
-    let mut previous = None;
-    for (_, descriptor) in volume.files() {
-        let name = Some(descriptor.name());
-        let rule = previous < name && is_descriptor(descriptor, volume.sectors(), allowed);
-        holds(rule, Refusal::Descriptor)?;
-        previous = name;
+    for directory in volume.directories() {
+        // None is below every name.
+        let mut previous = None;
+        for (_, descriptor) in directory.files() {
+            let name = Some(descriptor.name());
+            let rule = previous < name && is_descriptor(descriptor, volume.sectors(), allowed);
+            holds(rule, Refusal::Descriptor)?;
+            previous = name;
+        }
     }
     Ok(())
 }
@@ -122,7 +138,7 @@ impl Marks {
 fn judge_holders(volume: Volume) -> Result<Marks, Refusal> {
     let mut marks = Marks([false; MOST_SECTORS]);
     marks.claim(0)?;
-    marks.claim(1)?;
+    volume.directories().try_for_each(|directory| marks.claim(directory.sector()))?;
     for (number, descriptor) in volume.files() {
         marks.claim(number)?;
         let mut places = descriptor.chain().places();

@@ -1,34 +1,41 @@
 //! The catalogue as text, a line for the volume and one for each file.
 
 use super::judge::judge;
-use super::reading::{Row, Summary};
+use super::reading::{opened, Row, Summary};
 use super::refusal::{holds, Refusal};
-use super::volume::{Form, Kind, Name, Volume};
+use super::volume::{Directory, Form, Kind, Name, Volume};
 use crate::layout::Layout;
 use std::fmt::{self, Display, Formatter};
 
 /// What the catalogue program takes as an image; anything longer is refused unread.
 const MOST_INPUT: usize = 65_536;
 
-/// The lines of a sound volume, for a buffer that has room for them.
-pub fn listing(image: &[u8], layout: Layout, room: usize) -> Result<String, Refusal> {
-    let text = lines(judge(image, layout)?, layout);
+/// The lines of a directory of a sound volume, for a buffer that has room for them.
+pub fn listing(
+    image: &[u8],
+    layout: Layout,
+    directory: usize,
+    room: usize,
+) -> Result<String, Refusal> {
+    let volume = judge(image, layout)?;
+    let text = lines(volume, opened(volume, directory)?, layout);
     holds(room >= text.len(), Refusal::Argument)?;
     Ok(text)
 }
 
-/// All that the catalogue program prints, by the old rule, or the second one, by the new rule.
+/// All that the catalogue program prints, by the old rule, or the second one, by the new rule. Both
+/// go by the first edition, by which there is the root alone.
 pub fn catalogue(input: &[u8], layout: Layout) -> String {
     let is_taken = holds(input.len() <= MOST_INPUT, Refusal::Length);
     match is_taken.and_then(|()| judge(input, layout)) {
-        Ok(volume) => lines(volume, layout),
+        Ok(volume) => lines(volume, volume.root(), layout),
         Err(refusal) => format!("REFUSED {}\n", refusal.number()),
     }
 }
 
-fn lines(volume: Volume, layout: Layout) -> String {
+fn lines(volume: Volume, directory: Directory, layout: Layout) -> String {
     let first = Summary::of(volume).to_string();
-    let files = volume.files().map(|(_, descriptor)| line(Row::of(descriptor), layout));
+    let files = directory.files().map(|(_, descriptor)| line(Row::of(descriptor), layout));
     std::iter::once(first).chain(files).map(|line| line + "\n").collect()
 }
 

@@ -4,7 +4,7 @@
 use super::judge::judge;
 use super::name::given_name;
 use super::refusal::{holds, Refusal};
-use super::volume::{Descriptor, Kind, Name, Sector, Volume};
+use super::volume::{Descriptor, Directory, Kind, Name, Sector, Volume};
 use super::volume::{HEADER_BYTES, SECTOR_BYTES};
 use crate::layout::Layout;
 
@@ -68,9 +68,15 @@ pub fn summary(image: &[u8], layout: Layout) -> Result<Summary, Refusal> {
 }
 
 /// The catalogue entry at a place, counted from 0 in name order.
-pub fn entry(image: &[u8], layout: Layout, place: usize, room: usize) -> Result<Entry, Refusal> {
-    let volume = judge(image, layout)?;
-    let (_, descriptor) = volume.files().nth(place).ok_or(Refusal::Absent)?;
+pub fn entry(
+    image: &[u8],
+    layout: Layout,
+    directory: usize,
+    place: usize,
+    room: usize,
+) -> Result<Entry, Refusal> {
+    let directory = opened(judge(image, layout)?, directory)?;
+    let (_, descriptor) = directory.files().nth(place).ok_or(Refusal::Absent)?;
     holds(room >= HEADER_BYTES, Refusal::Argument)?;
     Ok(Entry { header: *descriptor.header(), row: Row::of(descriptor) })
 }
@@ -79,12 +85,13 @@ pub fn entry(image: &[u8], layout: Layout, place: usize, room: usize) -> Result<
 pub fn read<'image>(
     image: &'image [u8],
     layout: Layout,
+    directory: usize,
     name: &[u8],
     offset: usize,
     room: usize,
 ) -> Result<&'image Sector, Refusal> {
     let volume = judge(image, layout)?;
-    let (_, descriptor) = find(volume, name)?;
+    let (_, descriptor) = find(volume, directory, name)?;
     let mut places = descriptor.chain().places();
     let place = places.nth(offset).ok_or(Refusal::Argument)?;
     holds(room >= SECTOR_BYTES, Refusal::Argument)?;
@@ -92,9 +99,15 @@ pub fn read<'image>(
 }
 
 /// The bytes of a program.
-pub fn load(image: &[u8], layout: Layout, name: &[u8], room: usize) -> Result<Vec<u8>, Refusal> {
+pub fn load(
+    image: &[u8],
+    layout: Layout,
+    directory: usize,
+    name: &[u8],
+    room: usize,
+) -> Result<Vec<u8>, Refusal> {
     let volume = judge(image, layout)?;
-    let (_, descriptor) = find(volume, name)?;
+    let (_, descriptor) = find(volume, directory, name)?;
     let length = match descriptor.kind() {
         Some(Kind::Program { length }) => length,
         _ => return Err(Refusal::Kind),
@@ -104,17 +117,24 @@ pub fn load(image: &[u8], layout: Layout, name: &[u8], room: usize) -> Result<Ve
     Ok(bytes.copied().take(length).collect())
 }
 
-/// The descriptor of a file, and the sector it lies in.
+/// The descriptor of a file of a directory, and the sector it lies in.
 pub(super) fn find<'image>(
     volume: Volume<'image>,
+    directory: usize,
     name: &[u8],
 ) -> Result<(usize, Descriptor<'image>), Refusal> {
-    named(volume, given_name(name)?).ok_or(Refusal::Absent)
+    let name = given_name(name)?;
+    named(opened(volume, directory)?, name).ok_or(Refusal::Absent)
+}
+
+/// The directory of a number, if there is one.
+pub(super) fn opened(volume: Volume, number: usize) -> Result<Directory, Refusal> {
+    volume.directory(number).ok_or(Refusal::Absent)
 }
 
 pub(super) fn named<'image>(
-    volume: Volume<'image>,
+    directory: Directory<'image>,
     name: &Name,
 ) -> Option<(usize, Descriptor<'image>)> {
-    volume.files().find(|(_, descriptor)| descriptor.name() == name)
+    directory.files().find(|(_, descriptor)| descriptor.name() == name)
 }

@@ -22,9 +22,9 @@ pub enum Refusal {
     NewName {
         place: usize,
     },
-    /// No such file, or no such place in the catalogue.
+    /// No such file, no such place in the catalogue, or no such directory.
     Absent,
-    /// The new name is that of a file, be it the one that is to be renamed.
+    /// The new name is that of a file of the directory, be it the one that is to be renamed.
     Present,
     Protected,
     /// A program is asked for and the file is not one, or data is and it is a program.
@@ -33,7 +33,7 @@ pub enum Refusal {
     /// not a sector's, a buffer too short for what it is to be filled with, or a target that is not
     /// of the source's length.
     Argument,
-    /// 127 files are present.
+    /// 127 files are present in the directory.
     IndexFull,
     /// The call takes more sectors than are free.
     DiskFull,

@@ -1,6 +1,7 @@
 //! What the bytes of a volume say, field by field, in the order of document 01's layout.
 //! Every reading is total: whether it keeps the rules is the judge's to say.
 
+use crate::layout::Layout;
 use std::ops::Range;
 
 pub const SECTOR_BYTES: usize = 256;
@@ -14,15 +15,16 @@ pub type Sector = [u8; SECTOR_BYTES];
 /// Ten bytes that compare as unsigned bytes, which is how arrays of `u8` are ordered.
 pub type Name = [u8; 10];
 
-/// An image seen as sectors.
+/// An image seen as sectors, by the edition of a layout.
 #[derive(Clone, Copy)]
 pub struct Volume<'image> {
     image: &'image [u8],
+    layout: Layout,
 }
 
 impl<'image> Volume<'image> {
-    pub fn new(image: &'image [u8]) -> Self {
-        Volume { image }
+    pub fn new(image: &'image [u8], layout: Layout) -> Self {
+        Volume { image, layout }
     }
 
     pub fn sectors(self) -> usize {
@@ -37,14 +39,80 @@ impl<'image> Volume<'image> {
         Label(self.sector(0))
     }
 
+    /// The three entries of the second edition; the first has none.
+    pub fn entries(self) -> impl Iterator<Item = DirectoryEntry<'image>> {
+        let carried = if self.layout.directories { &self.sector(0)[20..56] } else { &[] };
+        carried.chunks_exact(12).map(|bytes| DirectoryEntry(array(bytes)))
+    }
+
+    pub fn root(self) -> Directory<'image> {
+        Directory { volume: self, index: 1 }
+    }
+
+    /// The directory of a number: 0 is the root, 1 to 3 are the entries that are there.
+    pub fn directory(self, number: usize) -> Option<Directory<'image>> {
+        match number.checked_sub(1) {
+            None => Some(self.root()),
+            Some(place) => self.entered(self.entries().nth(place)?),
+        }
+    }
+
+    /// The root, then those of the entries in their order.
+    pub fn directories(self) -> impl Iterator<Item = Directory<'image>> {
+        let entered = self.entries().filter_map(move |entry| self.entered(entry));
+        std::iter::once(self.root()).chain(entered)
+    }
+
+    fn entered(self, entry: DirectoryEntry) -> Option<Directory<'image>> {
+        (!entry.is_absent()).then(|| Directory { volume: self, index: entry.index() })
+    }
+
+    /// The files of all directories, as these have them.
+    pub fn files(self) -> impl Iterator<Item = (usize, Descriptor<'image>)> {
+        self.directories().flat_map(Directory::files)
+    }
+}
+
+/// Twelve bytes of sector 0: a directory's name and where its index is.
+#[derive(Clone, Copy)]
+pub struct DirectoryEntry<'image>(&'image [u8; 12]);
+
+impl<'image> DirectoryEntry<'image> {
+    pub fn is_absent(self) -> bool {
+        *self.0 == [0; 12]
+    }
+
+    pub fn name(self) -> &'image Name {
+        array(self.0)
+    }
+
+    /// The sector of the index.
+    pub fn index(self) -> usize {
+        word(self.0[10], self.0[11])
+    }
+}
+
+/// The root, whose index is sector 1, or a directory of the second edition.
+#[derive(Clone, Copy)]
+pub struct Directory<'image> {
+    volume: Volume<'image>,
+    index: usize,
+}
+
+impl<'image> Directory<'image> {
+    /// The sector of the index.
+    pub fn sector(self) -> usize {
+        self.index
+    }
+
     pub fn index(self) -> Index<'image> {
-        Index(self.sector(1))
+        Index(self.volume.sector(self.index))
     }
 
     /// Each file's descriptor with the sector it lies in, in the order of the index.
     pub fn files(self) -> impl Iterator<Item = (usize, Descriptor<'image>)> {
         let listed = self.index().numbers().take_while(|number| *number != 0);
-        listed.map(move |number| (number, Descriptor::new(self.sector(number))))
+        listed.map(move |number| (number, Descriptor::new(self.volume.sector(number))))
     }
 }
 
@@ -76,7 +144,7 @@ impl<'image> Label<'image> {
     }
 }
 
-/// Sector 1.
+/// Sector 1, or the index of a directory.
 #[derive(Clone, Copy)]
 pub struct Index<'image>(&'image Sector);
 

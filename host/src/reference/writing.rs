@@ -5,9 +5,9 @@ use super::choice::{grow, Free};
 use super::draft::{set_chain, Draft};
 use super::judge::judge;
 use super::name::{given_name, lent_name};
-use super::reading::{find, named};
+use super::reading::{find, named, opened};
 use super::refusal::{holds, Refusal};
-use super::volume::{Block, Descriptor, Name, Sector, Volume};
+use super::volume::{Block, Descriptor, Directory, Name, Sector, Volume};
 use super::volume::{MOST_BLOCKS, MOST_FILES, SECTOR_BYTES};
 use crate::layout::Layout;
 
@@ -17,30 +17,39 @@ const MOST_PROGRAM_BYTES: usize = 32_768;
 pub fn create(
     image: &mut [u8],
     layout: Layout,
+    directory: usize,
     name: &[u8],
     status: u8,
     record_length: u8,
     records_per_sector: u8,
 ) -> Result<(), Refusal> {
     let volume = judge(image, layout)?;
-    let name = new_name(volume, name)?;
+    let (directory, name) = new_name(volume, directory, name)?;
     holds([0x00, 0x02, 0x80, 0x82].contains(&status), Refusal::Argument)?;
-    has_a_place(volume)?;
+    has_a_place(directory)?;
+    let index = directory.sector();
     let number = Free::of(volume).take_for_descriptor().ok_or(Refusal::DiskFull)?;
 
     let mut descriptor = described(name, status | mark(layout));
     descriptor[13] = records_per_sector;
     descriptor[17] = record_length;
-    add(Draft::new(image), number, &descriptor);
+    add(Draft::new(image), index, number, &descriptor);
     Ok(())
 }
 
 /// A program of the given bytes, the rest of its last sector zero.
-pub fn store(image: &mut [u8], layout: Layout, name: &[u8], bytes: &[u8]) -> Result<(), Refusal> {
+pub fn store(
+    image: &mut [u8],
+    layout: Layout,
+    directory: usize,
+    name: &[u8],
+    bytes: &[u8],
+) -> Result<(), Refusal> {
     let volume = judge(image, layout)?;
-    let name = new_name(volume, name)?;
+    let (directory, name) = new_name(volume, directory, name)?;
     holds(bytes.len() <= MOST_PROGRAM_BYTES, Refusal::Argument)?;
-    has_a_place(volume)?;
+    has_a_place(directory)?;
+    let index = directory.sector();
     let sectors = bytes.chunks(SECTOR_BYTES).len();
     let mut free = Free::of(volume);
     holds(free.count() > sectors, Refusal::DiskFull)?;
@@ -60,14 +69,20 @@ pub fn store(image: &mut [u8], layout: Layout, name: &[u8], bytes: &[u8]) -> Res
         draft.sector(place).fill_with(|| content.next().unwrap_or(0));
         draft.take(place);
     }
-    add(draft, number, &descriptor);
+    add(draft, index, number, &descriptor);
     Ok(())
 }
 
 /// One sector more for a data file.
-pub fn append(image: &mut [u8], layout: Layout, name: &[u8], data: &[u8]) -> Result<(), Refusal> {
+pub fn append(
+    image: &mut [u8],
+    layout: Layout,
+    directory: usize,
+    name: &[u8],
+    data: &[u8],
+) -> Result<(), Refusal> {
     let volume = judge(image, layout)?;
-    let (number, descriptor) = find(volume, name)?;
+    let (number, descriptor) = find(volume, directory, name)?;
     is_writable_data(descriptor)?;
     let data = one_sector(data)?;
     let place = Free::of(volume).take_for_data().ok_or(Refusal::DiskFull)?;
@@ -87,12 +102,13 @@ pub fn append(image: &mut [u8], layout: Layout, name: &[u8], data: &[u8]) -> Res
 pub fn overwrite(
     image: &mut [u8],
     layout: Layout,
+    directory: usize,
     name: &[u8],
     offset: usize,
     data: &[u8],
 ) -> Result<(), Refusal> {
     let volume = judge(image, layout)?;
-    let (number, descriptor) = find(volume, name)?;
+    let (number, descriptor) = find(volume, directory, name)?;
     is_writable_data(descriptor)?;
     let place = descriptor.chain().places().nth(offset).ok_or(Refusal::Argument)?;
     let data = one_sector(data)?;
@@ -104,50 +120,81 @@ pub fn overwrite(
 }
 
 /// The sectors of a deleted file keep their bytes.
-pub fn delete(image: &mut [u8], layout: Layout, name: &[u8]) -> Result<(), Refusal> {
+pub fn delete(
+    image: &mut [u8],
+    layout: Layout,
+    directory: usize,
+    name: &[u8],
+) -> Result<(), Refusal> {
     let volume = judge(image, layout)?;
-    let (number, descriptor) = find(volume, name)?;
+    let name = given_name(name)?;
+    let directory = opened(volume, directory)?;
+    let (number, descriptor) = named(directory, name).ok_or(Refusal::Absent)?;
     is_unprotected(descriptor)?;
     let places: Vec<usize> = descriptor.chain().places().collect();
+    let index = directory.sector();
 
     let mut draft = Draft::new(image);
-    draft.unlist(number);
+    draft.unlist(index, number);
     draft.give_back(number);
     places.into_iter().for_each(|place| draft.give_back(place));
     Ok(())
 }
 
-pub fn rename(image: &mut [u8], layout: Layout, old: &[u8], new: &[u8]) -> Result<(), Refusal> {
+pub fn rename(
+    image: &mut [u8],
+    layout: Layout,
+    directory: usize,
+    old: &[u8],
+    new: &[u8],
+) -> Result<(), Refusal> {
     let volume = judge(image, layout)?;
     let old = lent_name(old).map_err(|place| Refusal::OldName { place })?;
     let new = lent_name(new).map_err(|place| Refusal::NewName { place })?;
-    let (number, descriptor) = named(volume, old).ok_or(Refusal::Absent)?;
-    holds(named(volume, new).is_none(), Refusal::Present)?;
+    let directory = opened(volume, directory)?;
+    let (number, descriptor) = named(directory, old).ok_or(Refusal::Absent)?;
+    holds(named(directory, new).is_none(), Refusal::Present)?;
     is_unprotected(descriptor)?;
+    let index = directory.sector();
 
     let mut draft = Draft::new(image);
-    draft.unlist(number);
+    draft.unlist(index, number);
     draft.sector(number)[..10].copy_from_slice(new);
     draft.sector(number)[12] |= mark(layout);
-    draft.list(number);
+    draft.list(index, number);
     Ok(())
 }
 
-pub fn protect(image: &mut [u8], layout: Layout, name: &[u8]) -> Result<(), Refusal> {
-    let (number, _) = find(judge(image, layout)?, name)?;
+pub fn protect(
+    image: &mut [u8],
+    layout: Layout,
+    directory: usize,
+    name: &[u8],
+) -> Result<(), Refusal> {
+    let (number, _) = find(judge(image, layout)?, directory, name)?;
     Draft::new(image).sector(number)[12] |= Descriptor::PROTECTED;
     Ok(())
 }
 
-pub fn unprotect(image: &mut [u8], layout: Layout, name: &[u8]) -> Result<(), Refusal> {
-    let (number, _) = find(judge(image, layout)?, name)?;
+pub fn unprotect(
+    image: &mut [u8],
+    layout: Layout,
+    directory: usize,
+    name: &[u8],
+) -> Result<(), Refusal> {
+    let (number, _) = find(judge(image, layout)?, directory, name)?;
     Draft::new(image).sector(number)[12] &= !Descriptor::PROTECTED;
     Ok(())
 }
 
-/// There is a mark to clear by the new rule alone, so no other is asked for.
-pub fn clear_mark(image: &mut [u8], name: &[u8]) -> Result<(), Refusal> {
-    let (number, _) = find(judge(image, Layout::MARKS)?, name)?;
+/// There is a mark to clear by the new rule alone, so that is gone by, in the edition asked for.
+pub fn clear_mark(
+    image: &mut [u8],
+    layout: Layout,
+    directory: usize,
+    name: &[u8],
+) -> Result<(), Refusal> {
+    let (number, _) = find(judge(image, layout.with_marks())?, directory, name)?;
     Draft::new(image).sector(number)[12] &= !Descriptor::MARKED;
     Ok(())
 }
@@ -161,15 +208,20 @@ fn mark(layout: Layout) -> u8 {
     }
 }
 
-/// A name for a file that is to be made.
-fn new_name<'name>(volume: Volume, name: &'name [u8]) -> Result<&'name Name, Refusal> {
+/// A name for a file that is to be made, and the directory that it is made in.
+fn new_name<'image, 'name>(
+    volume: Volume<'image>,
+    directory: usize,
+    name: &'name [u8],
+) -> Result<(Directory<'image>, &'name Name), Refusal> {
     let name = given_name(name)?;
-    holds(named(volume, name).is_none(), Refusal::Present)?;
-    Ok(name)
+    let directory = opened(volume, directory)?;
+    holds(named(directory, name).is_none(), Refusal::Present)?;
+    Ok((directory, name))
 }
 
-fn has_a_place(volume: Volume) -> Result<(), Refusal> {
-    holds(volume.files().count() < MOST_FILES, Refusal::IndexFull)
+fn has_a_place(directory: Directory) -> Result<(), Refusal> {
+    holds(directory.files().count() < MOST_FILES, Refusal::IndexFull)
 }
 
 fn is_unprotected(descriptor: Descriptor) -> Result<(), Refusal> {
@@ -193,8 +245,8 @@ fn described(name: &Name, status: u8) -> Sector {
     descriptor
 }
 
-fn add(mut draft: Draft, number: usize, descriptor: &Sector) {
+fn add(mut draft: Draft, index: usize, number: usize, descriptor: &Sector) {
     *draft.sector(number) = *descriptor;
     draft.take(number);
-    draft.list(number);
+    draft.list(index, number);
 }

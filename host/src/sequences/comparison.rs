@@ -11,7 +11,7 @@ use crate::reference;
 use crate::table::arguments::four_bytes;
 use crate::table::plan::is_good;
 use crate::table::{self, calls_in, Arguments, Call, Desk, Given, Meeting, Mood};
-use crate::table::{EVEN, FILLING, FORMAT, NONE, NUMBERS, SINGLE, WEARING};
+use crate::table::{EVEN, FILLING, FORMAT, LAYOUTS_MET, NONE, NUMBERS, SINGLE, WEARING};
 use crate::tally::Tally;
 use crate::volumes::{names, Disk, Name, SECTOR_BYTES};
 
@@ -21,7 +21,7 @@ pub type Comparison = crate::comparison::Comparison<Sequences>;
 /// then on an unsound image.
 const CALLS: usize = 44;
 const CALLS_LONG: usize = 1000;
-const CALLS_UNSOUND: usize = 16;
+const CALLS_UNSOUND: usize = 24;
 /// How many names new files have for the most part.
 const POOL: usize = 16;
 
@@ -29,9 +29,6 @@ const POOL: usize = 16;
 const MET: &[Meeting] = &[
     ("unsound image and bad name", |case| case.is_unsound() && case.due.contains(&7)),
     ("unsound image and bad argument", |case| case.is_unsound() && case.due.contains(&15)),
-    ("volume with a mark by the old rule", |case| {
-        case.number == 4 && case.asked.image.planned.is_some()
-    }),
 ];
 const SEQUENCES: &str = "sequences";
 
@@ -51,7 +48,7 @@ impl Part for Sequences {
     }
 
     fn on_volume_of(&mut self, sectors: usize, random: &mut Random) -> Result<(), String> {
-        let layout = random.pick(&Layout::BOTH);
+        let layout = random.pick(&Layout::ALL);
         let start = starts::any(sectors, layout, random);
         if reference::number(&start.disk.image, layout) != 0 {
             return Err("a disk that was planned to be sound is not".to_string());
@@ -59,6 +56,7 @@ impl Part for Sequences {
         let other = match random.below(10) {
             0 => Some(random.bytes(SECTOR_BYTES * sectors)),
             1 if !layout.marks => Some(starts::marked(&start.disk, random)),
+            2 => Some(starts::of_other_edition(sectors, layout, random)),
             _ => None,
         };
         self.sequence(start, other.as_deref(), random)
@@ -74,7 +72,7 @@ impl Part for Sequences {
             let start = starts::any(40, layout, random);
             self.sequence(start, Some(&outside.image), random)
         };
-        Layout::BOTH.into_iter().try_for_each(&mut by)
+        Layout::ALL.into_iter().try_for_each(&mut by)
     }
 
     fn tally(&self) -> &Tally {
@@ -84,14 +82,14 @@ impl Part for Sequences {
 
 /// Rows for each call that writes, for formatting, and for all that read.
 fn new_tally() -> Tally {
-    let mut tally = Tally::of(calls_in(EVEN), MET);
+    let mut tally = Tally::of(calls_in(EVEN), &[MET, LAYOUTS_MET]);
     let looks = calls_in(EVEN).filter_map(|call| call.writing()?.look.as_ref());
     tally.mean(looks.map(|(what, _)| *what).chain([SEQUENCES]));
     tally.reach((FORMAT.title, FORMAT.layouts(), FORMAT.numbers()));
     let read: Vec<u32> =
         calls_in(SINGLE).filter(|call| call.is_judging()).flat_map(|call| call.numbers()).collect();
     let is_given = |number: &u32| read.contains(number);
-    tally.reach((READING, &Layout::BOTH, NUMBERS.into_iter().filter(is_given).collect()));
+    tally.reach((READING, &Layout::ALL, NUMBERS.into_iter().filter(is_given).collect()));
     tally
 }
 
@@ -170,7 +168,8 @@ impl Steps<'_> {
         for _ in 0..calls {
             let mood = if self.random.once_in(8) { SINGLE } else { mood };
             let (disk, image_bytes) = (&self.sequence.disk, self.sequence.image().len());
-            let desk = Desk { disk, layout: self.layout, image_bytes, pool: &self.pool };
+            let (layout, directory) = (self.layout, 0);
+            let desk = Desk { disk, layout, directory, image_bytes, pool: &self.pool };
             let (call, arguments) = table::any(mood, &desk, self.random);
             // Too much formatting would leave no disk time to wear.
             if !self.is_wiping(call, &arguments) || self.random.once_in(8) {

@@ -1,21 +1,23 @@
 //! What the paper says of calls that write in so many words, each shown with a short sequence by
 //! each rule: case M and the bench cases 6, 7, 9, 11, 12 and 13; every status, which chance might
-//! leave out; and which calls set the backup mark, leave it and clear it.
+//! leave out; which calls set the backup mark, leave it and clear it; and what directories there
+//! are.
 
 use super::sequence::Sequence;
 use crate::layout::Layout;
-use crate::paper::{all_shown, CASE_M, CASE_M_MARKED};
-use crate::pnoelithe::{catalogue, padded};
+use crate::paper::{all_shown, put_directories, CASE_M, CASE_M_MARKED};
+use crate::pnoelithe::{catalogue, padded, summary, Refusal};
 use crate::random::Random;
 use crate::table::{Arguments, Call, Given, Rules, CALLS, NONE};
 use crate::table::{
-    APPEND, CLEAR_MARK, CREATE, FORMAT, OVERWRITE, PROTECT, RENAME, STORE, UNPROTECT,
+    APPEND, CLEAR_MARK, CREATE, DELETE, FORMAT, LISTING, OVERWRITE, PROTECT, RENAME, STORE,
+    UNPROTECT,
 };
 use crate::tally::Tally;
-use crate::volumes::{Disk, MOST_FILES, SECTOR_BYTES};
+use crate::volumes::{Disk, MOST_DIRECTORIES, MOST_FILES, SECTOR_BYTES};
 
 pub(super) fn cases(random: &mut Random, tally: &mut Tally) -> Result<(), String> {
-    for layout in Layout::BOTH {
+    for layout in Layout::ALL {
         let mut bench = Bench { layout, random, tally };
         all_shown(&[
             ("case M and bench cases 6, 7 and 9", bench.case_m()?),
@@ -25,6 +27,10 @@ pub(super) fn cases(random: &mut Random, tally: &mut Tally) -> Result<(), String
             ("the four statuses of create", bench.statuses()?),
             ("which calls set the mark, leave it and clear it", bench.marks()?),
             ("that a mark is 4 by the old rule and not by the new one", bench.marked()?),
+            ("two directories", bench.directories()?),
+            ("that a directory is 6 by the first edition", bench.by_first_edition()?),
+            ("which directories there are", bench.which_directories()?),
+            ("127 files in each directory", bench.full_directories()?),
         ])
         .map_err(|wrong| format!("{}, by {:?}", wrong, layout))?;
     }
@@ -41,7 +47,8 @@ impl Bench<'_> {
     /// An empty volume that the library formatted.
     fn formatted(&mut self, sectors: usize) -> Result<Sequence, String> {
         let image = self.random.bytes(SECTOR_BYTES * sectors);
-        let disk = Disk { sectors, files: Vec::new(), image };
+        let directories = [None; MOST_DIRECTORIES];
+        let disk = Disk { sectors, directories, files: Vec::new(), image };
         let mut sequence = Sequence::on(disk);
         let (name, bytes) = (named("SHELF"), [9, 40, 1, 1]);
         let arguments = Arguments { name, at: sectors, bytes, ..NONE };
@@ -93,7 +100,7 @@ impl Bench<'_> {
         let map = image[56] == 0x0F && image[60] == 0x1C;
         let length = alpha[14..17] == [0, 2, 44];
         let listing = if self.layout.marks { CASE_M_MARKED } else { CASE_M };
-        let is_listed = catalogue(image, self.layout.for_host()) == Ok(listing.to_string());
+        let is_listed = catalogue(image, self.layout.for_host(), 0) == Ok(listing.to_string());
         Ok(numbers == [0; 3] && placed && listed && map && length && is_listed)
     }
 
@@ -208,6 +215,149 @@ impl Bench<'_> {
         let arguments = Arguments { name: named("NOTES"), ..NONE };
         shown &= self.call(&mut sequence, &CLEAR_MARK, arguments)? == 0;
         Ok(shown && status_in(&sequence, 2) == 0x80)
+    }
+}
+
+impl Bench<'_> {
+    /// Case M's volume with two directories, as the second edition or the first has it.
+    fn with_directories(&mut self) -> Result<Sequence, String> {
+        let mut sequence = self.formatted(64)?;
+        self.store(&mut sequence, "ALPHA", 300)?;
+        self.create(&mut sequence, "NOTES", 0x80)?;
+        self.append(&mut sequence, "NOTES")?;
+        let mut image = sequence.disk.image.clone();
+        put_directories(&mut image);
+        sequence.goes_on_with(&image);
+        Ok(sequence)
+    }
+
+    /// "Every file call takes 0 for the root or 1 to 3 for an entry"; "names are unique within one
+    /// index". The places and the bytes are those of the worked example of docs/FORMAT.md.
+    fn directories(&mut self) -> Result<bool, String> {
+        if !self.layout.directories {
+            return Ok(true);
+        }
+        let mut sequence = self.with_directories()?;
+        let data = Given::whole(&self.random.bytes(SECTOR_BYTES));
+        let in_games = |name, other| Arguments { directory: 1, name: named(name), other, ..NONE };
+        let letter = Arguments { directory: 3, name: named("LETTER"), other: data, ..NONE };
+        let created = Arguments { bytes: [0x80, 80, 3, 0], ..letter.clone() };
+        let stored = in_games("ALPHA", Given::whole(&self.random.bytes(100)));
+        let steps: [(&Call, Arguments, u32); 12] = [
+            (&STORE, stored.clone(), 0),
+            (&STORE, stored, 9),
+            (&CREATE, created.clone(), 0),
+            (&CREATE, Arguments { directory: 2, ..created }, 8),
+            (&APPEND, letter.clone(), 0),
+            (&APPEND, Arguments { directory: 1, ..letter.clone() }, 8),
+            (&APPEND, Arguments { directory: 0, ..letter }, 8),
+            (&RENAME, in_games("ALPHA", named("NOTES")), 0),
+            (&PROTECT, in_games("NOTES", named("")), 0),
+            (&RENAME, in_games("NOTES", named("ALPHA")), 10),
+            (&UNPROTECT, in_games("NOTES", named("")), 0),
+            (&RENAME, in_games("NOTES", named("ALPHA")), 0),
+        ];
+        let mut shown = true;
+        for (call, arguments, number) in steps {
+            shown &= self.call(&mut sequence, call, arguments)? == number;
+        }
+        let image = &sequence.disk.image;
+        let part = |sector: usize, at: usize, bytes: usize| {
+            image[SECTOR_BYTES * sector + at..][..bytes].to_vec()
+        };
+        let bit = if self.layout.marks { 0x10 } else { 0 };
+        shown &=
+            part(0, 20, 12) == b"GAMES     \x00\x04" && part(0, 44, 12) == b"TEXTS     \x00\x06";
+        shown &= part(0, 32, 12) == [0; 12] && part(0, 56, 5) == [0xFF, 0, 0, 0, 0x7C];
+        shown &= part(1, 0, 6) == [0, 2, 0, 3, 0, 0];
+        shown &= part(4, 0, 4) == [0, 5, 0, 0] && part(6, 0, 4) == [0, 7, 0, 0];
+        shown &= part(5, 0, 10) == b"ALPHA     " && part(5, 28, 6) == [0x25, 0, 0, 0, 0, 0];
+        shown &= part(7, 0, 10) == b"LETTER    " && part(7, 28, 6) == [0x26, 0, 0, 0, 0, 0];
+        shown &= part(5, 12, 5) == [0x01 | bit, 0, 0, 1, 100];
+        shown &= part(7, 12, 6) == [0x80 | bit, 3, 0, 1, 0, 80];
+        let listed = |directory| catalogue(image, self.layout.for_host(), directory);
+        let mark = if self.layout.marks { " M" } else { "" };
+        let texts = [
+            format!("SHELF 64 51\nALPHA PROGRAM 300 2 U{0}\nNOTES DIS/VAR 80 1 U{0}\n", mark),
+            format!("SHELF 64 51\nALPHA PROGRAM 100 1 U{}\n", mark),
+            format!("SHELF 64 51\nLETTER DIS/VAR 80 1 U{}\n", mark),
+        ];
+        shown &= [0, 1, 3].map(listed) == texts.map(Ok);
+        Ok(shown && [2, 4, 5].map(listed) == [(); 3].map(|()| Err(Refusal::NotFound)))
+    }
+
+    /// Every call that judges, on a volume with a directory: the first edition finds its index in
+    /// the map, and nobody who holds it.
+    fn by_first_edition(&mut self) -> Result<bool, String> {
+        let image = self.with_directories()?.disk.image;
+        let mut shown = true;
+        for call in CALLS.iter().filter(|call| call.is_judging()) {
+            // By the old rule the library has left a mark on nothing.
+            let mut sequence = self.formatted(64)?;
+            sequence.goes_on_with(&image);
+            let arguments = Arguments { name: named("NOTES"), room: 10, ..NONE };
+            let number = self.call(&mut sequence, call, arguments)?;
+            shown &= self.layout.directories != (number == 6);
+        }
+        Ok(shown)
+    }
+
+    /// "8 for no such entry, after 7": which numbers each call takes, on an empty volume and on one
+    /// with two directories.
+    fn which_directories(&mut self) -> Result<bool, String> {
+        let mut shown = true;
+        let empty = self.formatted(64)?.disk.image;
+        let second = self.with_directories()?.disk.image;
+        let two: &[usize] = if self.layout.directories { &[0, 1, 3] } else { &[0] };
+        for (image, there) in [(&empty, &[0][..]), (&second, two)] {
+            if *image == second && !self.layout.directories {
+                continue;
+            }
+            for directory in [0, 1, 2, 3, 4, 255, 256, 257, 1 << 32, usize::MAX] {
+                let mut sequence = self.formatted(64)?;
+                sequence.goes_on_with(image);
+                let arguments = Arguments { directory, name: named("NEW"), ..NONE };
+                let is_there = there.contains(&directory);
+                let number = self.call(&mut sequence, &CREATE, arguments.clone())?;
+                shown &= number == if is_there { 0 } else { 8 };
+                let room = Arguments { directory, room: 400, ..NONE };
+                let number = self.call(&mut sequence, &LISTING, room)?;
+                shown &= number == if is_there { 0 } else { 8 };
+                let number = self.call(&mut sequence, &PROTECT, arguments)?;
+                shown &= number == if is_there { 0 } else { 8 };
+                let bad = Arguments { directory, name: named(""), ..NONE };
+                shown &= self.call(&mut sequence, &CREATE, bad)? == 7;
+            }
+        }
+        Ok(shown)
+    }
+
+    /// "9 and 11 count within the named index": 127 files of the same names in each.
+    fn full_directories(&mut self) -> Result<bool, String> {
+        if !self.layout.directories {
+            return Ok(true);
+        }
+        let mut sequence = self.formatted(400)?;
+        let mut image = sequence.disk.image.clone();
+        put_directories(&mut image);
+        sequence.goes_on_with(&image);
+        let mut shown = true;
+        for directory in [1, 3, 0] {
+            let asked = |file: &str| Arguments { directory, name: named(file), ..NONE };
+            for file in 0..MOST_FILES {
+                let arguments = asked(&format!("F{}", file));
+                shown &= self.call(&mut sequence, &CREATE, arguments.clone())? == 0;
+            }
+            shown &= self.call(&mut sequence, &CREATE, asked("F0"))? == 9;
+            shown &= self.call(&mut sequence, &CREATE, asked("ONEMORE"))? == 11;
+            shown &= self.call(&mut sequence, &STORE, asked("ONEMORE"))? == 11;
+            for _ in 0..20 {
+                shown &= self.call(&mut sequence, &DELETE, asked("F0"))? == 0;
+                shown &= self.call(&mut sequence, &STORE, asked("F0"))? == 0;
+            }
+        }
+        let summary = summary(&sequence.disk.image, self.layout.for_host());
+        Ok(shown && summary.map(|summary| summary.files) == Ok(3 * MOST_FILES))
     }
 }
 

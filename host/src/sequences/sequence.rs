@@ -17,7 +17,7 @@ pub(super) struct Sequence {
     /// The plan, with the image as it must be.
     pub disk: Disk,
     shelf: Shelf,
-    /// An image that is sound by neither rule, and stands in for the plan's until it is formatted.
+    /// An image that is sound by no layout, and stands in for the plan's until it is formatted.
     unsound: Option<Vec<u8>>,
     /// The image's own.
     numbers: Numbers,
@@ -25,7 +25,7 @@ pub(super) struct Sequence {
 
 impl Sequence {
     pub(super) fn on(disk: Disk) -> Self {
-        let (shelf, numbers) = (Shelf::of(&disk.image), numbers_of(&disk.image));
+        let (shelf, numbers) = (Shelf::of(&disk.image, disk.layout()), numbers_of(&disk.image));
         Sequence { disk, shelf, unsound: None, numbers }
     }
 
@@ -58,7 +58,7 @@ impl Sequence {
         random: &mut Random,
         tally: &mut Tally,
     ) -> Result<u32, String> {
-        let planned = (self.number(Layout::MARKS) == Some(0)).then_some(&self.disk);
+        let planned = (self.number(self.disk.layout()) == Some(0)).then_some(&self.disk);
         let (bytes, numbers) = (self.image(), self.numbers);
         let image = Image { what: "the image of a sequence", bytes, numbers, planned };
         let case = compared(call, arguments, &image, random)?;
@@ -80,7 +80,7 @@ impl Sequence {
                         call.title, arguments, now, kept
                     ));
                 }
-                self.numbers = Numbers::by_new(Some(0), &disk.image);
+                self.numbers = Numbers::of_sound(&disk);
                 self.disk = disk;
             }
             (Some(disk), None) => *self = Sequence::on(disk),

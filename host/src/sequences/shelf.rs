@@ -3,9 +3,9 @@
 //! loses a sector, is found whatever library, reference and plan agree on.
 
 use crate::layout::Layout;
-use crate::reference;
+use crate::reference::{self, Descriptor, Directory, Volume};
 use crate::table::{Arguments, Writing};
-use crate::volumes::{word, Name, HEADER_BYTES, SECTOR_BYTES};
+use crate::volumes::{word, Name, HEADER_BYTES, MOST_DIRECTORIES, SECTOR_BYTES};
 use std::collections::BTreeMap;
 
 pub(crate) struct Shelved {
@@ -15,20 +15,26 @@ pub(crate) struct Shelved {
 }
 
 pub(crate) struct Shelf {
-    files: BTreeMap<Name, Shelved>,
+    /// By directory and name.
+    files: BTreeMap<(usize, Name), Shelved>,
+    /// The numbers and the names of the directories that are there.
+    directories: Vec<(usize, Name)>,
     free: usize,
 }
 
 impl Shelf {
-    /// Of a volume that is sound by the new rule, as the reference reads it; of any other, nothing.
-    pub(crate) fn of(image: &[u8]) -> Self {
-        let mut shelf = Shelf { files: BTreeMap::new(), free: 0 };
-        if let Ok(volume) = reference::judge(image, Layout::MARKS) {
+    /// Of a volume that is sound by the layout's edition and the new rule, as the reference reads
+    /// it; of any other, nothing.
+    pub(crate) fn of(image: &[u8], layout: Layout) -> Self {
+        let mut shelf = Shelf { files: BTreeMap::new(), directories: Vec::new(), free: 0 };
+        if let Ok(volume) = reference::judge(image, layout.with_marks()) {
             shelf.free = volume.label().free_sectors();
-            for (_, file) in volume.files() {
+            shelf.directories = entered(volume);
+            for (directory, file) in listed(volume) {
                 let sectors = file.chain().places().map(|place| &volume.sector(place)[..]);
                 let bytes = sectors.collect::<Vec<_>>().concat();
-                shelf.files.insert(*file.name(), Shelved { header: *file.header(), bytes });
+                let shelved = Shelved { header: *file.header(), bytes };
+                shelf.files.insert((directory, *file.name()), shelved);
             }
         }
         shelf
@@ -36,8 +42,8 @@ impl Shelf {
 
     /// Does a call that is done. What the file held is free, and then what it holds is taken.
     pub(super) fn change(&mut self, writing: &Writing, arguments: &Arguments) {
-        let name = arguments.name.name();
-        let before = self.files.remove(&name);
+        let (directory, name) = (arguments.directory, arguments.name.name());
+        let before = self.files.remove(&(directory, name));
         self.free += before.as_ref().map_or(0, Shelved::holds);
         let before = before.unwrap_or_else(|| Shelved::new(&name));
         if let Some(mut file) = (writing.on_shelf)(before, arguments) {
@@ -45,7 +51,7 @@ impl Shelf {
             self.free -= file.holds();
             file.header[14..16].copy_from_slice(&word(sectors));
             let name = file.header[..10].try_into().expect("ten bytes");
-            self.files.insert(name, file);
+            self.files.insert((directory, name), file);
         }
     }
 
@@ -55,12 +61,12 @@ impl Shelf {
             Ok(volume) => volume,
             Err(_) => return false,
         };
-        let mut found = volume.files();
-        let all = self.files.iter().all(|(name, file)| match found.next() {
-            Some((_, other)) => {
+        let mut found = listed(volume);
+        let all = self.files.iter().all(|(place, file)| match found.next() {
+            Some((directory, other)) => {
                 let mut places = other.chain().places();
                 let mut sectors = file.bytes.chunks(SECTOR_BYTES);
-                other.name() == name
+                (directory, *other.name()) == *place
                     && *other.header() == file.header
                     && sectors.all(|own| {
                         places.next().map(|place| &volume.sector(place)[..]) == Some(own)
@@ -69,8 +75,23 @@ impl Shelf {
             }
             None => false,
         });
-        all && found.next().is_none() && volume.label().free_sectors() == self.free
+        all && found.next().is_none()
+            && entered(volume) == self.directories
+            && volume.label().free_sectors() == self.free
     }
+}
+
+fn entered(volume: Volume) -> Vec<(usize, Name)> {
+    let present = (1..).zip(volume.entries()).filter(|(_, entry)| !entry.is_absent());
+    present.map(|(number, entry)| (number, *entry.name())).collect()
+}
+
+/// The files of a volume, each with the number of its directory.
+fn listed(volume: Volume) -> impl Iterator<Item = (usize, Descriptor)> {
+    (0..=MOST_DIRECTORIES).flat_map(move |number| {
+        let files = volume.directory(number).into_iter().flat_map(Directory::files);
+        files.map(move |(_, file)| (number, file))
+    })
 }
 
 impl Shelved {
@@ -82,7 +103,7 @@ impl Shelved {
 
     /// After a call that makes or changes a file. By the new rule that shows in its status.
     pub(crate) fn changed(mut self, arguments: &Arguments) -> Self {
-        if arguments.layout() == Layout::MARKS {
+        if arguments.layout().marks {
             self.header[12] |= 0b1_0000;
         }
         self

@@ -1,6 +1,7 @@
 //! The disks that sequences begin on, so that a few calls reach what a worn disk shows.
 
 use crate::damage::{Change, Damage};
+use crate::directories::planned;
 use crate::layout::Layout;
 use crate::random::Random;
 use crate::reference;
@@ -18,23 +19,36 @@ pub(super) struct Start {
 }
 
 pub(super) fn any(sectors: usize, layout: Layout, random: &mut Random) -> Start {
-    let mood = if random.once_in(2) { FILLING } else { WEARING };
-    let (mut disk, mood) = match random.below(10) {
-        0 | 1 => (nearly_full(sectors, random), mood),
-        2 | 3 if sectors >= MOST_FILES + 20 => (many_files(sectors, random), mood),
-        4 | 5 if sectors >= 4 * MOST_BLOCKS + 8 => (long_chains(sectors, random), APPENDING),
-        6..=8 if sectors >= MOST_FILES + 20 => (comb(sectors, random), STORING),
-        _ => (Shape::any(sectors, random).build(random), mood),
+    let mut mood = if random.once_in(2) { FILLING } else { WEARING };
+    let plan = |sectors, most_files, random: &mut Random| match random.below(10) {
+        0 | 1 => nearly_full(sectors, most_files, random),
+        2 | 3 if sectors >= MOST_FILES + 20 => many_files(sectors, most_files, random),
+        4 | 5 if sectors >= 4 * MOST_BLOCKS + 8 => {
+            mood = APPENDING;
+            long_chains(sectors, random)
+        }
+        6..=8 if sectors >= MOST_FILES + 20 => {
+            mood = STORING;
+            comb(sectors, random)
+        }
+        _ => Shape::any(sectors, most_files, random).build(random),
     };
+    let mut disk = planned(sectors, layout.directories, random, plan);
     if layout.marks {
         disk.mark_by_chance(random);
     }
     Start { disk, layout, mood }
 }
 
+/// The image of a disk of the other edition: with a directory it is 6 by the first one, and with
+/// other bytes in the entries' place mostly 3 by the second.
+pub(super) fn of_other_edition(sectors: usize, layout: Layout, random: &mut Random) -> Vec<u8> {
+    any(sectors, Layout { directories: !layout.directories, ..layout }, random).disk.image
+}
+
 /// A full disk less a few blocks of its files.
-fn nearly_full(sectors: usize, random: &mut Random) -> Disk {
-    let most_files = ((sectors - 2 + 1) / 2).min(MOST_FILES);
+fn nearly_full(sectors: usize, most_files: usize, random: &mut Random) -> Disk {
+    let most_files = ((sectors - 2 + 1) / 2).min(most_files);
     let shape =
         Shape::full(sectors, random.within(1..=most_files), MOST_BLOCKS, random.pick(&ORDERS));
     let mut files = shape.build(random).files;
@@ -49,9 +63,10 @@ fn nearly_full(sectors: usize, random: &mut Random) -> Disk {
     Disk::of_files(sectors, files, random)
 }
 
-/// As many files as the index takes, or one or two less.
-fn many_files(sectors: usize, random: &mut Random) -> Disk {
-    let files = MOST_FILES - random.below(3);
+/// As many files as an index takes, or all of them, or one or two less.
+fn many_files(sectors: usize, most_files: usize, random: &mut Random) -> Disk {
+    let most_files = if random.once_in(2) { MOST_FILES } else { most_files.min(sectors - 20) };
+    let files = most_files - random.below(3);
     let (room, order) = (sectors - 2 - files, random.pick(&ORDERS));
     if random.once_in(3) {
         return Shape::full(sectors, files, 1, order).build(random);
@@ -120,13 +135,13 @@ pub(crate) fn damaged(disk: &Disk, layout: Layout, random: &mut Random) -> Resul
     if changes.is_empty() {
         return Ok(image);
     }
-    let Change { what, number, edits, length } = &changes[random.below(changes.len())];
+    let Change { what, number, edits, length, .. } = &changes[random.below(changes.len())];
     image.resize((*length).max(image.len()), 0);
     for edit in edits {
         image[edit.at..][..edit.bytes.len()].copy_from_slice(&edit.bytes);
     }
     image.truncate(*length);
-    let found = reference::number(&image, Layout::MARKS);
+    let found = reference::number(&image, disk.layout());
     if number.map_or(true, |number| number == found) {
         Ok(image)
     } else {

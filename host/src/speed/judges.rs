@@ -1,11 +1,13 @@
-//! The judges on sound and damaged disks of 1,440 sectors, by the old rule and by the new one: the
-//! library's, the reference's and the tuned one.
+//! The judges on sound and damaged disks of 1,440 sectors, by the old rule and by the new one, and by
+//! the second edition: the library's, the reference's and the tuned one.
 
 use super::{by, is_held, ratio, Table, NOBODY, TIMES};
+use crate::directories::with_entries;
 use crate::layout::Layout;
 use crate::random::Random;
+use crate::volumes::SECTOR_BYTES;
 use crate::volumes::{block, word, Disk, Order, Shape};
-use crate::volumes::{HEADER_BYTES, MARK, MOST_BLOCKS, MOST_FILES, SECTOR_BYTES};
+use crate::volumes::{ENTRIES, ENTRY_BYTES, HEADER_BYTES, MARK, MOST_BLOCKS, MOST_FILES};
 use crate::{library, reference, tuned};
 use std::time::Instant;
 
@@ -65,7 +67,35 @@ fn rows() -> Vec<Row> {
     let late = |row: &Row| row.number == 4 || row.number == 6;
     rows.extend(damaged_rows(&fragmented).into_iter().filter(late).map(by_marks));
     rows.push(Row::of("4: a mark on every file, old rule", &fragmented.image, 4));
+    rows.extend(rows_of_directories(random));
     rows
+}
+
+/// By the second edition, with three directories.
+fn rows_of_directories(random: &mut Random) -> Vec<Row> {
+    let mut full = |files, blocks| {
+        with_entries(SECTORS, [true; 3], random, |sectors, _, random| {
+            Shape::full(sectors, files, blocks, Order::Shuffled).build(random)
+        })
+    };
+    let (many, pieces, empty) = (full(4 * MOST_FILES, 1), full(MOST_FILES, 10), full(1, 1));
+    let number = SECTOR_BYTES * many.index_of(3) + 2 * (MOST_FILES - 1);
+    let mut range = many.clone();
+    range.image[number..][..2].copy_from_slice(&word(SECTORS));
+    let mut entry = many.clone();
+    entry.image[ENTRIES + 2 * ENTRY_BYTES] = 0;
+    let rows = [
+        ("full, 508 files in three directories and the root", &many, 0),
+        ("full, 127 files of 10 blocks in these", &pieces, 0),
+        ("one file in these", &empty, 0),
+        ("3: name of the last entry", &entry, 3),
+        ("3: last number of the last index out of range", &range, 3),
+    ];
+    rows.map(|(what, disk, number)| Row {
+        layout: Layout::DIRECTORIES,
+        ..Row::of(what, &disk.image, number)
+    })
+    .into()
 }
 
 /// The disk with the mark on every file.

@@ -6,7 +6,7 @@ use crate::damage::changed_names;
 use crate::layout::Layout;
 use crate::pnoelithe;
 use crate::random::Random;
-use crate::volumes::{names, Disk, File, Name, SECTOR_BYTES};
+use crate::volumes::{names, Disk, File, Name, MOST_DIRECTORIES, SECTOR_BYTES};
 use std::fmt::{self, Debug, Formatter};
 
 /// Each call takes some of these.
@@ -14,6 +14,8 @@ use std::fmt::{self, Debug, Formatter};
 pub(crate) struct Arguments {
     /// The layout as it crosses, with bits that are not looked at.
     pub layout_bits: u32,
+    /// 0 for the root, or the number of an entry, which may be any.
+    pub directory: usize,
     /// Of the disk, or of the file that is read, made or changed.
     pub name: Given,
     /// What else is lent to be read: data, a program's bytes or a new name.
@@ -29,6 +31,7 @@ pub(crate) struct Arguments {
 /// What a call has that takes none; others are this but for what they take.
 pub(crate) const NONE: Arguments = Arguments {
     layout_bits: 0,
+    directory: 0,
     name: Given::NOTHING,
     other: Given::NOTHING,
     at: 0,
@@ -39,7 +42,7 @@ pub(crate) const NONE: Arguments = Arguments {
 impl Arguments {
     /// The same by a layout, all other bits being by chance.
     pub(crate) fn by(self, layout: Layout, random: &mut Random) -> Self {
-        let others = random.number() as u32 & !Layout::MARKS.bits();
+        let others = random.number() as u32 & !Layout::MARKS_AND_DIRECTORIES.bits();
         Arguments { layout_bits: layout.bits() | others, ..self }
     }
 
@@ -89,34 +92,76 @@ impl Debug for Given {
     }
 }
 
-/// What arguments are made for: a disk, an image that may be the disk's and changed since, and the
-/// layout.
+/// What arguments are made for: a disk, an image that may be the disk's and changed since, the
+/// layout, and a directory, which need not be there.
 pub(crate) struct Desk<'made> {
     pub disk: &'made Disk,
     pub layout: Layout,
+    pub directory: usize,
     pub image_bytes: usize,
     /// Names for new files, so that a name that was deleted comes again.
     pub pool: &'made [Name],
 }
 
 impl Desk<'_> {
+    /// Mostly one that is there, else an entry that is absent or a number that no entry has.
+    pub(super) fn any_directory(&self, random: &mut Random) -> usize {
+        let wrong = |random: &mut Random| match random.below(4) {
+            0 | 1 => random.within(1..=MOST_DIRECTORIES),
+            2 => random.pick(&[4, 5, 255, usize::MAX, usize::MAX - 1, usize::MAX / 2 + 1]),
+            _ => beyond(random.below(4), random),
+        };
+        match self.layout.directories {
+            true if random.once_in(6) => wrong(random),
+            true => random.pick(&self.disk.numbers()),
+            false if random.once_in(9) => wrong(random),
+            false => 0,
+        }
+    }
+
+    /// The files of the directory; where there is none of that number, the root's.
+    pub(super) fn files(&self) -> Vec<&File> {
+        let directory = if self.disk.has(self.directory) { self.directory } else { 0 };
+        self.disk.files_in(directory).collect()
+    }
+
+    /// A file of the directory that keeps a rule, or any where none does.
+    pub(super) fn some_file(
+        &self,
+        rule: impl Fn(&File) -> bool,
+        random: &mut Random,
+    ) -> Option<&File> {
+        let all = self.files();
+        let kept: Vec<&File> = all.iter().copied().filter(|file| rule(file)).collect();
+        let files = if kept.is_empty() { all } else { kept };
+        (!files.is_empty()).then(|| files[random.below(files.len())])
+    }
+
     /// The name of a file that keeps a rule, of any file or of none; mostly as it is.
     pub(super) fn present(&self, rule: impl Fn(&File) -> bool, random: &mut Random) -> Given {
         let any = random.once_in(6);
-        let file = some_file(self.disk, |file| any || rule(file), random);
+        let file = self.some_file(|file| any || rule(file), random);
         let name = file.map_or_else(|| names(1, random)[0], File::name);
         as_it_is_or_not(name, random)
     }
 
     /// A name that no file has, more often than not.
     pub(super) fn new_name(&self, random: &mut Random) -> Given {
-        let name = match (random.below(8), some_file(self.disk, |_| true, random)) {
+        let name = match (random.below(10), self.some_file(|_| true, random)) {
             (0, Some(file)) => file.name(),
             (1 | 2, Some(file)) => neighbour(file.name(), random),
-            (3 | 4, _) => names(1, random)[0],
+            (3, _) => return self.name_of_any_file(random),
+            (4 | 5, _) => names(1, random)[0],
             _ => random.pick(self.pool),
         };
         as_it_is_or_not(name, random)
+    }
+
+    /// Mostly of a file of another directory where there are any.
+    pub(super) fn name_of_any_file(&self, random: &mut Random) -> Given {
+        let all = &self.disk.files;
+        let file = (!all.is_empty()).then(|| &all[random.below(all.len())]);
+        as_it_is_or_not(file.map_or_else(|| names(1, random)[0], File::name), random)
     }
 
     /// The same; where a fault is likely that comes after the name's, often a malformed name or
@@ -125,7 +170,7 @@ impl Desk<'_> {
         if !is_fault_likely || !random.once_in(4) {
             return self.new_name(random);
         }
-        match some_file(self.disk, |_| true, random) {
+        match self.some_file(|_| true, random) {
             Some(file) if random.once_in(2) => Given::whole(&file.name()),
             _ => malformed(random),
         }
@@ -138,19 +183,6 @@ fn as_it_is_or_not(name: Name, random: &mut Random) -> Given {
     } else {
         Given::whole(&name)
     }
-}
-
-/// A file that keeps a rule, or any where none does.
-pub(super) fn some_file<'disk>(
-    disk: &'disk Disk,
-    rule: impl Fn(&File) -> bool,
-    random: &mut Random,
-) -> Option<&'disk File> {
-    let mut files: Vec<&File> = disk.files.iter().filter(|file| rule(file)).collect();
-    if files.is_empty() {
-        files = disk.files.iter().collect();
-    }
-    (!files.is_empty()).then(|| random.pick(&files))
 }
 
 /// Whether a sector of the file can be written.

@@ -1,20 +1,22 @@
 //! Calls that leave the sectors of files alone: delete, rename, protect, unprotect and clear mark.
 
 use super::arguments::malformed;
-use super::plan::{absent, bad_name, called, find, is_good, is_protected, mark, protected};
-use super::sectors::is_on_marked;
+use super::plan::protected;
+use super::plan::{absent, bad_name, called, find, is_elsewhere, is_good, is_protected, mark};
+use super::sectors::{is_of_several, is_on_marked};
 use super::{Answer, Arguments, Call, Case, Often, Plan, Rules, Writing, NONE};
 use crate::layout::Layout;
 use crate::library::ask;
 use crate::speed::{volume, Before, Measured, Volume, ALL, MANY, ONE, PIECES};
-use crate::volumes::{File, MARK};
+use crate::volumes::{Disk, File, MARK};
 use crate::{pnoelithe, reference};
 
 pub(crate) static DELETE: Call = Call {
     title: "delete",
     tests: &[(7, bad_name), (8, absent), (10, protected)],
-    together: &[],
+    together: &[(7, &[8])],
     names: 1,
+    in_directory: true,
     rules: Rules::AsAsked,
     often: Often::writing(2, 19, 8, 8),
     any: |desk, random| {
@@ -22,16 +24,21 @@ pub(crate) static DELETE: Call = Call {
         Arguments { name, ..NONE }
     },
     by_library: |lent, asked| {
-        ask!(pno_delete, [lent.image], asked.layout_bits, [lent.name], lent.wrong)
+        let (layout, directory) = (asked.layout_bits, asked.directory);
+        ask!(pno_delete, [lent.image], layout, directory, [lent.name], lent.wrong)
     },
-    by_host: |lent, asked| pnoelithe::delete(lent.image, asked.layout_for_host(), lent.name),
+    by_host: |lent, asked| {
+        let (layout, directory) = (asked.layout_for_host(), asked.directory);
+        pnoelithe::delete(lent.image, layout, directory, lent.name)
+    },
     by_reference: |image, asked| {
-        reference::delete(image, asked.layout(), asked.name.lent()).map(|()| Answer::Done)
+        reference::delete(image, asked.layout(), asked.directory, asked.name.lent())?;
+        Ok(Answer::Done)
     },
     by_plan: Plan::Writes(Writing {
         on_disk: |disk, asked| {
-            let name = asked.name.name();
-            disk.files.retain(|file| file.name() != name);
+            let place = (asked.directory, asked.name.name());
+            disk.files.retain(|file| file.place() != place);
         },
         on_shelf: |_, _| None,
         look: None,
@@ -41,6 +48,9 @@ pub(crate) static DELETE: Call = Call {
             case.is_done() && case.asked.on_file(|file| file.runs.len() > 1)
         }),
         ("file with the mark deleted", |case| is_on_marked(case, true)),
+        ("file of a directory deleted", |case| case.is_done() && case.asked.directory > 0),
+        ("one of several files of that name deleted", is_of_several),
+        ("delete of a file that is in another directory", is_elsewhere),
     ],
     measured: Measured {
         arguments: |full| Arguments { name: full.name(), ..NONE },
@@ -55,13 +65,14 @@ pub(crate) static RENAME: Call = Call {
     tests: &[
         (7, |asked| bad_name(asked) || !is_good(&asked.other)),
         (8, absent),
-        (9, |asked| asked.on_disk(|disk| find(disk, &asked.other).is_some())),
+        (9, |asked| asked.on_disk(|disk| find(disk, asked.directory, &asked.other).is_some())),
         (10, protected),
     ],
     together: &[(7, &[8, 9, 10]), (8, &[9]), (9, &[10])],
     names: 2,
+    in_directory: true,
     rules: Rules::AsAsked,
-    often: Often::writing(10, 11, 4, 4),
+    often: Often::writing(14, 15, 6, 6),
     any: |desk, random| {
         let name = match random.below(8) {
             0 => desk.new_name(random),
@@ -71,17 +82,27 @@ pub(crate) static RENAME: Call = Call {
             0 => name.clone(),
             1 | 2 => desk.present(|_| true, random),
             3 => malformed(random),
+            4 => desk.name_of_any_file(random),
             _ => desk.new_name(random),
         };
         Arguments { name, other, ..NONE }
     },
     by_library: |lent, asked| {
-        let layout = asked.layout_bits;
-        ask!(pno_rename, [lent.image], layout, [lent.name], [lent.other], lent.which, lent.wrong)
+        let (layout, directory) = (asked.layout_bits, asked.directory);
+        ask!(
+            pno_rename,
+            [lent.image],
+            layout,
+            directory,
+            [lent.name],
+            [lent.other],
+            lent.which,
+            lent.wrong
+        )
     },
     by_host: |lent, asked| {
-        let layout = asked.layout_for_host();
-        let renamed = pnoelithe::rename(lent.image, layout, lent.name, lent.other);
+        let (layout, directory) = (asked.layout_for_host(), asked.directory);
+        let renamed = pnoelithe::rename(lent.image, layout, directory, lent.name, lent.other);
         renamed.map_err(|pnoelithe::RenameRefusal { refusal, which }| {
             if let Some(which) = which {
                 *lent.which = which as usize;
@@ -91,7 +112,8 @@ pub(crate) static RENAME: Call = Call {
     },
     by_reference: |image, asked| {
         let (old, new) = (asked.name.lent(), asked.other.lent());
-        reference::rename(image, asked.layout(), old, new).map(|()| Answer::Done)
+        reference::rename(image, asked.layout(), asked.directory, old, new)?;
+        Ok(Answer::Done)
     },
     by_plan: Plan::Writes(Writing {
         on_disk: |disk, asked| {
@@ -112,6 +134,14 @@ pub(crate) static RENAME: Call = Call {
         }),
         ("rename of a file with the mark", |case| is_on_marked(case, true)),
         ("rename of a file without the mark, which it gets", |case| is_on_marked(case, false)),
+        ("rename in a directory", |case| case.is_done() && case.asked.directory > 0),
+        ("rename to a name that another directory has", |case| {
+            let is_there = |disk: &Disk| {
+                let mut numbers = disk.numbers().into_iter();
+                numbers.any(|number| find(disk, number, &case.asked.other).is_some())
+            };
+            case.is_done() && case.asked.on_disk(is_there)
+        }),
     ],
     measured: Measured {
         arguments: |full| Arguments { name: full.name(), other: full.new_name(), ..NONE },
@@ -122,17 +152,23 @@ pub(crate) static RENAME: Call = Call {
 pub(crate) static PROTECT: Call = Call {
     title: "protect",
     tests: &[(7, bad_name), (8, absent)],
-    together: &[],
+    together: &[(7, &[8])],
     names: 1,
+    in_directory: true,
     rules: Rules::AsAsked,
     often: Often::writing(3, 4, 2, 2),
     any: |desk, random| Arguments { name: desk.present(|_| true, random), ..NONE },
     by_library: |lent, asked| {
-        ask!(pno_protect, [lent.image], asked.layout_bits, [lent.name], lent.wrong)
+        let (layout, directory) = (asked.layout_bits, asked.directory);
+        ask!(pno_protect, [lent.image], layout, directory, [lent.name], lent.wrong)
     },
-    by_host: |lent, asked| pnoelithe::protect(lent.image, asked.layout_for_host(), lent.name),
+    by_host: |lent, asked| {
+        let (layout, directory) = (asked.layout_for_host(), asked.directory);
+        pnoelithe::protect(lent.image, layout, directory, lent.name)
+    },
     by_reference: |image, asked| {
-        reference::protect(image, asked.layout(), asked.name.lent()).map(|()| Answer::Done)
+        reference::protect(image, asked.layout(), asked.directory, asked.name.lent())?;
+        Ok(Answer::Done)
     },
     by_plan: Plan::Writes(Writing {
         on_disk: |disk, asked| called(disk, asked).header[12] |= 0x08,
@@ -146,6 +182,7 @@ pub(crate) static PROTECT: Call = Call {
         ("protected file protected", |case| is_on_protected(case, true)),
         ("file with the mark protected", |case| is_on_marked(case, true)),
         ("file without the mark protected by the new rule", |case| is_on_marked(case, false)),
+        ("one of several files of that name protected", is_of_several),
     ],
     measured: Measured {
         arguments: |full| Arguments { name: full.name(), ..NONE },
@@ -156,17 +193,23 @@ pub(crate) static PROTECT: Call = Call {
 pub(crate) static UNPROTECT: Call = Call {
     title: "unprotect",
     tests: &[(7, bad_name), (8, absent)],
-    together: &[],
+    together: &[(7, &[8])],
     names: 1,
+    in_directory: true,
     rules: Rules::AsAsked,
     often: Often::writing(5, 6, 4, 8),
     any: |desk, random| Arguments { name: desk.present(is_protected, random), ..NONE },
     by_library: |lent, asked| {
-        ask!(pno_unprotect, [lent.image], asked.layout_bits, [lent.name], lent.wrong)
+        let (layout, directory) = (asked.layout_bits, asked.directory);
+        ask!(pno_unprotect, [lent.image], layout, directory, [lent.name], lent.wrong)
     },
-    by_host: |lent, asked| pnoelithe::unprotect(lent.image, asked.layout_for_host(), lent.name),
+    by_host: |lent, asked| {
+        let (layout, directory) = (asked.layout_for_host(), asked.directory);
+        pnoelithe::unprotect(lent.image, layout, directory, lent.name)
+    },
     by_reference: |image, asked| {
-        reference::unprotect(image, asked.layout(), asked.name.lent()).map(|()| Answer::Done)
+        reference::unprotect(image, asked.layout(), asked.directory, asked.name.lent())?;
+        Ok(Answer::Done)
     },
     by_plan: Plan::Writes(Writing {
         on_disk: |disk, asked| called(disk, asked).header[12] &= !0x08,
@@ -180,6 +223,7 @@ pub(crate) static UNPROTECT: Call = Call {
         ("unprotected file unprotected", |case| is_on_protected(case, false)),
         ("file with the mark unprotected", |case| is_on_marked(case, true)),
         ("file without the mark unprotected by the new rule", |case| is_on_marked(case, false)),
+        ("one of several files of that name unprotected", is_of_several),
     ],
     measured: Measured { arguments: |full| Arguments { name: full.name(), ..NONE }, on: &[] },
 };
@@ -187,17 +231,23 @@ pub(crate) static UNPROTECT: Call = Call {
 pub(crate) static CLEAR_MARK: Call = Call {
     title: "clear mark",
     tests: &[(7, bad_name), (8, absent)],
-    together: &[],
+    together: &[(7, &[8])],
     names: 1,
+    in_directory: true,
     rules: Rules::OfMarks,
     often: Often::writing(6, 8, 4, 8),
     any: |desk, random| Arguments { name: desk.present(File::is_marked, random), ..NONE },
     by_library: |lent, asked| {
-        ask!(pno_clear_mark, [lent.image], asked.layout_bits, [lent.name], lent.wrong)
+        let (layout, directory) = (asked.layout_bits, asked.directory);
+        ask!(pno_clear_mark, [lent.image], layout, directory, [lent.name], lent.wrong)
     },
-    by_host: |lent, asked| pnoelithe::clear_mark(lent.image, asked.layout_for_host(), lent.name),
+    by_host: |lent, asked| {
+        let (layout, directory) = (asked.layout_for_host(), asked.directory);
+        pnoelithe::clear_mark(lent.image, layout, directory, lent.name)
+    },
     by_reference: |image, asked| {
-        reference::clear_mark(image, asked.name.lent()).map(|()| Answer::Done)
+        reference::clear_mark(image, asked.layout(), asked.directory, asked.name.lent())?;
+        Ok(Answer::Done)
     },
     by_plan: Plan::Writes(Writing {
         on_disk: |disk, asked| called(disk, asked).header[12] &= !MARK,
@@ -215,6 +265,9 @@ pub(crate) static CLEAR_MARK: Call = Call {
         ("mark cleared on an image that the old rule refuses, asked by that", |case| {
             let is_old = !case.asked.arguments.layout().marks;
             is_old && clears(case, |_| true)
+        }),
+        ("mark of a file of a directory cleared", |case| {
+            clears(case, |_| true) && case.asked.directory > 0
         }),
     ],
     measured: Measured {

@@ -2,7 +2,7 @@
 
 use super::answer::number_of_kind;
 use super::arguments::{around, room_for};
-use super::plan::{is_protected, length_of};
+use super::plan::{is_protected, length_of, no_directory};
 use super::{Answer, Arguments, Call, Often, Plan, Reading, Rules, Written, NONE};
 use crate::layout::Layout;
 use crate::library::ask;
@@ -15,8 +15,9 @@ pub(crate) static JUDGE: Call = Call {
     tests: &[],
     together: &[],
     names: 0,
+    in_directory: false,
     rules: Rules::AsAsked,
-    often: Often::single(1),
+    often: Often::single(2),
     any: |_, _| NONE,
     by_library: |lent, asked| ask!(pno_judge, [lent.image], asked.layout_bits),
     by_host: |lent, asked| pnoelithe::judge(lent.image, asked.layout_for_host()),
@@ -31,8 +32,9 @@ pub(crate) static FREE_COUNT: Call = Call {
     tests: &[],
     together: &[],
     names: 0,
+    in_directory: false,
     rules: Rules::AsAsked,
-    often: Often::single(1),
+    often: Often::single(2),
     any: |_, _| NONE,
     by_library: |lent, asked| {
         ask!(pno_free_count, [lent.image], asked.layout_bits, &mut lent.numbers[0])
@@ -56,8 +58,9 @@ pub(crate) static SUMMARY: Call = Call {
     tests: &[],
     together: &[],
     names: 0,
+    in_directory: false,
     rules: Rules::AsAsked,
-    often: Often::single(1),
+    often: Often::single(2),
     any: |_, _| for_a_name(),
     by_library: |lent, asked| {
         let [n, files, free_sectors, _] = lent.numbers;
@@ -93,11 +96,15 @@ fn for_a_name() -> Arguments {
 pub(crate) static ENTRY: Call = Call {
     title: "entry",
     tests: &[
-        (8, |asked| asked.on_disk(|disk| asked.at >= disk.files.len())),
+        (8, |asked| {
+            let is_past = |files: Vec<&File>| asked.at >= files.len();
+            no_directory(asked) || asked.files().map_or(false, is_past)
+        }),
         (15, |asked| asked.room < HEADER_BYTES),
     ],
     together: &[(8, &[15])],
     names: 0,
+    in_directory: true,
     rules: Rules::AsAsked,
     often: Often::single(3),
     any: |desk, random| {
@@ -106,7 +113,7 @@ pub(crate) static ENTRY: Call = Call {
             1 => random.pick(&[HEADER_BYTES, HEADER_BYTES + 1]),
             _ => random.pick(&[HEADER_BYTES + 2, 255, 256, 257, 256 + HEADER_BYTES - 1]),
         };
-        Arguments { at: around(desk.disk.files.len(), random), room, ..NONE }
+        Arguments { at: around(desk.files().len(), random), room, ..NONE }
     },
     by_library: |lent, asked| {
         let [kind, length, sectors, is_protected] = lent.numbers;
@@ -114,6 +121,7 @@ pub(crate) static ENTRY: Call = Call {
             pno_entry,
             [lent.image],
             asked.layout_bits,
+            asked.directory,
             asked.at,
             [lent.buffer],
             kind,
@@ -123,17 +131,19 @@ pub(crate) static ENTRY: Call = Call {
         )
     },
     by_host: |lent, asked| {
+        let (layout, directory) = (asked.layout_for_host(), asked.directory);
         let pnoelithe::Entry { kind, sectors, is_protected } =
-            pnoelithe::entry(lent.image, asked.layout_for_host(), asked.at, lent.buffer)?;
+            pnoelithe::entry(lent.image, layout, directory, asked.at, lent.buffer)?;
         *lent.numbers = [number_of_kind(kind), kind.length(), sectors, is_protected.into()];
         Ok(())
     },
     by_reference: |image, asked| {
-        reference::entry(image, asked.layout(), asked.at, asked.room).map(Answer::Entry)
+        let (layout, directory) = (asked.layout(), asked.directory);
+        reference::entry(image, layout, directory, asked.at, asked.room).map(Answer::Entry)
     },
     by_plan: Plan::Reads(Reading {
         of_disk: |disk, asked| {
-            let file = disk.files.get(asked.at)?;
+            let file = disk.files_in(asked.directory).nth(asked.at)?;
             let numbers = [kind(file).0, length_of(file), file.count(), is_protected(file).into()];
             Some(Written::new(&file.header, &numbers))
         },
@@ -145,12 +155,20 @@ pub(crate) static ENTRY: Call = Call {
     }),
     met: &[
         ("place one past the last", |case| {
-            let places = case.asked.disk().map(|disk| disk.files.len());
+            let places = case.asked.files().map(|files| files.len());
             case.number == 8 && places == Some(case.asked.at)
         }),
         ("entry of a file with the mark", |case| {
-            let file = case.asked.disk().and_then(|disk| disk.files.get(case.asked.at));
+            let file = case.asked.files().and_then(|files| files.get(case.asked.at).copied());
             case.is_done() && file.map_or(false, File::is_marked)
+        }),
+        ("entry of a file of a directory", |case| case.is_done() && case.asked.directory > 0),
+        ("place that another directory has", |case| {
+            let is_there = |disk: &Disk| {
+                let mut numbers = disk.numbers().into_iter();
+                numbers.any(|number| disk.files_in(number).count() > case.asked.at)
+            };
+            case.number == 8 && case.asked.files().is_some() && case.asked.on_disk(is_there)
         }),
     ],
     measured: Measured {
@@ -162,33 +180,46 @@ pub(crate) static ENTRY: Call = Call {
 /// The listing's buffer is not in the paper: it is held to the rule of the others.
 pub(crate) static LISTING: Call = Call {
     title: "listing",
-    tests: &[(15, |asked| {
-        let room = asked.room;
-        asked.disk().map_or(room == 0, |disk| room < lines(disk, asked.by).len())
-    })],
-    together: &[],
+    tests: &[
+        (8, no_directory),
+        (15, |asked| {
+            let disk = asked.disk().filter(|disk| disk.has(asked.directory));
+            let takes = disk.map(|disk| lines(disk, asked.by, asked.directory).len());
+            takes.map_or(asked.room == 0, |takes| asked.room < takes)
+        }),
+    ],
+    together: &[(8, &[15])],
     names: 0,
+    in_directory: true,
     rules: Rules::AsAsked,
     often: Often::single(2),
     any: |desk, random| {
         // Now and then the length that the text has by the other rule.
-        let layout = if random.once_in(8) { random.pick(&Layout::BOTH) } else { desk.layout };
-        Arguments { room: room_for(lines(desk.disk, layout).len(), random), ..NONE }
+        let either = random.pick(&desk.layout.of_edition());
+        let layout = if random.once_in(8) { either } else { desk.layout };
+        let directory = if desk.disk.has(desk.directory) { desk.directory } else { 0 };
+        let takes = lines(desk.disk, layout, directory).len();
+        Arguments { room: room_for(takes, random), ..NONE }
     },
     by_library: |lent, asked| {
-        let length = &mut lent.numbers[0];
-        ask!(pno_listing, [lent.image], asked.layout_bits, [lent.buffer], length)
+        let (layout, length) = (asked.layout_bits, &mut lent.numbers[0]);
+        ask!(pno_listing, [lent.image], layout, asked.directory, [lent.buffer], length)
     },
     by_host: |lent, asked| {
-        let text = pnoelithe::listing(lent.image, asked.layout_for_host(), lent.buffer)?;
+        let (layout, directory) = (asked.layout_for_host(), asked.directory);
+        let text = pnoelithe::listing(lent.image, layout, directory, lent.buffer)?;
         lent.numbers[0] = text.len();
         Ok(())
     },
     by_reference: |image, asked| {
-        reference::listing(image, asked.layout(), asked.room).map(Answer::Text)
+        let (layout, directory) = (asked.layout(), asked.directory);
+        reference::listing(image, layout, directory, asked.room).map(Answer::Text)
     },
     by_plan: Plan::Reads(Reading {
-        of_disk: |disk, asked| Some(Written::counted(lines(disk, asked.layout()).as_bytes())),
+        of_disk: |disk, asked| {
+            let lines = lines(disk, asked.layout(), asked.directory);
+            disk.has(asked.directory).then(|| Written::counted(lines.as_bytes()))
+        },
         all: |_| {
             let rooms = [0, SECTOR_BYTES * MOST_SECTORS];
             rooms.map(|room| Arguments { room, ..NONE }).into()
@@ -197,13 +228,22 @@ pub(crate) static LISTING: Call = Call {
     met: &[
         ("listing of files with and without the mark", |case| {
             let is_of = |rule: fn(&File) -> bool| {
-                case.asked.disk().map_or(false, |disk| disk.files.iter().any(rule))
+                case.asked.files().map_or(false, |files| files.into_iter().any(rule))
             };
             case.is_done() && is_of(File::is_marked) && is_of(|file| !file.is_marked())
         }),
         ("buffer that the old rule's text would fit into", |case| {
-            let is_enough = |disk: &Disk| lines(disk, Layout::OLD).len() <= case.asked.room;
-            case.number == 15 && case.asked.disk().map_or(false, is_enough)
+            let text = |disk: &Disk| lines(disk, Layout::OLD, case.asked.directory);
+            let is_enough = |disk: &Disk| text(disk).len() <= case.asked.room;
+            case.number == 15 && case.asked.on_disk(is_enough)
+        }),
+        ("listing of a directory with files", |case| {
+            let is_full = |files: Vec<&File>| !files.is_empty();
+            case.is_done() && case.asked.directory > 0 && case.asked.files().map_or(false, is_full)
+        }),
+        ("listing of a directory without a file", |case| {
+            let is_empty = |files: Vec<&File>| files.is_empty();
+            case.is_done() && case.asked.directory > 0 && case.asked.files().map_or(false, is_empty)
         }),
     ],
     measured: Measured {
@@ -223,11 +263,11 @@ fn kind(file: &File) -> (usize, &'static str) {
     }
 }
 
-/// The listing of a disk that is sound by the layout.
-pub fn lines(disk: &Disk, layout: Layout) -> String {
+/// The listing of a directory of a disk that is sound by the layout.
+pub fn lines(disk: &Disk, layout: Layout, directory: usize) -> String {
     let free = disk.free().len();
     let mut lines = line(&[&unpadded(&disk.image[..10]), &disk.sectors, &free]);
-    for file in &disk.files {
+    for file in disk.files_in(directory) {
         let protection = if is_protected(file) { "P" } else { "U" };
         let mark = if file.is_marked() { "M" } else { "-" };
         let (_, kind) = kind(file);

@@ -1,6 +1,7 @@
 //! Calls that make a file: create and store.
 
-use super::plan::{bad_name, fill, full_index, grown, is_too_long, mark, present};
+use super::plan::{bad_name, fill, full_index, grown, is_named_twice, is_too_long, mark};
+use super::plan::{no_directory, present};
 use super::{Answer, Arguments, Asked, Call, Case, Given, Often, Plan, Rules, Writing};
 use super::{LOAD, NONE};
 use crate::layout::Layout;
@@ -19,13 +20,21 @@ pub(crate) static CREATE: Call = Call {
     title: "create",
     tests: &[
         (7, bad_name),
+        (8, no_directory),
         (9, present),
         (15, |asked| !CREATED.contains(&asked.bytes[0])),
         (11, full_index),
         (12, |asked| asked.lacks(1)),
     ],
-    together: &[(7, &[15, 11, 12]), (9, &[15, 11, 12]), (15, &[11, 12]), (11, &[12])],
+    together: &[
+        (7, &[8, 15, 11, 12]),
+        (8, &[15, 12]),
+        (9, &[15, 11, 12]),
+        (15, &[11, 12]),
+        (11, &[12]),
+    ],
     names: 1,
+    in_directory: true,
     rules: Rules::AsAsked,
     often: Often::writing(18, 12, 6, 4),
     any: |desk, random| {
@@ -36,7 +45,7 @@ pub(crate) static CREATE: Call = Call {
             _ => random.pick(&CREATED),
         };
         let bytes = [status, random.byte(), random.byte(), 0];
-        let name = desk.name_where(desk.disk.files.len() == MOST_FILES, random);
+        let name = desk.name_where(desk.files().len() == MOST_FILES, random);
         Arguments { name, bytes, ..NONE }
     },
     by_library: |lent, asked| {
@@ -45,6 +54,7 @@ pub(crate) static CREATE: Call = Call {
             pno_create,
             [lent.image],
             asked.layout_bits,
+            asked.directory,
             [lent.name],
             status,
             record_length,
@@ -54,13 +64,27 @@ pub(crate) static CREATE: Call = Call {
     },
     by_host: |lent, asked| {
         let [status, record_length, records_per_sector, _] = asked.bytes;
-        let layout = asked.layout_for_host();
-        pnoelithe::create(lent.image, layout, lent.name, status, record_length, records_per_sector)
+        pnoelithe::create(
+            lent.image,
+            asked.layout_for_host(),
+            asked.directory,
+            lent.name,
+            status,
+            record_length,
+            records_per_sector,
+        )
     },
     by_reference: |image, asked| {
         let [status, record_length, records_per_sector, _] = asked.bytes;
-        let (layout, name) = (asked.layout(), asked.name.lent());
-        reference::create(image, layout, name, status, record_length, records_per_sector)?;
+        reference::create(
+            image,
+            asked.layout(),
+            asked.directory,
+            asked.name.lent(),
+            status,
+            record_length,
+            records_per_sector,
+        )?;
         Ok(Answer::Done)
     },
     by_plan: Plan::Writes(Writing {
@@ -87,6 +111,11 @@ pub(crate) static CREATE: Call = Call {
         ("create that takes the last free sector", |case| fills(case, 1)),
         ("127th file made", is_last_place),
         ("128th file asked for on a full disk", is_out_of_both),
+        ("file of a directory made", |case| case.is_done() && case.asked.directory > 0),
+        ("file made whose name another directory has", is_named_again),
+        ("127th file of a directory made", is_last_of_directory),
+        ("128th file of a directory asked for where another has room", is_full_beside_room),
+        ("file made beside a directory that is full", is_beside_full),
     ],
     measured: Measured {
         // Display, variable, with records of 80 bytes.
@@ -108,6 +137,7 @@ pub(crate) static STORE: Call = Call {
     title: "store",
     tests: &[
         (7, bad_name),
+        (8, no_directory),
         (9, present),
         (15, |asked| asked.other.lent().len() > MOST_PROGRAM_BYTES),
         (11, full_index),
@@ -115,12 +145,14 @@ pub(crate) static STORE: Call = Call {
         (13, |asked| is_too_long(stored(asked))),
     ],
     together: &[
-        (7, &[15, 11, 12, 13]),
+        (7, &[8, 15, 11, 12, 13]),
+        (8, &[15, 12, 13]),
         (9, &[15, 11, 12, 13]),
         (15, &[11, 12, 13]),
         (11, &[12, 13]),
     ],
     names: 1,
+    in_directory: true,
     rules: Rules::AsAsked,
     often: Often::writing(20, 18, 50, 6),
     any: |desk, random| {
@@ -148,15 +180,17 @@ pub(crate) static STORE: Call = Call {
         Arguments { name, other: Given::whole(&random.bytes(length)), ..NONE }
     },
     by_library: |lent, asked| {
-        let layout = asked.layout_bits;
-        ask!(pno_store, [lent.image], layout, [lent.name], [lent.other], lent.wrong)
+        let (layout, directory) = (asked.layout_bits, asked.directory);
+        ask!(pno_store, [lent.image], layout, directory, [lent.name], [lent.other], lent.wrong)
     },
     by_host: |lent, asked| {
-        pnoelithe::store(lent.image, asked.layout_for_host(), lent.name, lent.other)
+        let (layout, directory) = (asked.layout_for_host(), asked.directory);
+        pnoelithe::store(lent.image, layout, directory, lent.name, lent.other)
     },
     by_reference: |image, asked| {
         let (name, bytes) = (asked.name.lent(), asked.other.lent());
-        reference::store(image, asked.layout(), name, bytes).map(|()| Answer::Done)
+        reference::store(image, asked.layout(), asked.directory, name, bytes)?;
+        Ok(Answer::Done)
     },
     by_plan: Plan::Writes(Writing {
         on_disk: |disk, asked| {
@@ -179,7 +213,7 @@ pub(crate) static STORE: Call = Call {
         },
         look: Some(("program loaded that was just stored", |_, asked| {
             let (name, room) = (asked.name.clone(), asked.other.lent().len());
-            (&LOAD, Arguments { name, room, ..NONE })
+            (&LOAD, Arguments { directory: asked.directory, name, room, ..NONE })
         })),
     }),
     met: &[
@@ -198,6 +232,11 @@ pub(crate) static STORE: Call = Call {
         ("store of 32,769 bytes", |case| case.number == 15 && is_of(case, &[32_769])),
         ("127th file made", is_last_place),
         ("128th file asked for on a full disk", is_out_of_both),
+        ("program of a directory stored", |case| case.is_done() && case.asked.directory > 0),
+        ("file made whose name another directory has", is_named_again),
+        ("127th file of a directory made", is_last_of_directory),
+        ("128th file of a directory asked for where another has room", is_full_beside_room),
+        ("file made beside a directory that is full", is_beside_full),
     ],
     measured: Measured {
         arguments: |full| Arguments { name: full.name(), other: full.program(), ..NONE },
@@ -243,7 +282,8 @@ fn runs_of_program(disk: &Disk, asked: &Arguments) -> Option<Vec<Run>> {
 fn made(disk: &Disk, asked: &Arguments, runs: Vec<Run>) -> File {
     let mut header = [0; HEADER_BYTES];
     header[..10].copy_from_slice(asked.name.lent());
-    let mut file = File { descriptor: disk.free()[0], header, runs };
+    let (directory, descriptor) = (asked.directory, disk.free()[0]);
+    let mut file = File { directory, descriptor, header, runs };
     file.set_count(file.sectors().count());
     file
 }
@@ -266,7 +306,30 @@ fn makes_marked(case: &Case) -> bool {
 }
 
 fn is_last_place(case: &Case) -> bool {
-    case.is_done() && case.asked.on_disk(|disk| disk.files.len() == MOST_FILES - 1)
+    let is_last = |files: Vec<&File>| files.len() == MOST_FILES - 1;
+    case.is_done() && case.asked.files().map_or(false, is_last)
+}
+
+fn is_last_of_directory(case: &Case) -> bool {
+    is_last_place(case) && case.asked.directory > 0
+}
+
+fn is_full_beside_room(case: &Case) -> bool {
+    let has_room = |disk: &Disk| {
+        disk.numbers().into_iter().any(|number| disk.files_in(number).count() < MOST_FILES)
+    };
+    case.number == 11 && case.asked.directory > 0 && case.asked.on_disk(has_room)
+}
+
+fn is_beside_full(case: &Case) -> bool {
+    let is_full = |disk: &Disk| {
+        disk.numbers().into_iter().any(|number| disk.files_in(number).count() == MOST_FILES)
+    };
+    case.is_done() && case.asked.on_disk(is_full)
+}
+
+fn is_named_again(case: &Case) -> bool {
+    case.is_done() && is_named_twice(&case.asked)
 }
 
 fn is_out_of_both(case: &Case) -> bool {

@@ -1,15 +1,15 @@
 //! What a call must do by the plan of a disk, which knows the files and where everything lies. Every
 //! fault is looked for on its own, and the first in the paper's order gives the number. What is
 //! read comes from the plan, the disk name and the sectors of files apart; a call that writes
-//! changes the plan's files, and map, sector 1 and descriptors are laid down from these anew.
+//! changes the plan's files, and map, indexes and descriptors are laid down from these anew.
 
-use super::{Arguments, Call, Given, Written};
+use super::{Arguments, Call, Case, Given, Written};
 use crate::layout::Layout;
 use crate::reference;
 use crate::sequences::Shelved;
 use crate::suites::{Image, Numbers};
-use crate::volumes::{is_letter, is_name, Disk, File, Name, Run, MARK};
-use crate::volumes::{MOST_BLOCKS, MOST_FILES, SECTOR_BYTES};
+use crate::volumes::{is_letter, is_name, Directory, Disk, File, Name, Run, MARK};
+use crate::volumes::{MOST_BLOCKS, MOST_DIRECTORIES, MOST_FILES, SECTOR_BYTES};
 use std::ops::Deref;
 
 const FIRST_FOR_DATA: usize = 34;
@@ -25,8 +25,8 @@ pub(crate) enum Plan {
 pub(crate) struct Reading {
     /// What is given of a disk if the buffer is long enough; none where there is nothing to give.
     pub of_disk: fn(&Disk, &Arguments) -> Option<Written>,
-    /// All that can be read of a volume with these files; at each end one step further, under names
-    /// that no file has, and with buffers that are too short.
+    /// All that can be read of a directory with these files; at each end one step further, under
+    /// names that no file has, and with buffers that are too short.
     pub all: fn(&[Listed]) -> Vec<Arguments>,
 }
 
@@ -73,11 +73,17 @@ impl<'case> Asked<'case> {
     }
 
     pub(crate) fn file(&self) -> Option<&'case File> {
-        find(self.disk()?, &self.name)
+        find(self.disk()?, self.directory, &self.name)
+    }
+
+    /// The files of the directory, where that is there.
+    pub(crate) fn files(&self) -> Option<Vec<&'case File>> {
+        let disk = self.disk()?;
+        disk.has(self.directory).then(|| disk.files_in(self.directory).collect())
     }
 
     /// Whether the disk is known and keeps a rule.
-    pub(super) fn on_disk(&self, rule: impl FnOnce(&Disk) -> bool) -> bool {
+    pub(crate) fn on_disk(&self, rule: impl FnOnce(&Disk) -> bool) -> bool {
         self.disk().map_or(false, rule)
     }
 
@@ -103,7 +109,19 @@ pub(super) fn bad_name(asked: &Asked) -> bool {
 }
 
 pub(super) fn absent(asked: &Asked) -> bool {
-    !bad_name(asked) && asked.disk().is_some() && asked.file().is_none()
+    let is_no_file = asked.disk().is_some() && asked.file().is_none();
+    no_directory(asked) || !bad_name(asked) && is_no_file
+}
+
+/// Above 3 there is none on any disk, and by the first edition none but the root. Where that is all
+/// one, the number says it without the disk.
+pub(super) fn no_directory(asked: &Asked) -> bool {
+    let is_none = match asked.directory {
+        0 => false,
+        1..=MOST_DIRECTORIES => !asked.by.directories,
+        _ => true,
+    };
+    is_none || asked.on_disk(|disk| !disk.has(asked.directory))
 }
 
 pub(super) fn present(asked: &Asked) -> bool {
@@ -118,13 +136,26 @@ pub(super) fn program(asked: &Asked) -> bool {
     asked.on_file(File::is_program)
 }
 
+/// Whether other directories than the one that is asked for have a file of the name.
+pub(super) fn is_named_twice(asked: &Asked) -> bool {
+    asked.on_disk(|disk| {
+        let mut others = disk.numbers().into_iter().filter(|number| *number != asked.directory);
+        others.any(|number| find(disk, number, &asked.name).is_some())
+    })
+}
+
+/// Whether the file is not found, and a directory that is not asked for has one of that name.
+pub(super) fn is_elsewhere(case: &Case) -> bool {
+    case.number == 8 && case.asked.files().is_some() && is_named_twice(&case.asked)
+}
+
 /// Data that is to be one sector is not.
 pub(super) fn not_a_sector(asked: &Asked) -> bool {
     asked.other.lent().len() != SECTOR_BYTES
 }
 
 pub(super) fn full_index(asked: &Asked) -> bool {
-    asked.on_disk(|disk| disk.files.len() == MOST_FILES)
+    asked.files().map_or(false, |files| files.len() == MOST_FILES)
 }
 
 /// Whether a chain would have too many blocks; none is where the file cannot grow for other reasons.
@@ -185,15 +216,19 @@ pub(super) fn length_of(file: &File) -> usize {
     }
 }
 
-/// A file of a name that keeps the rule: no other has one.
-pub(super) fn find<'disk>(disk: &'disk Disk, name: &Given) -> Option<&'disk File> {
-    disk.files.iter().find(|file| file.name()[..] == *name.lent())
+/// A file of a directory by a name that keeps the rule: no other has one.
+pub(super) fn find<'disk>(
+    disk: &'disk Disk,
+    directory: usize,
+    name: &Given,
+) -> Option<&'disk File> {
+    disk.files_in(directory).find(|file| file.name()[..] == *name.lent())
 }
 
 /// The file that a call without fault changes.
 pub(super) fn called<'disk>(disk: &'disk mut Disk, arguments: &Arguments) -> &'disk mut File {
-    let name = arguments.name.name();
-    disk.files.iter_mut().find(|file| file.name() == name).expect("a call without fault has one")
+    let place = (arguments.directory, arguments.name.name());
+    disk.files.iter_mut().find(|file| file.place() == place).expect("a call without fault has one")
 }
 
 /// The runs of a file that takes so many sectors more, of those that are free; none where they are
@@ -252,7 +287,7 @@ pub(super) fn planned(call: &Call, asked: &Asked, faults: &[u32]) -> Option<Plan
         (0, Plan::Writes(writing), Some(planned)) => {
             let mut changed = planned.clone();
             (writing.on_disk)(&mut changed, arguments);
-            changed.files.sort_by_key(File::name);
+            changed.files.sort_by_key(File::place);
             changed.lay_down();
             disk = Some(changed);
         }
@@ -272,16 +307,28 @@ pub(super) fn takes(call: &Call, asked: &Asked) -> Option<usize> {
 }
 
 /// The plan of an image that was not built from one, as the reference reads it; none where it is
-/// sound by neither rule.
+/// sound by no layout. Where it is so by both editions, it has no directory.
 pub(crate) fn of_image(image: &[u8]) -> Option<Disk> {
-    let volume = reference::judge(image, Layout::MARKS).ok()?;
-    let file = |(descriptor, described): (usize, reference::Descriptor)| File {
-        descriptor,
-        header: *described.header(),
-        runs: described.chain().blocks().map(run).collect(),
-    };
-    let files = volume.files().map(file).collect();
-    Some(Disk { sectors: volume.sectors(), files, image: image.to_vec() })
+    let by_first = reference::judge(image, Layout::MARKS);
+    let volume =
+        by_first.or_else(|_| reference::judge(image, Layout::MARKS_AND_DIRECTORIES)).ok()?;
+    let mut directories = [None; MOST_DIRECTORIES];
+    for (directory, entry) in directories.iter_mut().zip(volume.entries()) {
+        let own = Directory { name: *entry.name(), index: entry.index() };
+        *directory = (!entry.is_absent()).then_some(own);
+    }
+    let numbers =
+        (0..=MOST_DIRECTORIES).filter_map(|number| Some((number, volume.directory(number)?)));
+    let files = numbers.flat_map(|(directory, listing)| {
+        listing.files().map(move |(descriptor, described)| File {
+            directory,
+            descriptor,
+            header: *described.header(),
+            runs: described.chain().blocks().map(run).collect(),
+        })
+    });
+    let (sectors, files) = (volume.sectors(), files.collect());
+    Some(Disk { sectors, directories, files, image: image.to_vec() })
 }
 
 /// The numbers of such an image.

@@ -1,7 +1,8 @@
 //! Calls that read what a file holds: read and load.
 
-use super::arguments::{around, name_for, room_for, some_file};
-use super::plan::{absent, bad_name, find, is_protected, length_of};
+use super::arguments::{around, name_for, room_for};
+use super::plan::length_of;
+use super::plan::{absent, bad_name, find, is_elsewhere, is_named_twice, is_protected};
 use super::{Answer, Arguments, Call, Case, Given, Listed, Often, Plan, Reading, Rules};
 use super::{Written, NONE};
 use crate::layout::Layout;
@@ -17,13 +18,14 @@ pub(crate) static READ: Call = Call {
         (8, absent),
         (15, |asked| asked.past().is_some() || asked.room < SECTOR_BYTES),
     ],
-    together: &[(7, &[15]), (8, &[15])],
+    together: &[(7, &[8, 15]), (8, &[15])],
     names: 1,
+    in_directory: true,
     rules: Rules::AsAsked,
-    often: Often::single(3),
+    often: Often::single(5),
     any: |desk, random| {
         let any = random.once_in(4);
-        let file = some_file(desk.disk, |file| any || file.count() > 0, random);
+        let file = desk.some_file(|file| any || file.count() > 0, random);
         let name = name_for(file, random);
         let room = match random.below(3) {
             0 => random.pick(&[0, 1, HEADER_BYTES, SECTOR_BYTES - 2, SECTOR_BYTES - 1]),
@@ -34,20 +36,20 @@ pub(crate) static READ: Call = Call {
         Arguments { name, at, room, ..NONE }
     },
     by_library: |lent, asked| {
-        let (layout, at) = (asked.layout_bits, asked.at);
-        ask!(pno_read, [lent.image], layout, [lent.name], at, [lent.buffer], lent.wrong)
+        let (layout, directory, at) = (asked.layout_bits, asked.directory, asked.at);
+        ask!(pno_read, [lent.image], layout, directory, [lent.name], at, [lent.buffer], lent.wrong)
     },
     by_host: |lent, asked| {
-        let layout = asked.layout_for_host();
-        pnoelithe::read(lent.image, layout, lent.name, asked.at, lent.buffer).map(drop)
+        let (layout, directory) = (asked.layout_for_host(), asked.directory);
+        pnoelithe::read(lent.image, layout, directory, lent.name, asked.at, lent.buffer).map(drop)
     },
     by_reference: |image, asked| {
-        let (name, at) = (asked.name.lent(), asked.at);
-        reference::read(image, asked.layout(), name, at, asked.room).map(Answer::Sector)
+        let (layout, directory, name) = (asked.layout(), asked.directory, asked.name.lent());
+        reference::read(image, layout, directory, name, asked.at, asked.room).map(Answer::Sector)
     },
     by_plan: Plan::Reads(Reading {
         of_disk: |disk, asked| {
-            let sector = find(disk, &asked.name)?.sectors().nth(asked.at)?;
+            let sector = find(disk, asked.directory, &asked.name)?.sectors().nth(asked.at)?;
             Some(Written::new(&disk.image[SECTOR_BYTES * sector..][..SECTOR_BYTES], &[]))
         },
         all: |files| {
@@ -71,6 +73,11 @@ pub(crate) static READ: Call = Call {
         ("sector of a file with the mark", |case| {
             case.is_done() && case.asked.on_file(File::is_marked)
         }),
+        ("sector of a file of a directory", |case| case.is_done() && case.asked.directory > 0),
+        ("sector of one of several files of that name", |case| {
+            case.is_done() && is_named_twice(&case.asked)
+        }),
+        ("sector of a file that is in another directory", is_elsewhere),
         ("sector not in the first block", |case| {
             let at = case.asked.at;
             case.is_done() && case.asked.on_file(|file| at > file.last_offset(0))
@@ -90,13 +97,14 @@ pub(crate) static LOAD: Call = Call {
         (14, |asked| asked.on_file(|file| !file.is_program())),
         (15, |asked| asked.on_file(|file| asked.room < length_of(file))),
     ],
-    together: &[],
+    together: &[(7, &[8])],
     names: 1,
+    in_directory: true,
     rules: Rules::AsAsked,
     often: Often::single(4),
     any: |desk, random| {
         let any = random.once_in(4);
-        let file = some_file(desk.disk, |file| any || file.is_program(), random);
+        let file = desk.some_file(|file| any || file.is_program(), random);
         let name = name_for(file, random);
         let (length, sectors) = file.map_or((300, 2), |file| (length_of(file), file.count()));
         let is_whole = random.once_in(8);
@@ -104,20 +112,32 @@ pub(crate) static LOAD: Call = Call {
         Arguments { name, room, ..NONE }
     },
     by_library: |lent, asked| {
-        let (layout, length) = (asked.layout_bits, &mut lent.numbers[0]);
-        ask!(pno_load, [lent.image], layout, [lent.name], [lent.buffer], length, lent.wrong)
+        let (layout, directory, length) =
+            (asked.layout_bits, asked.directory, &mut lent.numbers[0]);
+        ask!(
+            pno_load,
+            [lent.image],
+            layout,
+            directory,
+            [lent.name],
+            [lent.buffer],
+            length,
+            lent.wrong
+        )
     },
     by_host: |lent, asked| {
-        let layout = asked.layout_for_host();
-        lent.numbers[0] = pnoelithe::load(lent.image, layout, lent.name, lent.buffer)?.len();
+        let (layout, directory) = (asked.layout_for_host(), asked.directory);
+        let loaded = pnoelithe::load(lent.image, layout, directory, lent.name, lent.buffer)?;
+        lent.numbers[0] = loaded.len();
         Ok(())
     },
     by_reference: |image, asked| {
-        reference::load(image, asked.layout(), asked.name.lent(), asked.room).map(Answer::Counted)
+        let (layout, directory, name) = (asked.layout(), asked.directory, asked.name.lent());
+        reference::load(image, layout, directory, name, asked.room).map(Answer::Counted)
     },
     by_plan: Plan::Reads(Reading {
         of_disk: |disk, asked| {
-            let file = find(disk, &asked.name)?;
+            let file = find(disk, asked.directory, &asked.name)?;
             let mut content = content(disk, file);
             content.truncate(length_of(file));
             Some(Written::counted(&content))
@@ -134,6 +154,8 @@ pub(crate) static LOAD: Call = Call {
     met: &[
         ("not a program and no buffer", |case| case.number == 14 && case.asked.room == 0),
         ("program with the mark", |case| case.is_done() && case.asked.on_file(File::is_marked)),
+        ("program of a directory", |case| case.is_done() && case.asked.directory > 0),
+        ("program that is in another directory", is_elsewhere),
         ("program of no bytes", |case| loads(case, |length| length == 0)),
         ("program that ends on a full sector", |case| {
             loads(case, |length| length > 0 && length % SECTOR_BYTES == 0)

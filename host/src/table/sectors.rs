@@ -1,9 +1,9 @@
 //! Calls that write a sector of a data file: append and overwrite.
 
-use super::arguments::{around, data, given_name, is_open_data, some_file};
+use super::arguments::{around, data, given_name, is_open_data};
 use super::making::fills;
-use super::plan::{absent, bad_name, called, fill, find, grown, is_protected};
-use super::plan::{is_too_long, mark, not_a_sector, program, protected};
+use super::plan::{absent, bad_name, called, fill, find, grown, is_elsewhere, is_named_twice};
+use super::plan::{is_protected, is_too_long, mark, not_a_sector, program, protected};
 use super::{Answer, Arguments, Asked, Call, Case, Often, Plan, Rules, Writing, NONE, READ};
 use crate::layout::Layout;
 use crate::library::ask;
@@ -23,34 +23,37 @@ pub(crate) static APPEND: Call = Call {
         (13, |asked| is_too_long(appended(asked))),
     ],
     together: &[
-        (7, &[15, 12]),
+        (7, &[8, 15, 12]),
         (8, &[15, 12]),
         (10, &[14, 15, 12, 13]),
         (14, &[15, 12, 13]),
         (15, &[12, 13]),
     ],
     names: 1,
+    in_directory: true,
     rules: Rules::AsAsked,
     often: Often::writing(36, 24, 8, 50),
     any: |desk, random| {
         let is_long = |file: &File| file.runs.len() >= MOST_BLOCKS - 2;
         let name = match random.below(5) {
-            0 | 1 if desk.disk.files.iter().any(is_long) => desk.present(is_long, random),
+            0 | 1 if desk.files().into_iter().any(is_long) => desk.present(is_long, random),
             2 => desk.present(|_| true, random),
             _ => desk.present(|file| !is_protected(file) && !file.is_program(), random),
         };
         Arguments { name, other: data(random), ..NONE }
     },
     by_library: |lent, asked| {
-        let layout = asked.layout_bits;
-        ask!(pno_append, [lent.image], layout, [lent.name], [lent.other], lent.wrong)
+        let (layout, directory) = (asked.layout_bits, asked.directory);
+        ask!(pno_append, [lent.image], layout, directory, [lent.name], [lent.other], lent.wrong)
     },
     by_host: |lent, asked| {
-        pnoelithe::append(lent.image, asked.layout_for_host(), lent.name, lent.other)
+        let (layout, directory) = (asked.layout_for_host(), asked.directory);
+        pnoelithe::append(lent.image, layout, directory, lent.name, lent.other)
     },
     by_reference: |image, asked| {
         let (name, data) = (asked.name.lent(), asked.other.lent());
-        reference::append(image, asked.layout(), name, data).map(|()| Answer::Done)
+        reference::append(image, asked.layout(), asked.directory, name, data)?;
+        Ok(Answer::Done)
     },
     by_plan: Plan::Writes(Writing {
         on_disk: |disk, asked| {
@@ -67,7 +70,8 @@ pub(crate) static APPEND: Call = Call {
             Some(file.changed(asked))
         },
         look: Some((READ_BACK, |disk, asked| {
-            let at = find(disk, &asked.name).map_or(0, |file| file.count() - 1);
+            let file = find(disk, asked.directory, &asked.name);
+            let at = file.map_or(0, |file| file.count() - 1);
             (&READ, read_back(asked, at))
         })),
     }),
@@ -88,6 +92,9 @@ pub(crate) static APPEND: Call = Call {
             appends(case, |_, now| now[now.len() - 1].sectors().end <= 34)
         }),
         ("append that takes the last free sector", |case| fills(case, 1)),
+        ("append to a file of a directory", |case| case.is_done() && case.asked.directory > 0),
+        ("append to one of several files of that name", is_of_several),
+        ("append to a file that is in another directory", is_elsewhere),
     ],
     measured: Measured {
         arguments: |full| Arguments { name: full.name(), other: full.sector(), ..NONE },
@@ -115,29 +122,39 @@ pub(crate) static OVERWRITE: Call = Call {
         (14, program),
         (15, |asked| asked.past().is_some() || not_a_sector(asked)),
     ],
-    together: &[(7, &[15]), (8, &[15]), (10, &[14, 15]), (14, &[15])],
+    together: &[(7, &[8, 15]), (8, &[15]), (10, &[14, 15]), (14, &[15])],
     names: 1,
+    in_directory: true,
     rules: Rules::AsAsked,
-    often: Often::writing(6, 6, 2, 4),
+    often: Often::writing(10, 10, 4, 6),
     any: |desk, random| {
         let any = random.once_in(3);
-        let file = some_file(desk.disk, |file| any || is_open_data(file), random);
+        let file = desk.some_file(|file| any || is_open_data(file), random);
         let at = around(file.map_or(1, File::count), random);
         let name = file.map_or_else(|| names(1, random)[0], File::name);
         let name = given_name(name, random);
         Arguments { name, at, other: data(random), ..NONE }
     },
     by_library: |lent, asked| {
-        let (layout, at) = (asked.layout_bits, asked.at);
-        ask!(pno_overwrite, [lent.image], layout, [lent.name], at, [lent.other], lent.wrong)
+        let (layout, directory, at) = (asked.layout_bits, asked.directory, asked.at);
+        ask!(
+            pno_overwrite,
+            [lent.image],
+            layout,
+            directory,
+            [lent.name],
+            at,
+            [lent.other],
+            lent.wrong
+        )
     },
     by_host: |lent, asked| {
-        let layout = asked.layout_for_host();
-        pnoelithe::overwrite(lent.image, layout, lent.name, asked.at, lent.other)
+        let (layout, directory) = (asked.layout_for_host(), asked.directory);
+        pnoelithe::overwrite(lent.image, layout, directory, lent.name, asked.at, lent.other)
     },
     by_reference: |image, asked| {
         let (name, data) = (asked.name.lent(), asked.other.lent());
-        reference::overwrite(image, asked.layout(), name, asked.at, data)?;
+        reference::overwrite(image, asked.layout(), asked.directory, name, asked.at, data)?;
         Ok(Answer::Done)
     },
     by_plan: Plan::Writes(Writing {
@@ -159,6 +176,8 @@ pub(crate) static OVERWRITE: Call = Call {
         ("overwrite in a file without the mark, which it gets", |case| is_on_marked(case, false)),
         ("offset one past the last", |case| case.number == 15 && case.asked.past() == Some(0)),
         ("offset of 2^31 or more", |case| case.number == 15 && case.asked.past() >= Some(1 << 31)),
+        ("overwrite in a file of a directory", |case| case.is_done() && case.asked.directory > 0),
+        ("overwrite in one of several files of that name", is_of_several),
     ],
     measured: Measured {
         arguments: |full| Arguments {
@@ -176,10 +195,16 @@ pub(super) fn is_on_marked(case: &Case, marked: bool) -> bool {
     case.is_done() && case.asked.by.marks && case.asked.on_file(|file| file.is_marked() == marked)
 }
 
+/// Whether it is done on a file of whose name there are several.
+pub(super) fn is_of_several(case: &Case) -> bool {
+    case.is_done() && is_named_twice(&case.asked)
+}
+
 const READ_BACK: &str = "sector read that was just written";
 
 fn read_back(written: &Arguments, at: usize) -> Arguments {
-    Arguments { name: written.name.clone(), at, room: SECTOR_BYTES, ..NONE }
+    let (directory, name) = (written.directory, written.name.clone());
+    Arguments { directory, name, at, room: SECTOR_BYTES, ..NONE }
 }
 
 /// The runs of the file after an append; none where there is no file or no room.
@@ -188,7 +213,7 @@ fn appended(asked: &Asked) -> Option<Vec<Run>> {
 }
 
 fn runs_after(disk: &Disk, asked: &Arguments) -> Option<Vec<Run>> {
-    grown(find(disk, &asked.name)?.runs.clone(), &disk.free(), 1)
+    grown(find(disk, asked.directory, &asked.name)?.runs.clone(), &disk.free(), 1)
 }
 
 /// Whether it is done, and keeps a rule by the file's runs before and after.

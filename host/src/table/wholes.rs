@@ -8,7 +8,8 @@ use crate::library::ask;
 use crate::packing::moved;
 use crate::reference::Geometry;
 use crate::speed::{Before, Measured, ALL};
-use crate::volumes::{names, word, Disk, File, Run, MOST_SECTORS, SECTOR_BYTES};
+use crate::volumes::{names, word, Directory, Disk, File, Run};
+use crate::volumes::{MOST_DIRECTORIES, MOST_SECTORS, SECTOR_BYTES};
 use crate::{pnoelithe, reference};
 
 /// It asks for nothing of the image but its length.
@@ -24,6 +25,7 @@ pub(crate) static FORMAT: Call = Call {
     ],
     together: &[(1, &[7])],
     names: 1,
+    in_directory: false,
     rules: Rules::None,
     often: Often::single(3),
     any: |desk, random| {
@@ -83,7 +85,8 @@ fn is_on(case: &Case, number: u32) -> bool {
 
 fn formatted(length: usize, asked: &Arguments) -> Disk {
     let [sectors_per_track, tracks, sides, density] = asked.bytes;
-    let mut disk = Disk { sectors: asked.at, files: Vec::new(), image: Vec::with_capacity(length) };
+    let (directories, image) = ([None; MOST_DIRECTORIES], Vec::with_capacity(length));
+    let mut disk = Disk { sectors: asked.at, directories, files: Vec::new(), image };
     disk.image.extend(asked.name.lent());
     disk.image.extend(word(asked.at));
     disk.image.push(sectors_per_track);
@@ -102,6 +105,7 @@ pub(crate) static PACK: Call = Call {
     tests: &[(15, |asked| asked.room != asked.image.bytes.len())],
     together: &[],
     names: 0,
+    in_directory: false,
     rules: Rules::AsAsked,
     often: Often::NEVER,
     any: |desk, _| Arguments { room: desk.image_bytes, ..NONE },
@@ -121,15 +125,21 @@ pub(crate) static PACK: Call = Call {
     },
 };
 
-/// The files moved to where the paper wants them, on a disk that held nothing.
+/// The directories and the files moved to where the paper wants them, on a disk that held nothing.
 fn packed(disk: &Disk) -> Disk {
-    let mut next = 2 + disk.files.len();
+    let mut indexes = 2..;
+    let directories = disk.directories.map(|directory| {
+        let Directory { name, .. } = directory?;
+        Some(Directory { name, index: indexes.next()? })
+    });
+    let first = indexes.start;
+    let mut next = first + disk.files.len();
     let mut moved_file = |(place, file): (usize, &File)| {
         let run = Run { start: next, length: file.count() };
         next += run.length;
         let runs = if run.length == 0 { vec![] } else { vec![run] };
-        File { descriptor: 2 + place, header: file.header, runs }
+        File { descriptor: first + place, runs, ..file.clone() }
     };
     let files = disk.files.iter().enumerate().map(&mut moved_file).collect();
-    moved(disk, files, vec![0xE5; disk.image.len()])
+    moved(disk, directories, files, vec![0xE5; disk.image.len()])
 }

@@ -62,7 +62,7 @@ start₆ c = start₅ (chosen c)
 
 -- what the tests so far say of the file
 small : (c : tie.Start) → c .args .k < 65536
-small c = omega (arith, in-volume _ _ _ (c .pre), c .pre .sound .size)
+small c = omega (arith, in-volume _ _ _ _ (c .pre .1), c .pre .1 .sound .size)
 
 status-is : (c : tie.After-byte) → c .byte .result ≡ statusOf (sectorOf (start c .args .image .now) (start c .args .k))
 status-is c = c .byte .ensures .0 ∙ ap (λ (s : List ℕ). byteAt s 12) (c .before .sector-of .ensures)
@@ -105,12 +105,12 @@ extendable : (c : tie.After-tip-with) → c .tip-with .result .used ≤ 76 →
 unfolding chainOf
 extendable c few =
     let t = c .before in
-    let file = start₆ t .pre in
+    let file = start₆ t .pre .1 in
     let image = start₆ t .args .image .now in
     let d = sectorOf image (start₆ t .args .k) in
-    let built = built-chain (sectorCount image) (sectorsOf d) (chainOf d) (t .tip-of .result) (omega (arith, file .sound .size)) (part-length d 28 228 (omega (arith, is-sector _ _ _ file))) (has-rules _ _ _ file .chain) (tip-is t) in
+    let built = built-chain (sectorCount image) (sectorsOf d) (chainOf d) (t .tip-of .result) (omega (arith, file .sound .size)) (part-length d 28 228 (omega (arith, is-sector _ _ _ _ file))) (has-rules _ _ _ _ file .chain) (tip-is t) in
     let range = new-range (chosen t) in
-    let few-sectors = rw (file .is) at (sectors-few _ image (file .place) (file .sound) (file .inside)) in (
+    let few-sectors = rw (file .is) at (sectors-few _ image _ (file .place) (file .sound) (file .indexed) (file .inside)) in (
       record {
         built = built .0;
         low = range .0;

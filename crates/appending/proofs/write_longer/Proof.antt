@@ -41,7 +41,7 @@ unfolding appendWrites longerBlocks written
 three layout image one two all bytes sector0 old descriptor k new first second third is marks there longer = rw (third, second, first, marks, longer, there, is)
 
 small : (c : tie.Start) → c .args .k < 65536
-small c = omega (arith, in-volume _ _ _ (c .pre .0), c .pre .0 .sound .size)
+small c = omega (arith, in-volume _ _ _ _ (c .pre .0 .1), c .pre .0 .1 .sound .size)
 
 sector-of-requires : tie.Need-sector-of-requires
 sector-of-requires c κs = small (c .before .before .before .before)
@@ -49,11 +49,11 @@ sector-of-requires c κs = small (c .before .before .before .before)
 longer-requires : tie.Need-longer-requires
 longer-requires c κs =
     let pre = start c .pre in
-    rw (c .sector-of .ensures) (refl, is-sector _ _ _ (pre .0), pre .2, pre .3)
+    rw (c .sector-of .ensures) (refl, is-sector _ _ _ _ (pre .0 .1), pre .2, pre .3)
 
 map-with-requires : tie.Need-map-with-requires
 map-with-requires c κs =
-    let sound = start (c .before .before .before .before) .pre .0 .sound in
+    let sound = start (c .before .before .before .before) .pre .0 .1 .sound in
     (refl, file-long _ _ 0 sound (omega (arith, sound .size)))
 
 write-sector-requires : tie.Need-write-sector-requires

@@ -13,21 +13,20 @@ use Rattle.rules.specs.Sectors.{sectorOf, sectorCount, written}
 use Rattle.rules.specs.Map.{freeCount, marked}
 use Rattle.rules.specs.Kind.{marking}
 use Rattle.rules.specs.Descriptor.{newDescriptor}
-use Rattle.rules.specs.Volume.{files}
+use Rattle.rules.specs.Volume.{filesIn}
 use Rattle.rules.specs.Choice.{descriptorChoice}
-use Rattle.rules.specs.Sound.{Sound}
+use Rattle.rules.specs.Sound.{SoundIndex, Sound}
 use Rattle.rules.specs.Tests.{firstOf, unlessMet}
 use Rattle.rules.specs.Outcome.{write, done, refusal}
 use Rattle.rules.specs.Calls.Create.{createStatus, entered, createTests, creating}
 use Rattle.rules.specs.Calls.Store.{dataWrites}
 use Rattle.rules.specs.declared.Layout.{Layout}
 use Rattle.rules.proofs.Splice.{splice-length, put-back}
-use Rattle.rules.proofs.Sectors.{sector-word}
 use Rattle.rules.proofs.Name.{name-is}
 use Rattle.rules.proofs.Descriptor.{new-length}
 use Rattle.rules.proofs.Written.{sector-other}
 use Rattle.rules.proofs.Map.{only-one}
-use Rattle.rules.proofs.Listed.{label-long}
+use Rattle.rules.proofs.Listed.{label-long, index-low}
 use Rattle.rules.proofs.Marking.{marked-length}
 use Rattle.rules.proofs.Choice.{Chosen, sound-fenced, descriptor-choice-free}
 use Rattle.rules.proofs.Outcome.{refusal-meets, done-meets}
@@ -37,36 +36,36 @@ use borrow.Author.Needs.{needs}
 use Rattle.creating.proofs.create_new.Statement.{statement}
 use Rattle.creating.proofs.create_new.Tie as tie
 
--- which test gives which number; place 126, the last but one, is that of a 127th file
-module _ (layout : Layout) (image name : List ℕ) (status recordLength recordsPerSector : ℕ) where
-  misasked : createStatus status ≡ false → creating layout image name status recordLength recordsPerSector ≡ refusal 15
+-- which test gives which number; place 126, the last but one, is that of a 127th file of the index
+module _ (layout : Layout) (image name : List ℕ) (status recordLength recordsPerSector i : ℕ) where
+  misasked : createStatus status ≡ false → creating layout image name status recordLength recordsPerSector i ≡ refusal 15
   unfolding creating createTests firstOf unlessMet
   misasked e = rw e
 
-  module _ (whole : Sound layout image) (asked : createStatus status ≡ true) where
-    full : (wordAt (sectorOf image 1) 252 ≡ 0 → ⊥) → creating layout image name status recordLength recordsPerSector ≡ refusal 11
+  module _ (is : SoundIndex layout image i) (asked : createStatus status ≡ true) where
+    full : (wordAt (sectorOf image i) 252 ≡ 0 → ⊥) → creating layout image name status recordLength recordsPerSector i ≡ refusal 11
     unfolding creating createTests firstOf unlessMet
-    full some = rw (asked, le-leb 127 (length (files image)) (place-some layout image 126 whole some .0))
+    full some = rw (asked, le-leb 127 (length (filesIn image i)) (place-some layout image i 126 is some .0))
 
-    module _ (room : wordAt (sectorOf image 1) 252 ≡ 0) where
-      few : length (files image) < 127
-      few = omega (arith, place-none layout image 126 whole room)
+    module _ (room : wordAt (sectorOf image i) 252 ≡ 0) where
+      few : length (filesIn image i) < 127
+      few = omega (arith, place-none layout image i 126 is room)
 
-      taken : freeCount (sectorOf image 0) ≡ 0 → creating layout image name status recordLength recordsPerSector ≡ refusal 12
+      taken : freeCount (sectorOf image 0) ≡ 0 → creating layout image name status recordLength recordsPerSector i ≡ refusal 12
       unfolding creating createTests firstOf unlessMet
-      taken none = rw (asked, lt-leb 127 (length (files image)) few, lt-ltb (freeCount (sectorOf image 0)) 1 (omega arith))
+      taken none = rw (asked, lt-leb 127 (length (filesIn image i)) few, lt-ltb (freeCount (sectorOf image 0)) 1 (omega arith))
 
       passed : (freeCount (sectorOf image 0) ≡ 0 → ⊥) → (k : ℕ) → k ≡ descriptorChoice (sectorOf image 0)
-          → creating layout image name status recordLength recordsPerSector ≡ done (entered image name k (newDescriptor name (marking layout status) recordsPerSector 0 recordLength) (marked 1 (sectorOf image 0) k))
+          → creating layout image name status recordLength recordsPerSector i ≡ done (entered image i name k (newDescriptor name (marking layout status) recordsPerSector 0 recordLength) (marked 1 (sectorOf image 0) k))
       unfolding creating createTests firstOf unlessMet
-      passed some k is = rw (is, asked, lt-leb 127 (length (files image)) few, le-ltb (freeCount (sectorOf image 0)) 1 (omega (arith, some)))
+      passed some k chosen = rw (chosen, asked, lt-leb 127 (length (filesIn image i)) few, le-ltb (freeCount (sectorOf image 0)) 1 (omega (arith, some)))
 
 -- the descriptor is not in sector 0, so what is marked there is what stood there
 marked-there : (layout : Layout) (image one sector0 descriptor : List ℕ) (k : ℕ) → Sound layout image → 2 ≤ k → length descriptor ≡ 256 → one ≡ splice image (256 * k) descriptor → sector0 ≡ marked 1 (part one 0 256) k
     → putMid 0 256 one sector0 ≡ written image (write k descriptor ∷ (write 0 (marked 1 (sectorOf image 0) k) ∷ []))
 unfolding sectorOf written
 marked-there layout image one sector0 descriptor k is high long one-is marks =
-    let same : part one 0 256 ≡ sectorOf image 0 = ap (λ (i : List ℕ). sectorOf i 0) one-is ∙ sector-other image k descriptor long 0 (λ e. omega (arith, e, high)) in
+    let same : part one 0 256 ≡ sectorOf image 0 = ap (λ (l : List ℕ). sectorOf l 0) one-is ∙ sector-other image k descriptor long 0 (λ e. omega (arith, e, high)) in
     let here : sector0 ≡ marked 1 (sectorOf image 0) k = marks ∙ ap (λ (s : List ℕ). marked 1 s k) same in
     let size : length sector0 ≡ 256 = ap length here ∙ marked-length 1 (sectorOf image 0) k ∙ label-long layout image is in
     put-back one sector0 0 256 size (omega (arith, ap length one-is, splice-length image (256 * k) descriptor, is .whole, is .size)) ∙ rw (one-is, here)
@@ -76,7 +75,7 @@ abbrev start : tie.Else1 → tie.Start
 start c = c .before .before .before .before
 
 abbrev status : tie.After-word → tie.Else1
-status c = c .before .before
+status c = c .before .before .before
 
 abbrev place : tie.After-free-count-of → tie.Else2
 place c = c .before .before .before
@@ -90,39 +89,46 @@ start₂ c = start (status (c .before))
 abbrev start₃ : tie.After-descriptor-choice → tie.Start
 start₃ c = start₂ (place (counted c .before))
 
+-- the index keeps its rules, and is a sector of the volume
+listed : (c : tie.Start) → SoundIndex (c .args .layout) (c .args .image .now) (c .args .i)
+listed c = c .pre .0 .each (c .args .i) (c .pre .1)
+
+small : (c : tie.Start) → c .args .i < 65536
+small c = omega (arith, index-low _ _ (c .pre .0) (c .args .i) (c .pre .1), c .pre .0 .size)
+
 asked : (c : tie.Else1) → createStatus (start c .args .status) ≡ true
 asked c = sym (c .before .create-status .ensures) ∙ not-false (c .before .create-status .result) (c .if1 .left)
 
-last-is : (c : tie.After-word) → c .word .result ≡ wordAt (sectorOf (start (status c) .args .image .now) 1) 252
-last-is c = c .word .ensures .0 ∙ sym (sector-word (start (status c) .args .image .now) 1 252 (omega arith))
+last-is : (c : tie.After-word) → let a = start (status c) .args in c .word .result ≡ wordAt (sectorOf (a .image .now) (a .i)) 252
+last-is c = c .word .ensures .0 ∙ ap (λ (s : List ℕ). wordAt s 252) (c .before .sector-of .ensures)
 
 free-is : (c : tie.After-free-count-of) → c .free-count-of .result ≡ freeCount (sectorOf (start₂ (place c) .args .image .now) 0)
-free-is c = c .free-count-of .ensures .0 ∙ ap freeCount (c .before .sector-of .ensures)
+free-is c = c .free-count-of .ensures .0 ∙ ap freeCount (c .before .sector-of2 .ensures)
 
 returns : tie.Need-returns
 returns c =
     let a = c .before .before .before .before .args in
     let s = c .before .create-status in
-    refusal-meets (a .image .now) (creating (a .layout) (a .image .now) (a .name .now) (a .status) (a .record-length) (a .records-per-sector)) 15 refl
-    (misasked _ _ _ _ _ _ (sym (s .ensures) ∙ not-true (s .result) (c .if1 .taken)))
+    refusal-meets (a .image .now) (creating (a .layout) (a .image .now) (a .name .now) (a .status) (a .record-length) (a .records-per-sector) (a .i)) 15 refl
+    (misasked _ _ _ _ _ _ _ (sym (s .ensures) ∙ not-true (s .result) (c .if1 .taken)))
 
 returns-2 : tie.Need-returns-2
 returns-2 c =
     let e = status (c .before) in
     let a = start e .args in
-    refusal-meets (a .image .now) (creating (a .layout) (a .image .now) (a .name .now) (a .status) (a .record-length) (a .records-per-sector)) 11 refl
-    (full _ _ _ _ _ _ (start e .pre .0) (asked e) (λ z. c .if2 .taken (last-is (c .before) ∙ z)))
+    refusal-meets (a .image .now) (creating (a .layout) (a .image .now) (a .name .now) (a .status) (a .record-length) (a .records-per-sector) (a .i)) 11 refl
+    (full _ _ _ _ _ _ _ (listed (start e)) (asked e) (λ z. c .if2 .taken (last-is (c .before) ∙ z)))
 
 returns-3 : tie.Need-returns-3
 returns-3 c =
     let room = place (c .before) in
     let a = start₂ room .args in
-    refusal-meets (a .image .now) (creating (a .layout) (a .image .now) (a .name .now) (a .status) (a .record-length) (a .records-per-sector)) 12 refl
-    (taken _ _ _ _ _ _ (start₂ room .pre .0) (asked (status (room .before))) (sym (last-is (room .before)) ∙ room .if2 .left) (sym (free-is (c .before)) ∙ c .if3 .taken))
+    refusal-meets (a .image .now) (creating (a .layout) (a .image .now) (a .name .now) (a .status) (a .record-length) (a .records-per-sector) (a .i)) 12 refl
+    (taken _ _ _ _ _ _ _ (listed (start₂ room)) (asked (status (room .before))) (sym (last-is (room .before)) ∙ room .if2 .left) (sym (free-is (c .before)) ∙ c .if3 .taken))
 
 -- the sector chosen, which was free
 chosen-is : (c : tie.After-descriptor-choice) → c .descriptor-choice .result ≡ descriptorChoice (sectorOf (start₃ c .args .image .now) 0)
-chosen-is c = c .descriptor-choice .ensures .0 ∙ ap descriptorChoice (c .before .sector-of2 .ensures)
+chosen-is c = c .descriptor-choice .ensures .0 ∙ ap descriptorChoice (c .before .sector-of3 .ensures)
 
 is-free : (c : tie.After-descriptor-choice) → let image = start₃ c .args .image .now in Chosen (sectorCount image) (sectorOf image 0) (c .descriptor-choice .result)
 is-free c =
@@ -133,7 +139,7 @@ is-free c =
     (omega (arith, some .if3 .left, free-is (some .before))))
 
 ten : (c : tie.After-descriptor-choice) → length (start₃ c .args .name .now) ≡ 10
-ten c = name-is _ (start₃ c .pre .1) .ten
+ten c = name-is _ (start₃ c .pre .2) .ten
 
 write-descriptor-requires : tie.Need-write-descriptor-requires
 write-descriptor-requires c κs = let choice = c .before .before in (omega (arith, is-free choice .low), ten choice)
@@ -151,6 +157,11 @@ part-mark-end c =
     let begin = start₃ (chosen writing) in
     let size : length (writing .write-descriptor .last .0) ≡ length (begin .args .image .now) = ap length (writing .write-descriptor .ensures) ∙ splice-length _ _ _ in
     omega (arith, size, begin .pre .0 .whole, begin .pre .0 .size)
+
+enter-requires : tie.Need-enter-requires
+enter-requires c κs =
+    let choice = chosen (described (c .before .before .before)) in
+    (omega (arith, small (start₃ choice)), omega (arith, is-free choice .low))
 
 returns-4 : tie.Need-returns-4
 unfolding written dataWrites
@@ -174,13 +185,13 @@ returns-4 c =
     ∙ ap (λ (s : ℕ). splice image (256 * k) (newDescriptor name s (a .records-per-sector) 0 (a .record-length))) (writing .before .before .marking .ensures)
     in
     let met =
-    done-meets image (creating (a .layout) image name (a .status) (a .record-length) (a .records-per-sector)) _
-    (passed _ _ _ _ _ _ (begin .pre .0) (asked (status (room .before))) (sym (last-is (room .before)) ∙ room .if2 .left) (λ z. some .if3 .left (free-is (some .before) ∙ z)) k (chosen-is choice))
+    done-meets image (creating (a .layout) image name (a .status) (a .record-length) (a .records-per-sector) (a .i)) _
+    (passed _ _ _ _ _ _ _ (listed begin) (asked (status (room .before))) (sym (last-is (room .before)) ∙ room .if2 .left) (λ z. some .if3 .left (free-is (some .before) ∙ z)) k (chosen-is choice))
     in
     record {
       said = met .said;
       left =
-          written-entered _ image name [] k [] descriptor (marked 1 (sectorOf image 0) k) (begin .pre .0) (λ j one. subst (Chosen (sectorCount image) (sectorOf image 0)) (only-one k j one) (is-free choice)) long
+          written-entered _ image (a .i) name [] k [] descriptor (marked 1 (sectorOf image 0) k) (begin .pre .0) (begin .pre .1) (λ j one. subst (Chosen (sectorCount image) (sectorOf image 0)) (only-one k j one) (is-free choice)) long
           (marked-length 1 (sectorOf image 0) k ∙ label-long _ image (begin .pre .0)) _ _
           (marked-there _ image _ (mapped .mark .last .0) descriptor k (begin .pre .0) (is-free choice .from) long there (mapped .mark .ensures)) (entering .enter .ensures)
           ∙ met .left;
@@ -192,6 +203,7 @@ create-new-spec =
     (tie.spec
     (λ c κs. search needs)
     returns
+    (λ c κs. omega (arith, small (start (c .before))))
     (λ c κs. search needs)
     (λ c. search needs)
     returns-2
@@ -207,6 +219,6 @@ create-new-spec =
     (λ c. search needs)
     part-mark-end
     (λ c κs. search needs)
-    (λ c κs. search needs)
+    enter-requires
     (λ c. search needs)
     returns-4)

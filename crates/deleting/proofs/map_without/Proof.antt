@@ -12,13 +12,13 @@ use Rattle.deleting.proofs.map_without.Tie as tie
 copy-requires : tie.Need-copy-requires
 copy-requires c κs =
     let pre = c .before .before .before .before .pre in
-    let whole = pre .1 .sound in
+    let whole = pre .1 .1 .sound in
     pre .0 ∙ sym (ap length (c .sector-of .ensures) ∙ file-long _ _ 0 whole (omega (arith, whole .size)))
 
 sector-of-requires-2 : tie.Need-sector-of-requires-2
 sector-of-requires-2 c κs =
-    let file = c .before .before .before .before .before .before .before .before .pre .1 in
-    omega (arith, in-volume _ _ _ file, file .sound .size)
+    let file = c .before .before .before .before .before .before .before .before .pre .1 .1 in
+    omega (arith, in-volume _ _ _ _ file, file .sound .size)
 
 returns : tie.Need-returns
 unfolding placesIn chainOf

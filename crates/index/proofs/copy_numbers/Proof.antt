@@ -1,5 +1,5 @@
--- `index::copy_numbers` meets its contract. The loop's invariant: laying the numbers from byte i of sector 1 on from `to` on gives what laying all of them gives.
--- The measure is what is left of sector 1. Assumes nothing.
+-- `index::copy_numbers` meets its contract. The loop's invariant: laying the numbers from byte i of the old index on from `to` on gives what laying all of them gives.
+-- The measure is what is left of the old index. Assumes nothing.
 use mathlib.Core.Path.{_≡_, refl, sym, ap, _∙_}
 use Prim.Native.Nat.{_≤_, _-_, _+_}
 use native.Mathlib.Omega.{arith}
@@ -13,12 +13,12 @@ use Rattle.index.proofs.copy_numbers.Statement.{statement}
 use Rattle.index.proofs.copy_numbers.Tie as tie
 
 abbrev Inv-loop : tie.InvT-loop
-Inv-loop index₀ at sector1 from to₀ i₀ index to i =
-    (length index ≡ length index₀) × (to ≤ i + 2) × (i ≤ length sector1)
-    × (splice index to (numbersBytes (numbers (drop i sector1))) ≡ splice index₀ at (numbersBytes (numbers (drop from sector1))))
+Inv-loop index₀ at old from to₀ i₀ index to i =
+    (length index ≡ length index₀) × (to ≤ i + 2) × (i ≤ length old)
+    × (splice index to (numbersBytes (numbers (drop i old))) ≡ splice index₀ at (numbersBytes (numbers (drop from old))))
 
 abbrev μ-loop : tie.MeasureT-loop
-μ-loop index₀ at sector1 from to₀ i₀ index to i = length sector1 - i
+μ-loop index₀ at old from to₀ i₀ index to i = length old - i
 
 loop-holds : tie.Need-loop-holds Inv-loop μ-loop
 loop-holds c = (refl, search needs, search needs, refl)
@@ -35,7 +35,7 @@ lay-number-requires c κs = c .before .before .number-at .ensures .small
 abbrev number : tie.After-slice-known2 Inv-loop μ-loop → tie.Else1 Inv-loop μ-loop
 number c = c .before .before .before .before
 
-inside : (c : tie.After-slice-known2 Inv-loop μ-loop) → let l = number c .before .before in l .loop .i + 2 ≤ length (l .before .before .before .args .sector1 .now)
+inside : (c : tie.After-slice-known2 Inv-loop μ-loop) → let l = number c .before .before in l .loop .i + 2 ≤ length (l .before .before .before .args .old .now)
 inside c = number c .before .number-at .ensures .inside (number c .if1 .left)
 
 add-to : tie.Need-add-to Inv-loop μ-loop

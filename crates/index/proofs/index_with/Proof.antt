@@ -1,5 +1,5 @@
--- `index::index_with` meets its contract. The loop's invariant: laying the numbers from byte `at` of sector 1 on, with k put in among them, gives what laying all of them with k gives.
--- The measure is what is left of sector 1. Assumes nothing.
+-- `index::index_with` meets its contract. The loop's invariant: laying the numbers from byte `at` of the old index on, with k put in among them, gives what laying all of them with k gives.
+-- The measure is what is left of the old index. Assumes nothing.
 use mathlib.Core.Path.{_≡_, sym, ap, _∙_}
 use mathlib.Core.Logic.{inl, inr}
 use mathlib.Core.List.{List, _∷_}
@@ -18,12 +18,12 @@ use Rattle.index.proofs.index_with.Statement.{statement}
 use Rattle.index.proofs.index_with.Tie as tie
 
 abbrev Inv-loop : tie.InvT-loop
-Inv-loop index₀ image sector1 name k at₀ index at =
-    (at ≤ length sector1)
-    × (splice index at (numbersBytes (placed image name k (numbers (drop at sector1)))) ≡ indexOf (placed image name k (numbers sector1)))
+Inv-loop index₀ image old name k at₀ index at =
+    (at ≤ length old)
+    × (splice index at (numbersBytes (placed image name k (numbers (drop at old)))) ≡ indexOf (placed image name k (numbers old)))
 
 abbrev μ-loop : tie.MeasureT-loop
-μ-loop index₀ image sector1 name k at₀ index at = length sector1 - at
+μ-loop index₀ image old name k at₀ index at = length old - at
 
 loop-holds : tie.Need-loop-holds Inv-loop μ-loop
 loop-holds c = (search needs, rw (c .before .before .before .pre .0) (laid-index _))
@@ -35,7 +35,7 @@ sector-of-requires c κs = c .before .number-at .ensures .small
 abbrev number : tie.Else2 Inv-loop μ-loop → tie.Else1 Inv-loop μ-loop
 number c = c .before .before .before .before
 
-inside : (c : tie.Else1 Inv-loop μ-loop) → let l = c .before .before in l .loop .at + 2 ≤ length (l .before .before .before .before .args .sector1 .now)
+inside : (c : tie.Else1 Inv-loop μ-loop) → let l = c .before .before in l .loop .at + 2 ≤ length (l .before .before .before .before .args .old .now)
 inside c = c .before .number-at .ensures .inside (c .if1 .left)
 
 lay-number-requires : tie.Need-lay-number-requires Inv-loop μ-loop
@@ -68,7 +68,7 @@ loop-again c =
 goes-here : (c : tie.Joined1 Inv-loop μ-loop) →
     let l = c .before .before in
     let a = l .before .before .before .before .args in
-    let left = numbers (drop (l .loop .at) (a .sector1 .now)) in
+    let left = numbers (drop (l .loop .at) (a .old .now)) in
     placed (a .image .now) (a .name .now) (a .k) left ≡ a .k ∷ left
 goes-here c =
     let a = c .before .before .before .before .before .before .args in

@@ -1,5 +1,5 @@
--- `index::index_without` meets its contract. The loop's invariant: laying the numbers from byte `at` of sector 1 on but k, from `at` on, gives what laying all of them but k gives.
--- The measure is what is left of sector 1. Assumes nothing.
+-- `index::index_without` meets its contract. The loop's invariant: laying the numbers from byte `at` of the old index on but k, from `at` on, gives what laying all of them but k gives.
+-- The measure is what is left of the old index. Assumes nothing.
 use mathlib.Core.Path.{_≡_, sym, ap, _∙_}
 use mathlib.Core.List.{List, [], _∷_}
 use Prim.Native.Nat.{ℕ, _+_, _-_, _≤_}
@@ -13,18 +13,18 @@ use Rattle.index.proofs.index_without.Statement.{statement}
 use Rattle.index.proofs.index_without.Tie as tie
 
 abbrev Inv-loop : tie.InvT-loop
-Inv-loop index₀ sector1 k at₀ index at =
-    (at ≤ length sector1) × (splice index at (numbersBytes (without k (numbers (drop at sector1)))) ≡ indexOf (without k (numbers sector1)))
+Inv-loop index₀ old k at₀ index at =
+    (at ≤ length old) × (splice index at (numbersBytes (without k (numbers (drop at old)))) ≡ indexOf (without k (numbers old)))
 
 abbrev μ-loop : tie.MeasureT-loop
-μ-loop index₀ sector1 k at₀ index at = length sector1 - at
+μ-loop index₀ old k at₀ index at = length old - at
 
 loop-holds : tie.Need-loop-holds Inv-loop μ-loop
 loop-holds c = (search needs, rw (c .before .pre) (laid-index _))
 
 -- what is left to lay: nothing at the end, and otherwise what is left behind the number that stands here, with it or without it
 abbrev left : tie.At-loop Inv-loop μ-loop → List ℕ
-left c = let a = c .before .before .args in without (a .k) (numbers (drop (c .loop .at) (a .sector1 .now)))
+left c = let a = c .before .before .args in without (a .k) (numbers (drop (c .loop .at) (a .old .now)))
 
 none : (c : tie.Then1 Inv-loop μ-loop) → left (c .before .before) ≡ []
 none c = let a = c .before .before .before .before .args in ap (without (a .k)) (c .before .number-at .ensures .none (c .if1 .taken)) ∙ without-none (a .k)
@@ -32,10 +32,10 @@ none c = let a = c .before .before .before .before .args in ap (without (a .k)) 
 here : (c : tie.Else1 Inv-loop μ-loop) →
     let l = c .before .before in
     let a = l .before .before .args in
-    left l ≡ without (a .k) (c .before .number-at .result ∷ numbers (drop (l .loop .at + 2) (a .sector1 .now)))
+    left l ≡ without (a .k) (c .before .number-at .result ∷ numbers (drop (l .loop .at + 2) (a .old .now)))
 here c = ap (without (c .before .before .before .before .args .k)) (c .before .number-at .ensures .some (c .if1 .left))
 
-inside : (c : tie.Else1 Inv-loop μ-loop) → let l = c .before .before in l .loop .at + 2 ≤ length (l .before .before .args .sector1 .now)
+inside : (c : tie.Else1 Inv-loop μ-loop) → let l = c .before .before in l .loop .at + 2 ≤ length (l .before .before .args .old .now)
 inside c = c .before .number-at .ensures .inside (c .if1 .left)
 
 returns : tie.Need-returns Inv-loop μ-loop

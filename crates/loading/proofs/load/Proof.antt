@@ -15,12 +15,12 @@ start c = c .before .before .before .before
 
 found : (c : tie.After-opened3) →
     let a = start (c .before .before) .args in
-    openOf (a .layout) (a .image .now) (a .name .now) ≡ At (c .opened3 .given .0 .0) (c .opened3 .given .0 .1 .0)
+    openOf (a .layout) (a .image .now) (a .directory) (a .name .now) ≡ At (c .opened3 .given .0 .0) (c .opened3 .given .0 .1 .0) (c .opened3 .given .0 .1 .1 .0)
 found c = sym (c .before .before .find .ensures) ∙ c .opened3 .given .1
 
 load-at-requires : tie.Need-load-at-requires
 load-at-requires c κs =
-    let is = opened-is _ _ _ _ _ (found (c .before .before)) in
+    let is = opened-is _ _ _ _ _ _ _ (found (c .before .before)) in
     omega (arith, is .low, is .whole .size)
 
 returns : tie.Need-returns
@@ -28,26 +28,26 @@ unfolding loadOf
 returns c =
     let o = c .before in
     let f = o .before .before in
-    load-refused _ _ _ (start f .args .out .now) _ _ (sym (f .find .ensures) ∙ o .opened .given .1)
+    load-refused _ _ _ _ (start f .args .out .now) _ _ (sym (f .find .ensures) ∙ o .opened .given .1)
 
 returns-2 : tie.Need-returns-2
 unfolding loadOf
 returns-2 c =
     let o = c .before in
     let f = o .before .before in
-    load-misnamed _ _ _ (start f .args .out .now) _ _ (sym (f .find .ensures) ∙ o .opened2 .given .1)
+    load-misnamed _ _ _ _ (start f .args .out .now) _ _ (sym (f .find .ensures) ∙ o .opened2 .given .1)
 
 returns-3 : tie.Need-returns-3
 unfolding loadOf
 returns-3 c =
     let f = c .before .before in
-    load-absent _ _ _ (start f .args .out .now) _ (sym (f .find .ensures) ∙ c .enum-told .given .1)
+    load-absent _ _ _ _ (start f .args .out .now) _ _ (sym (f .find .ensures) ∙ c .enum-told .given .1)
 
 returns-4 : tie.Need-returns-4
 unfolding loadOf
 returns-4 c =
     let done = c .before .before in
-    on-found _ _ _ _ _ NamedAmountSays _ _ (found (done .before .before .before)) _ _ (done .load-at .ensures)
+    on-found _ _ _ _ _ _ NamedAmountSays _ _ _ (found (done .before .before .before)) _ _ (done .load-at .ensures)
 
 pub load-spec : {M : Type 1} → statement M
 load-spec =

@@ -14,19 +14,19 @@ sound c = sym (c .before .judge .ensures) ∙ c .if1 .left
 returns : tie.Need-returns
 returns c =
     let j = c .before .judge .ensures in
-    ap Refused j ∙ sym (open-unsound _ _ _ (λ z. c .if1 .taken (j ∙ z)))
+    ap Refused j ∙ sym (open-unsound _ _ _ _ (λ z. c .if1 .taken (j ∙ z)))
 
 returns-2 : tie.Need-returns-2
 returns-2 c =
     let w = c .before in
     let p = w .before .before in
-    sym (open-wrong _ _ _ _ (sound (p .before)) (sym (p .wrong-place .ensures) ∙ w .wrong .given .1))
+    sym (open-wrong _ _ _ _ _ (sound (p .before)) (sym (p .wrong-place .ensures) ∙ w .wrong .given .1))
 
 returns-3 : tie.Need-returns-3
 returns-3 c =
     let w = c .before in
     let p = w .before .before in
-    c .find-in .ensures ∙ sym (open-looked _ _ _ (sound (p .before)) (sym (p .wrong-place .ensures) ∙ w .enum-told .given .1))
+    c .in-directory .ensures ∙ sym (open-looked _ _ _ _ (sound (p .before)) (sym (p .wrong-place .ensures) ∙ w .enum-told .given .1))
 
 pub find-spec : {M : Type 1} → statement M
 find-spec =

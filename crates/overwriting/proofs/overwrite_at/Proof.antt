@@ -65,10 +65,10 @@ place-is c =
     c .place-at .ensures .0 ∙ ap (λ (s : List ℕ). getD (places s) (start₄ c .args .offset) 0) (c .before .part .ensures ∙ ap (λ (s : List ℕ). part s 28 228) (d .sector-of .ensures))
 
 reaches : (c : tie.After-place-at) → 256 * c .place-at .result + 256 ≤ length (start₄ c .args .image .now)
-reaches c = omega (arith, place-is c, place-in-image _ (start₄ c .args .image .now) (start₄ c .args .k) (start₄ c .pre) (start₄ c .args .offset) (inside (tested c .before)))
+reaches c = omega (arith, place-is c, place-in-image _ (start₄ c .args .image .now) _ (start₄ c .args .k) (start₄ c .pre .1) (start₄ c .args .offset) (inside (tested c .before)))
 
 sector-of-requires : tie.Need-sector-of-requires
-sector-of-requires c κs = let pre = c .before .before .before .pre in omega (arith, in-volume _ _ _ pre, pre .sound .size)
+sector-of-requires c κs = let file = c .before .before .before .pre .1 in omega (arith, in-volume _ _ _ _ file, file .sound .size)
 
 returns : tie.Need-returns
 unfolding overwriting overwriteTests firstOf unlessMet
@@ -100,7 +100,7 @@ returns-4 c =
     rw (open-file (e .before), is-data e, lt-leb (sectorsOf (sectorOf (a .image .now) (a .k))) (a .offset) (inside i), ne-eqb _ _ (c .if4 .taken)) (refusal-meets (a .image .now) _ 15 refl refl)
 
 mark-descriptor-requires : tie.Need-mark-descriptor-requires
-mark-descriptor-requires c κs = let file = start₄ (c .before) .pre in omega (arith, in-volume _ _ _ file, file .sound .whole)
+mark-descriptor-requires c κs = let file = start₄ (c .before) .pre .1 in omega (arith, in-volume _ _ _ _ file, file .sound .whole)
 
 -- marked, the image is as long as it was
 abbrev placed : tie.After-mark-descriptor → tie.After-place-at

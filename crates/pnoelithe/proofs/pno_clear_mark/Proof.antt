@@ -5,7 +5,9 @@ use Rattle.pnoelithe.proofs.pno_clear_mark.Statement.{statement}
 use Rattle.pnoelithe.proofs.pno_clear_mark.Tie as tie
 
 returns : tie.Need-returns
-returns c = writing-crosses _ _ _ _ _ _ _ (c .named-number .ensures _ _) (c .before .before .before .before .clear-mark .ensures)
+returns c =
+    let called = c .before .before .before .before in
+    rw (← called .before .before .layout-of .ensures) (writing-crosses _ _ _ _ _ _ _ (c .named-number .ensures _ _) (called .clear-mark .ensures))
 
 pub pno-clear-mark-spec : {M : Type 1} → statement M
 pno-clear-mark-spec = tie.close (tie.spec (λ c κs. search needs) (λ c κs. search needs) (λ c κs. search needs) (λ c. search needs) returns)

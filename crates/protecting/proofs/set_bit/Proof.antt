@@ -24,36 +24,40 @@ start c = c .before .before .before .before
 abbrev start₂ : tie.After-opened3 → tie.Start
 start₂ c = start (c .before .before)
 
-found : (c : tie.After-opened3) → openOf (start₂ c .args .layout) (start₂ c .args .image .now) (start₂ c .args .name .now) ≡ At (c .opened3 .given .0 .0) (c .opened3 .given .0 .1 .0)
+-- the sector of the file's descriptor
+abbrev sector : tie.After-opened3 → ℕ
+sector c = c .opened3 .given .0 .1 .1 .0
+
+found : (c : tie.After-opened3) →
+    let a = start₂ c .args in
+    openOf (a .layout) (a .image .now) (a .directory) (a .name .now) ≡ At (c .opened3 .given .0 .0) (c .opened3 .given .0 .1 .0) (sector c)
 found c = sym (c .before .before .find .ensures) ∙ c .opened3 .given .1
 
 -- the status is inside the image
-inside : (c : tie.After-opened3) →
-    let k = c .opened3 .given .0 .1 .0 in
-    (k < 1600) × (256 * k + 12 < length (start₂ c .args .image .now))
+inside : (c : tie.After-opened3) → (sector c < 1600) × (256 * sector c + 12 < length (start₂ c .args .image .now))
 inside c =
-    let file = is-file _ _ _ _ _ (found c) in
-    (omega (arith, in-volume _ _ _ file, file .sound .size), omega (arith, in-volume _ _ _ file, file .sound .whole))
+    let file = is-file _ _ _ _ _ _ _ (found c) in
+    (omega (arith, in-volume _ _ _ _ file, file .sound .size), omega (arith, in-volume _ _ _ _ file, file .sound .whole))
 
 returns : tie.Need-returns
 unfolding setBitOf
 returns c =
     let o = c .before in
     let f = o .before .before in
-    change-refused _ (start f .args .image .now) _ _ _ (sym (f .find .ensures) ∙ o .opened .given .1)
+    change-refused _ (start f .args .image .now) _ _ _ _ (sym (f .find .ensures) ∙ o .opened .given .1)
 
 returns-2 : tie.Need-returns-2
 unfolding setBitOf
 returns-2 c =
     let o = c .before in
     let f = o .before .before in
-    change-misnamed _ (start f .args .image .now) _ _ _ (sym (f .find .ensures) ∙ o .opened2 .given .1)
+    change-misnamed _ (start f .args .image .now) _ _ _ _ (sym (f .find .ensures) ∙ o .opened2 .given .1)
 
 returns-3 : tie.Need-returns-3
 unfolding setBitOf
 returns-3 c =
     let f = c .before .before in
-    change-absent _ (start f .args .image .now) _ _ (sym (f .find .ensures) ∙ c .enum-told .given .1)
+    change-absent _ (start f .args .image .now) _ _ _ _ (sym (f .find .ensures) ∙ c .enum-told .given .1)
 
 returns-4 : tie.Need-returns-4
 unfolding setBitOf settingBit written
@@ -61,11 +65,11 @@ returns-4 c =
     let o = c .before .before .before in
     let a = start₂ o .args in
     let image = a .image .now in
-    let k = o .opened3 .given .0 .1 .0 in
+    let k = sector o in
     let d = sectorOf image k in
     let met = done-meets image _ (write k (set d 12 (withBit (statusOf d) (a .j) (a .bit))) ∷ []) refl in
     let status = c .with-bit .ensures ∙ ap (λ (b : ℕ). withBit b (a .j) (a .bit)) (sym (sector-byte image k 12 (omega arith))) in
-    change-found _ image _ _ _ _ (found o) _ _
+    change-found _ image _ _ _ _ _ _ (found o) _ _
     (record { said = met .said; left = rw status (sym (sector-set image k 12 (withBit (statusOf d) (a .j) (a .bit)) (omega arith))) })
 
 pub set-bit-spec : {M : Type 1} → statement M

@@ -37,5 +37,5 @@ appendWrites layout image bytes k =
 unfoldable pub appending : Layout → List ℕ → List ℕ → ℕ → Outcome
 appending layout image bytes k = tested (appendTests image bytes k) (appendWrites layout image bytes k)
 
-unfoldable pub appendOf : Layout → List ℕ → List ℕ → List ℕ → Outcome
-appendOf layout image name bytes = changing (openOf layout image name) (appending layout image bytes)
+unfoldable pub appendOf : Layout → List ℕ → ℕ → List ℕ → List ℕ → Outcome
+appendOf layout image directory name bytes = changing (openOf layout image directory name) (λ i k. appending layout image bytes k)

@@ -9,7 +9,7 @@ use Rattle.rules.specs.Map.{freeCount, marked}
 use Rattle.rules.specs.Kind.{marking}
 use Rattle.rules.specs.Descriptor.{newDescriptor}
 use Rattle.rules.specs.Index.{indexOf}
-use Rattle.rules.specs.Volume.{files, placed}
+use Rattle.rules.specs.Volume.{filesIn, placed}
 use Rattle.rules.specs.Choice.{descriptorChoice}
 use Rattle.rules.specs.Tests.{Test, refuse}
 use Rattle.rules.specs.Outcome.{Outcome, write, tested}
@@ -19,19 +19,20 @@ use Rattle.rules.specs.declared.Layout.{Layout}
 unfoldable pub createStatus : ℕ → Bool
 createStatus status = eqb status 0 || (eqb status 0x02 || (eqb status 0x80 || eqb status 0x82))
 
--- a new file's last three writes: its descriptor in sector k, sector 0, and sector 1 with k in its place
-unfoldable pub entered : List ℕ → List ℕ → ℕ → List ℕ → List ℕ → List Write
-entered image name k descriptor sector0 = write k descriptor ∷ (write 0 sector0 ∷ (write 1 (indexOf (placed image name k (files image))) ∷ []))
+-- a new file's last three writes: its descriptor in sector k, sector 0, and index i with k in its place
+unfoldable pub entered : List ℕ → ℕ → List ℕ → ℕ → List ℕ → List ℕ → List Write
+entered image i name k descriptor sector0 = write k descriptor ∷ (write 0 sector0 ∷ (write i (indexOf (placed image name k (filesIn image i))) ∷ []))
 
-unfoldable pub createTests : List ℕ → ℕ → List Test
-createTests image status =
-    refuse 15 (not (createStatus status)) ∷ (refuse 11 (leb 127 (length (files image))) ∷ (refuse 12 (ltb (freeCount (sectorOf image 0)) 1) ∷ []))
+-- in index i
+unfoldable pub createTests : List ℕ → ℕ → ℕ → List Test
+createTests image status i =
+    refuse 15 (not (createStatus status)) ∷ (refuse 11 (leb 127 (length (filesIn image i))) ∷ (refuse 12 (ltb (freeCount (sectorOf image 0)) 1) ∷ []))
 
-unfoldable pub creating : Layout → List ℕ → List ℕ → ℕ → ℕ → ℕ → Outcome
-creating layout image name status recordLength recordsPerSector =
+unfoldable pub creating : Layout → List ℕ → List ℕ → ℕ → ℕ → ℕ → ℕ → Outcome
+creating layout image name status recordLength recordsPerSector i =
     let sector0 = sectorOf image 0 in
     let k = descriptorChoice sector0 in
-    tested (createTests image status) (entered image name k (newDescriptor name (marking layout status) recordsPerSector 0 recordLength) (marked 1 sector0 k))
+    tested (createTests image status i) (entered image i name k (newDescriptor name (marking layout status) recordsPerSector 0 recordLength) (marked 1 sector0 k))
 
-unfoldable pub createOf : Layout → List ℕ → List ℕ → ℕ → ℕ → ℕ → Outcome
-createOf layout image name status recordLength recordsPerSector = adding (openOf layout image name) (creating layout image name status recordLength recordsPerSector)
+unfoldable pub createOf : Layout → List ℕ → ℕ → List ℕ → ℕ → ℕ → ℕ → Outcome
+createOf layout image directory name status recordLength recordsPerSector = adding (openOf layout image directory name) (creating layout image name status recordLength recordsPerSector)

@@ -1,14 +1,14 @@
--- A catalogue entry gives the 28 header bytes, and a row: name, kind, sectors, protection. Places count from 0 in name order.
+-- A catalogue entry gives the 28 header bytes, and a row: name, kind, sectors, protection. Places count from 0 in name order, in each directory.
 use mathlib.Core.Path.{_≡_}
 use mathlib.Core.Bool.{false}
 use mathlib.Core.List.{List, [], _∷_, _++_}
 use Prim.Native.Nat.{ℕ}
-use lib.Dec.{leb, ltb}
+use lib.Dec.{eqb, leb, ltb}
 use lib.ListN.{length, replicate}
 use Rattle.rules.specs.Sectors.{sectorOf}
 use Rattle.rules.specs.Kind.{isProtected}
 use Rattle.rules.specs.Descriptor.{nameOf, statusOf, sectorsOf, fileKind}
-use Rattle.rules.specs.Volume.{files, headerIn}
+use Rattle.rules.specs.Volume.{indexAt, filesIn, headerIn}
 use Rattle.rules.specs.Sound.{fileAt}
 use Rattle.rules.specs.Tests.{Test, refuse, unlessMet}
 use Rattle.rules.specs.Verdict.{volumeTests}
@@ -31,15 +31,20 @@ rowOf descriptor =
 unfoldable pub noRow : Row
 noRow = record { name = replicate 10 0; kind = Program 0; sectors = 0; protected = false }
 
--- of the file at a place, for a buffer of `room` bytes
-unfoldable pub entryTests : Layout → List ℕ → ℕ → ℕ → List Test
-entryTests layout image place room = volumeTests layout image ++ (refuse 8 (leb (length (files image)) place) ∷ (refuse 15 (ltb room 28) ∷ []))
+-- of the file at a place of a directory, for a buffer of `room` bytes
+unfoldable pub entryTests : Layout → List ℕ → ℕ → ℕ → ℕ → List Test
+entryTests layout image directory place room =
+    let i = indexAt layout image directory in
+    volumeTests layout image ++ (refuse 8 (eqb i 0) ∷ (refuse 8 (leb (length (filesIn image i)) place) ∷ (refuse 15 (ltb room 28) ∷ [])))
 
-unfoldable pub entryOf : Layout → List ℕ → ℕ → ℕ → Report
-entryOf layout image place room = reported (entryTests layout image place room) 0 (headerIn image (fileAt image place))
+abbrev pub entryAt : Layout → List ℕ → ℕ → ℕ → ℕ
+entryAt layout image directory place = fileAt image (indexAt layout image directory) place
 
-unfoldable pub entryRow : Layout → List ℕ → ℕ → ℕ → Row
-entryRow layout image place room = unlessMet (entryTests layout image place room) (rowOf (sectorOf image (fileAt image place))) noRow
+unfoldable pub entryOf : Layout → List ℕ → ℕ → ℕ → ℕ → Report
+entryOf layout image directory place room = reported (entryTests layout image directory place room) 0 (headerIn image (entryAt layout image directory place))
+
+unfoldable pub entryRow : Layout → List ℕ → ℕ → ℕ → ℕ → Row
+entryRow layout image directory place room = unlessMet (entryTests layout image directory place room) (rowOf (sectorOf image (entryAt layout image directory place))) noRow
 
 -- what the answer says, and the row beside it
 pub record EntrySays (row : Row) (entry : Entry) (report : Report) : Type 0 where

@@ -8,7 +8,7 @@ use Rattle.rules.specs.Bytes.{part}
 use Rattle.rules.specs.Sectors.{sectorOf, sectorCount}
 use Rattle.rules.specs.Map.{freeCount}
 use Rattle.rules.specs.Descriptor.{nameOf, statusOf, sectorsOf, fileKind}
-use Rattle.rules.specs.Volume.{files}
+use Rattle.rules.specs.Volume.{indexAt, filesIn}
 use Rattle.rules.specs.Kind.{isProtected, isMarked}
 use Rattle.rules.specs.Tests.{Test, refuse}
 use Rattle.rules.specs.Verdict.{volumeTests, verdict}
@@ -66,24 +66,29 @@ unfoldable pub fileLines : Layout → List ℕ → List ℕ → List ℕ
 fileLines layout image [] = []
 fileLines layout image (k ∷ ks) = fileLine layout (sectorOf image k) ++ fileLines layout image ks
 
-unfoldable pub listingText : Layout → List ℕ → List ℕ
-listingText layout image = diskLine image ++ fileLines layout image (files image)
+-- of the files of index i
+unfoldable pub listingText : Layout → List ℕ → ℕ → List ℕ
+listingText layout image i = diskLine image ++ fileLines layout image (filesIn image i)
 
--- for a buffer of `room` bytes
-unfoldable pub listingTests : Layout → List ℕ → ℕ → List Test
-listingTests layout image room = volumeTests layout image ++ (refuse 15 (ltb room (length (listingText layout image))) ∷ [])
+-- of a directory, for a buffer of `room` bytes
+unfoldable pub listingTests : Layout → List ℕ → ℕ → ℕ → List Test
+listingTests layout image directory room =
+    let i = indexAt layout image directory in
+    volumeTests layout image ++ (refuse 8 (eqb i 0) ∷ (refuse 15 (ltb room (length (listingText layout image i))) ∷ []))
 
-unfoldable pub listingOf : Layout → List ℕ → ℕ → Report
-listingOf layout image room = reported (listingTests layout image room) (length (listingText layout image)) (listingText layout image)
+unfoldable pub listingOf : Layout → List ℕ → ℕ → ℕ → Report
+listingOf layout image directory room =
+    let text = listingText layout image (indexAt layout image directory) in
+    reported (listingTests layout image directory room) (length text) text
 
 -- an unsound image gives only `REFUSED` and its number
 unfoldable pub refusedLine : ℕ → List ℕ
 refusedLine number = 0x52 ∷ (0x45 ∷ (0x46 ∷ (0x55 ∷ (0x53 ∷ (0x45 ∷ (0x44 ∷ (32 ∷ (decimal number ++ (10 ∷ [])))))))))
 
--- the text of an image, sound or not
+-- the text of an image, sound or not: that of the root, whose index is sector 1
 unfoldable pub listed : Layout → List ℕ → List ℕ
-listed layout image = cond (eqb (verdict layout image) 0) (listingText layout image) (refusedLine (verdict layout image))
+listed layout image = cond (eqb (verdict layout image) 0) (listingText layout image 1) (refusedLine (verdict layout image))
 
--- what the call leaves a program to show, for a buffer of `room` bytes: the listing, or the line of the refusal
+-- what the call leaves a program to show of the root, for a buffer of `room` bytes: the listing, or the line of the refusal
 unfoldable pub shown : Layout → List ℕ → ℕ → List ℕ
-shown layout image room = cond (eqb (listingOf layout image room .number) 0) (listingText layout image) (refusedLine (listingOf layout image room .number))
+shown layout image room = cond (eqb (listingOf layout image 0 room .number) 0) (listingText layout image 1) (refusedLine (listingOf layout image 0 room .number))

@@ -27,5 +27,5 @@ loadTests image room k = refuse 14 (not (isProgram (statusOf (sectorOf image k))
 unfoldable pub loading : List ℕ → ℕ → ℕ → Report
 loading image room k = reported (loadTests image room k) (lengthIn image k) (programIn image k)
 
-unfoldable pub loadOf : Layout → List ℕ → List ℕ → ℕ → Report
-loadOf layout image name room = onFile (openOf layout image name) (loading image room)
+unfoldable pub loadOf : Layout → List ℕ → ℕ → List ℕ → ℕ → Report
+loadOf layout image directory name room = onFile (openOf layout image directory name) (loading image room)

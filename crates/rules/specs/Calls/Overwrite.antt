@@ -28,5 +28,5 @@ overwriteWrites layout image offset bytes k =
 unfoldable pub overwriting : Layout → List ℕ → ℕ → List ℕ → ℕ → Outcome
 overwriting layout image offset bytes k = tested (overwriteTests image offset bytes k) (overwriteWrites layout image offset bytes k)
 
-unfoldable pub overwriteOf : Layout → List ℕ → List ℕ → ℕ → List ℕ → Outcome
-overwriteOf layout image name offset bytes = changing (openOf layout image name) (overwriting layout image offset bytes)
+unfoldable pub overwriteOf : Layout → List ℕ → ℕ → List ℕ → ℕ → List ℕ → Outcome
+overwriteOf layout image directory name offset bytes = changing (openOf layout image directory name) (λ i k. overwriting layout image offset bytes k)

@@ -16,14 +16,14 @@ settingBit j bit image k =
     let descriptor = sectorOf image k in
     done (write k (set descriptor 12 (withBit (statusOf descriptor) j bit)) ∷ [])
 
-unfoldable pub setBitOf : Layout → ℕ → ℕ → List ℕ → List ℕ → Outcome
-setBitOf layout j bit image name = changing (openOf layout image name) (settingBit j bit image)
+unfoldable pub setBitOf : Layout → ℕ → ℕ → List ℕ → ℕ → List ℕ → Outcome
+setBitOf layout j bit image directory name = changing (openOf layout image directory name) (λ i k. settingBit j bit image k)
 
-abbrev pub protectOf : Layout → List ℕ → List ℕ → Outcome
-protectOf layout image name = setBitOf layout 3 1 image name
+abbrev pub protectOf : Layout → List ℕ → ℕ → List ℕ → Outcome
+protectOf layout image directory name = setBitOf layout 3 1 image directory name
 
-abbrev pub unprotectOf : Layout → List ℕ → List ℕ → Outcome
-unprotectOf layout image name = setBitOf layout 3 0 image name
+abbrev pub unprotectOf : Layout → List ℕ → ℕ → List ℕ → Outcome
+unprotectOf layout image directory name = setBitOf layout 3 0 image directory name
 
-abbrev pub clearOf : Layout → List ℕ → List ℕ → Outcome
-clearOf layout image name = setBitOf (withMarks layout) 4 0 image name
+abbrev pub clearOf : Layout → List ℕ → ℕ → List ℕ → Outcome
+clearOf layout image directory name = setBitOf (withMarks layout) 4 0 image directory name

@@ -18,5 +18,5 @@ readTests image offset room k = refuse 15 (leb (sectorsOf (sectorOf image k)) of
 unfoldable pub reading : List ℕ → ℕ → ℕ → ℕ → Report
 reading image offset room k = reported (readTests image offset room k) 0 (sectorOf image (getD (placesIn image k) offset 0))
 
-unfoldable pub readOf : Layout → List ℕ → List ℕ → ℕ → ℕ → Report
-readOf layout image name offset room = onFile (openOf layout image name) (reading image offset room)
+unfoldable pub readOf : Layout → List ℕ → ℕ → List ℕ → ℕ → ℕ → Report
+readOf layout image directory name offset room = onFile (openOf layout image directory name) (reading image offset room)

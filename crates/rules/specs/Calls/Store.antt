@@ -9,7 +9,7 @@ use Rattle.rules.specs.Kind.{sectorsFor, marking}
 use Rattle.rules.specs.Map.{freeCount, marked, markedAll}
 use Rattle.rules.specs.Chain.{extendedAll}
 use Rattle.rules.specs.Descriptor.{newDescriptor, withChain}
-use Rattle.rules.specs.Volume.{files}
+use Rattle.rules.specs.Volume.{filesIn}
 use Rattle.rules.specs.Choice.{descriptorChoice, dataChoices}
 use Rattle.rules.specs.Tests.{Test, refuse}
 use Rattle.rules.specs.Outcome.{Outcome, write, tested}
@@ -30,21 +30,22 @@ newSectors image many = dataChoices many (marked 1 (sectorOf image 0) (descripto
 unfoldable pub newBlocks : List ℕ → ℕ → List Block
 newBlocks image many = extendedAll [] (newSectors image many)
 
-unfoldable pub storeTests : List ℕ → List ℕ → List Test
-storeTests image bytes =
+-- in index i
+unfoldable pub storeTests : List ℕ → List ℕ → ℕ → List Test
+storeTests image bytes i =
     let many = sectorsFor (length bytes) in
     refuse 15 (ltb 32768 (length bytes))
-    ∷ (refuse 11 (leb 127 (length (files image)))
+    ∷ (refuse 11 (leb 127 (length (filesIn image i)))
     ∷ (refuse 12 (ltb (freeCount (sectorOf image 0)) (1 + many)) ∷ (refuse 13 (ltb 76 (length (newBlocks image many))) ∷ [])))
 
-unfoldable pub storing : Layout → List ℕ → List ℕ → List ℕ → Outcome
-storing layout image name bytes =
+unfoldable pub storing : Layout → List ℕ → List ℕ → List ℕ → ℕ → Outcome
+storing layout image name bytes i =
     let many = sectorsFor (length bytes) in
     let k = descriptorChoice (sectorOf image 0) in
     let ks = newSectors image many in
-    tested (storeTests image bytes)
+    tested (storeTests image bytes i)
     (dataWrites bytes ks
-    ++ entered image name k (withChain (newDescriptor name (marking layout 0x01) 0 (length bytes % 256) 0) many (newBlocks image many)) (markedAll 1 (sectorOf image 0) (k ∷ ks)))
+    ++ entered image i name k (withChain (newDescriptor name (marking layout 0x01) 0 (length bytes % 256) 0) many (newBlocks image many)) (markedAll 1 (sectorOf image 0) (k ∷ ks)))
 
-unfoldable pub storeOf : Layout → List ℕ → List ℕ → List ℕ → Outcome
-storeOf layout image name bytes = adding (openOf layout image name) (storing layout image name bytes)
+unfoldable pub storeOf : Layout → List ℕ → ℕ → List ℕ → List ℕ → Outcome
+storeOf layout image directory name bytes = adding (openOf layout image directory name) (storing layout image name bytes)

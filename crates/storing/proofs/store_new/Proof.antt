@@ -2,8 +2,8 @@
 -- and then what enters the file. Assumes nothing.
 use mathlib.Core.Path.{_≡_, refl, sym, ap, subst, _∙_}
 use mathlib.Core.Bool.{Bool, true, false, cond}
-use mathlib.Core.List.{[]}
-use Prim.Native.Nat.{_+_, _*_, _≤_}
+use mathlib.Core.List.{List, []}
+use Prim.Native.Nat.{ℕ, _+_, _*_, _≤_, _<_}
 use native.Mathlib.Omega.{arith}
 use lib.Dec.{leb}
 use lib.ListN.{length}
@@ -12,11 +12,12 @@ use Rattle.rules.specs.Bytes.{wordAt}
 use Rattle.rules.specs.Sectors.{sectorOf, written}
 use Rattle.rules.specs.Map.{freeCount}
 use Rattle.rules.specs.Choice.{descriptorChoice}
-use Rattle.rules.specs.Volume.{files}
+use Rattle.rules.specs.Volume.{filesIn}
+use Rattle.rules.specs.Sound.{SoundIndex}
 use Rattle.rules.specs.Kind.{sectorsFor}
 use Rattle.rules.specs.Calls.Store.{newBlocks}
-use Rattle.rules.proofs.Sectors.{sector-word}
 use Rattle.rules.proofs.Name.{name-is}
+use Rattle.rules.proofs.Listed.{index-low}
 use Rattle.rules.proofs.Outcome.{refusal-meets, done-meets}
 use Rattle.rules.proofs.Opening.{place-none, place-some}
 use Rattle.storing.specs.Program.{programWrites}
@@ -31,7 +32,7 @@ abbrev start : tie.Else1 → tie.Start
 start c = c .before .before .before .before
 
 abbrev length-tested : tie.After-word → tie.Else1
-length-tested c = c .before .before
+length-tested c = c .before .before .before
 
 abbrev start₂ : tie.Else2 → tie.Start
 start₂ c = start (length-tested (c .before))
@@ -48,29 +49,36 @@ at-start c = start₂ (place (free-tested c .before))
 abbrev choosing : tie.After-write-program → tie.After-descriptor-choice
 choosing c = c .before .before
 
+-- the index keeps its rules, and is a sector of the volume
+listed : (c : tie.Start) → SoundIndex (c .args .layout) (c .args .image .now) (c .args .i)
+listed c = c .pre .0 .each (c .args .i) (c .pre .1)
+
+small : (c : tie.Start) → c .args .i < 65536
+small c = omega (arith, index-low _ _ (c .pre .0) (c .args .i) (c .pre .1), c .pre .0 .size)
+
 returns : tie.Need-returns
-returns c = refusal-meets _ _ 15 refl (too-long _ _ _ _ (omega (arith, c .if1 .taken)))
+returns c = refusal-meets _ _ 15 refl (too-long _ _ _ _ _ (omega (arith, c .if1 .taken)))
 
 -- the bytes are not too many
 short : (c : tie.Else1) → length (start c .args .bytes .now) ≤ 32768
 short c = omega (arith, c .if1 .left)
 
--- the number at the last place of sector 1, and the free sectors
-word-is : (c : tie.After-word) → c .word .result ≡ wordAt (sectorOf (start (length-tested c) .args .image .now) 1) (2 * 126)
-word-is c = c .word .ensures .0 ∙ sym (sector-word (start (length-tested c) .args .image .now) 1 252 (omega arith))
+-- the number at the last place of the index, and the free sectors
+word-is : (c : tie.After-word) → let a = start (length-tested c) .args in c .word .result ≡ wordAt (sectorOf (a .image .now) (a .i)) (2 * 126)
+word-is c = c .word .ensures .0 ∙ ap (λ (s : List ℕ). wordAt s 252) (c .before .sector-of .ensures)
 
 free-is : (c : tie.After-free-count-of) → c .free-count-of .result ≡ freeCount (sectorOf (start₂ (place c) .args .image .now) 0)
-free-is c = c .free-count-of .ensures .0 ∙ ap freeCount (c .before .sector-of .ensures)
+free-is c = c .free-count-of .ensures .0 ∙ ap freeCount (c .before .sector-of2 .ensures)
 
 returns-2 : tie.Need-returns-2
 returns-2 c =
     let e = length-tested (c .before) in
-    let full = place-some _ (start e .args .image .now) 126 (start e .pre .0) (λ z. c .if2 .taken (word-is (c .before) ∙ z)) in
-    refusal-meets _ _ 11 refl (no-place _ _ _ _ (short e) (full .0))
+    let full = place-some _ (start e .args .image .now) (start e .args .i) 126 (listed (start e)) (λ z. c .if2 .taken (word-is (c .before) ∙ z)) in
+    refusal-meets _ _ 11 refl (no-place _ _ _ _ _ (short e) (full .0))
 
 -- the tests that have passed
-has-place : (c : tie.Else2) → length (files (start₂ c .args .image .now)) ≤ 126
-has-place c = place-none _ (start₂ c .args .image .now) 126 (start₂ c .pre .0) (sym (word-is (c .before)) ∙ c .if2 .left)
+has-place : (c : tie.Else2) → length (filesIn (start₂ c .args .image .now) (start₂ c .args .i)) ≤ 126
+has-place c = place-none _ (start₂ c .args .image .now) (start₂ c .args .i) 126 (listed (start₂ c)) (sym (word-is (c .before)) ∙ c .if2 .left)
 
 has-free : (c : tie.Else3) →
     let a = start₂ (place (c .before)) .args in
@@ -80,14 +88,14 @@ has-free c = omega (arith, free-is (c .before), c .if3 .left)
 returns-3 : tie.Need-returns-3
 returns-3 c =
     let passed = place (c .before) in
-    refusal-meets _ _ 12 refl (too-few-free _ _ _ _ (short (length-tested (passed .before))) (has-place passed) (omega (arith, free-is (c .before), c .if3 .taken)))
+    refusal-meets _ _ 12 refl (too-few-free _ _ _ _ _ (short (length-tested (passed .before))) (has-place passed) (omega (arith, free-is (c .before), c .if3 .taken)))
 
 -- the sector chosen
 chosen : (c : tie.After-descriptor-choice) → c .descriptor-choice .result ≡ descriptorChoice (sectorOf (at-start c .args .image .now) 0)
-chosen c = c .descriptor-choice .ensures .0 ∙ ap descriptorChoice (c .before .sector-of2 .ensures)
+chosen c = c .descriptor-choice .ensures .0 ∙ ap descriptorChoice (c .before .sector-of3 .ensures)
 
 ten : (c : tie.After-descriptor-choice) → length (at-start c .args .name .now) ≡ 10
-ten c = name-is _ (at-start c .pre .1) .ten
+ten c = name-is _ (at-start c .pre .2) .ten
 
 at-length : (c : tie.After-descriptor-choice) → length (at-start c .args .bytes .now) ≤ 32768
 at-length c = short (length-tested (place (free-tested c .before) .before))
@@ -114,8 +122,13 @@ returns-4 c =
     let choice = choosing p in
     let counted = free-tested choice in
     let is = program-is p false (not-true _ (c .if4 .taken)) in
-    let met = refusal-meets (at-start choice .args .image .now) _ 13 refl (too-scattered _ _ _ _ (at-length choice) (has-place (place (counted .before))) (has-free counted) (is .0)) in
+    let met = refusal-meets (at-start choice .args .image .now) _ 13 refl (too-scattered _ _ _ _ _ (at-length choice) (has-place (place (counted .before))) (has-free counted) (is .0)) in
     record { said = met .said; left = is .1 ∙ met .left }
+
+enter-requires : tie.Need-enter-requires
+enter-requires c κs =
+    let choice = choosing (c .before .before .before .before) in
+    (omega (arith, small (at-start choice)), omega (arith, choice .descriptor-choice .ensures .1))
 
 returns-5 : tie.Need-returns-5
 returns-5 c =
@@ -127,11 +140,11 @@ returns-5 c =
     let begin = at-start choice in
     let a = begin .args in
     let is = program-is p true (not-false _ (passed .if4 .left)) in
-    let met = done-meets _ _ _ (stored _ _ _ _ (at-length choice) (has-place (place (counted .before))) (has-free counted) (is .0)) in
+    let met = done-meets _ _ _ (stored _ _ _ _ _ (at-length choice) (has-place (place (counted .before))) (has-free counted) (is .0)) in
     record {
       said = met .said;
       left =
-          program-entered _ (a .image .now) (a .name .now) (a .bytes .now) (begin .pre .0) (ten choice) (has-free counted) (choice .descriptor-choice .result) (chosen choice) _ _ (is .1) (entering .enter .ensures)
+          program-entered _ (a .image .now) (a .i) (a .name .now) (a .bytes .now) (begin .pre .0) (begin .pre .1) (ten choice) (has-free counted) (choice .descriptor-choice .result) (chosen choice) _ _ (is .1) (entering .enter .ensures)
           ∙ met .left;
     }
 
@@ -140,6 +153,7 @@ store-new-spec =
     tie.close
     (tie.spec
     returns
+    (λ c κs. omega (arith, small (start (c .before))))
     (λ c κs. search needs)
     (λ c. search needs)
     returns-2
@@ -154,6 +168,6 @@ store-new-spec =
     write-program-requires
     (λ c. search needs)
     returns-4
-    (λ c κs. search needs)
+    enter-requires
     (λ c. search needs)
     returns-5)

@@ -4,9 +4,7 @@ use mathlib.Core.List.{List, []}
 use Prim.Native.Nat.{ℕ}
 use lib.ListN.{length}
 use Rattle.rules.specs.Bytes.{splice, part}
-use Rattle.rules.specs.Index.{numbers}
 use Rattle.rules.specs.Map.{freeCount}
-use Rattle.rules.specs.Volume.{files}
 use Rattle.rules.specs.Verdict.{verdict}
 use Rattle.rules.specs.Calls.Summary.{summaryOf, SummarySays}
 use Rattle.rules.proofs.Tests.{unless-passed, unless-met}
@@ -22,10 +20,10 @@ returns c =
     record { said = (j, λ z. c .if1 .taken (j ∙ z)); left = sym (ap (splice _ 0) (unless-met _ _ [] (λ z. c .if1 .taken (j ∙ z))) ∙ splice-none _ 0) }
 
 returns-2 : tie.Need-returns-2
-unfolding SummarySays summaryOf verdict files
+unfolding SummarySays summaryOf verdict
 returns-2 c =
     let f = c .before in
-    let y = f .before .before in
+    let y = f .before in
     let s = y .before .before .before in
     let e = s .before in
     let name = e .before .before .before .args .name .now in
@@ -34,7 +32,7 @@ returns-2 c =
       said = (
         whole,
         refl,
-        f .file-count .ensures ∙ ap (λ (l : List ℕ). length (numbers l)) (f .before .sector-of2 .ensures),
+        f .file-count .ensures,
         c .free-count-of .ensures .0 ∙ ap freeCount (s .sector-of .ensures),
       );
       left = y .lay .ensures ∙ ap (splice name 0) (y .before .part .ensures ∙ ap (λ (l : List ℕ). part l 0 10) (s .sector-of .ensures) ∙ sym (unless-passed _ _ [] whole));
@@ -46,7 +44,6 @@ summary-spec =
     (tie.spec
     (λ c κs. search needs)
     returns
-    (λ c κs. search needs)
     (λ c κs. search needs)
     (λ c κs. search needs)
     (λ c κs. search needs)

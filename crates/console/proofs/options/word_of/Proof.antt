@@ -79,7 +79,7 @@ returns-6 c =
 returns-7 : tie.Need-returns-7
 unfolding imageOr wordOf letters
 returns-7 c =
-    let e6 = c .before .before in
+    let e6 = c .before .before .before in
     let e5 = e6 .before .before .before in
     let e4 = e5 .before .before .before in
     let e3 = e4 .before .before .before in
@@ -92,13 +92,14 @@ returns-7 c =
       sym (e4 .before .same4 .ensures) ∙ e4 .if4 .left,
       sym (e5 .before .same5 .ensures) ∙ e5 .if5 .left,
       sym (e6 .before .same6 .ensures) ∙ e6 .if6 .left,
-      ne-eqb _ 0x2D (λ e. c .if7 .taken (c .before .byte .ensures .0 ∙ e)),
+      sym (c .before .same7 .ensures) ∙ c .if7 .taken,
     ) refl
 
 returns-8 : tie.Need-returns-8
 unfolding imageOr wordOf letters
 returns-8 c =
-    let e6 = c .before .before .before in
+    let e7 = c .before .before in
+    let e6 = e7 .before .before .before in
     let e5 = e6 .before .before .before in
     let e4 = e5 .before .before .before in
     let e3 = e4 .before .before .before in
@@ -111,14 +112,15 @@ returns-8 c =
       sym (e4 .before .same4 .ensures) ∙ e4 .if4 .left,
       sym (e5 .before .same5 .ensures) ∙ e5 .if5 .left,
       sym (e6 .before .same6 .ensures) ∙ e6 .if6 .left,
-      eq-eqb _ 0x2D (sym (c .before .before .byte .ensures .0) ∙ c .before .if7 .left),
-      lt-ltb 1 _ (c .if8 .taken),
+      sym (e7 .before .same7 .ensures) ∙ e7 .if7 .left,
+      ne-eqb _ 0x2D (λ e. c .if8 .taken (c .before .byte .ensures .0 ∙ e)),
     ) refl
 
 returns-9 : tie.Need-returns-9
 unfolding imageOr wordOf letters
 returns-9 c =
-    let e6 = c .before .before .before in
+    let e7 = c .before .before .before in
+    let e6 = e7 .before .before .before in
     let e5 = e6 .before .before .before in
     let e4 = e5 .before .before .before in
     let e3 = e4 .before .before .before in
@@ -131,8 +133,31 @@ returns-9 c =
       sym (e4 .before .same4 .ensures) ∙ e4 .if4 .left,
       sym (e5 .before .same5 .ensures) ∙ e5 .if5 .left,
       sym (e6 .before .same6 .ensures) ∙ e6 .if6 .left,
-      eq-eqb _ 0x2D (sym (c .before .before .byte .ensures .0) ∙ c .before .if7 .left),
-      le-ltb 1 _ (c .if8 .left),
+      sym (e7 .before .same7 .ensures) ∙ e7 .if7 .left,
+      eq-eqb _ 0x2D (sym (c .before .before .byte .ensures .0) ∙ c .before .if8 .left),
+      lt-ltb 1 _ (c .if9 .taken),
+    ) refl
+
+returns-10 : tie.Need-returns-10
+unfolding imageOr wordOf letters
+returns-10 c =
+    let e7 = c .before .before .before in
+    let e6 = e7 .before .before .before in
+    let e5 = e6 .before .before .before in
+    let e4 = e5 .before .before .before in
+    let e3 = e4 .before .before .before in
+    let e2 = e3 .before .before .before in
+    let e1 = e2 .before .before .before in
+    rw (
+      sym (e1 .before .same .ensures) ∙ e1 .if1 .left,
+      sym (e2 .before .same2 .ensures) ∙ e2 .if2 .left,
+      sym (e3 .before .same3 .ensures) ∙ e3 .if3 .left,
+      sym (e4 .before .same4 .ensures) ∙ e4 .if4 .left,
+      sym (e5 .before .same5 .ensures) ∙ e5 .if5 .left,
+      sym (e6 .before .same6 .ensures) ∙ e6 .if6 .left,
+      sym (e7 .before .same7 .ensures) ∙ e7 .if7 .left,
+      eq-eqb _ 0x2D (sym (c .before .before .byte .ensures .0) ∙ c .before .if8 .left),
+      le-ltb 1 _ (c .if9 .left),
     ) refl
 
 pub word-of-spec : {M : Type 1} → statement M
@@ -157,7 +182,10 @@ word-of-spec =
     (λ c. search needs)
     (λ c κs. search needs)
     returns-6
+    (λ c. search needs)
     (λ c κs. search needs)
     returns-7
+    (λ c κs. search needs)
     returns-8
-    returns-9)
+    returns-9
+    returns-10)

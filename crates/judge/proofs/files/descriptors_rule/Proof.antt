@@ -1,5 +1,5 @@
 -- `judge::files::descriptors_rule` meets its contract. The loop's invariant: the descriptors of the numbers from byte `at` on keep their rules, after the name before them, exactly where all do,
--- and those numbers are in range. The measure is what is left of sector 1. Assumes nothing.
+-- and those numbers are in range. The measure is what is left of the index. Assumes nothing.
 use mathlib.Core.Path.{_≡_, refl, sym, _∙_}
 use mathlib.Core.Bool.{Bool, true, false, _&&_}
 use mathlib.Core.List.{List, []}
@@ -10,7 +10,7 @@ use borrow.Author.Tests.{not-true, not-false}
 use Rattle.rules.specs.Index.{numbers, rangeRule}
 use Rattle.rules.specs.Name.{precedes}
 use Rattle.rules.specs.Descriptor.{nameOf, descriptorRule}
-use Rattle.rules.specs.Volume.{files}
+use Rattle.rules.specs.Volume.{filesIn}
 use Rattle.rules.specs.Verdict.{descriptorsRule}
 use Rattle.judge.proofs.IndexSteps.{range-step, descriptors-step, descriptors-past}
 use borrow.Author.Needs.{needs}
@@ -18,14 +18,14 @@ use Rattle.judge.proofs.files.descriptors_rule.Statement.{statement}
 use Rattle.judge.proofs.files.descriptors_rule.Tie as tie
 
 abbrev Inv-loop : tie.InvT-loop
-Inv-loop layout n image sector1 previous₀ at₀ previous at = (at ≤ length sector1) × (descriptorsRule layout n image previous (numbers (drop at sector1)) ≡ descriptorsRule layout n image [] (files image))
-    × (rangeRule n (numbers (drop at sector1)) ≡ true)
+Inv-loop layout n image i index previous₀ at₀ previous at = (at ≤ length index) × (descriptorsRule layout n image previous (numbers (drop at index)) ≡ descriptorsRule layout n image [] (filesIn image i))
+    × (rangeRule n (numbers (drop at index)) ≡ true)
 
 abbrev μ-loop : tie.MeasureT-loop
-μ-loop layout n image sector1 previous₀ at₀ previous at = length sector1 - at
+μ-loop layout n image i index previous₀ at₀ previous at = length index - at
 
 loop-holds : tie.Need-loop-holds Inv-loop μ-loop
-unfolding files
+unfolding filesIn
 loop-holds c = let s = c .before .before .before in (search needs, rw (c .part .ensures, c .before .sector-in .ensures), rw (c .before .sector-in .ensures) (s .pre .2))
 
 returns : tie.Need-returns Inv-loop μ-loop
@@ -57,7 +57,7 @@ sector-in-requires-2 c κs = let s = start (c .before .before) in omega (arith, 
 -- all the rules, with the descriptor that was read taken off; its name is whatever equals it
 stepped : (c : tie.After-sector-in2 Inv-loop μ-loop) (name : List ℕ) → name ≡ nameOf (c .sector-in2 .result .now) →
     let l = test c in
-    rule l [] (files (start l .args .image .now)) ≡ (descriptorRule (start l .args .layout) (start l .args .n) (c .sector-in2 .result .now) && (precedes (l .loop .previous .now) name && rule l name (more l)))
+    rule l [] (filesIn (start l .args .image .now) (start l .args .i)) ≡ (descriptorRule (start l .args .layout) (start l .args .n) (c .sector-in2 .result .now) && (precedes (l .loop .previous .now) name && rule l name (more l)))
 stepped c name is =
     let k = c .before in
     sym (test c .loop .inv .1) ∙ descriptors-step _ _ _ _ _ _ _ _ name (k .before .number-at .ensures .some (k .if1 .left)) (c .sector-in2 .ensures) is
@@ -70,7 +70,7 @@ returns-2 c =
 -- the same, the descriptor keeping its own rules, by what the comparison of names gave
 kept : (c : tie.After-precedes Inv-loop μ-loop) (follows : Bool) → c .precedes .result ≡ follows →
     let l = test (read c) in
-    rule l [] (files (start l .args .image .now)) ≡ (follows && rule l (c .before .part2 .result .now) (more l))
+    rule l [] (filesIn (start l .args .image .now) (start l .args .i)) ≡ (follows && rule l (c .before .part2 .result .now) (more l))
 unfolding nameOf
 kept c follows e =
     let g = c .before .before in

@@ -1,6 +1,6 @@
--- `judge::holders::claim_files` meets its contract. The invariant of the loop over the files: what is left from byte `at` of sector 1 on, claimed on the marks
+-- `judge::holders::claim_files` meets its contract. The invariant of the loop over the files: what is left from byte `at` of the index on, claimed on the marks
 -- as they are, comes to what the whole comes to. That of the loop over a file's sectors: the same of the places ahead of the cursor and the files after. The measures
--- are what is left of sector 1, and the number of places ahead. Assumes nothing.
+-- are what is left of the index, and the number of places ahead. Assumes nothing.
 use mathlib.Core.Path.{_≡_, refl, sym, ap, _∙_}
 use mathlib.Core.Bool.{false}
 use mathlib.Core.List.{List, _∷_, _++_}
@@ -11,7 +11,7 @@ use Rattle.rules.specs.Sectors.{sectorCount}
 use Rattle.rules.specs.Chain.{run}
 use Rattle.rules.specs.Descriptor.{chainOf}
 use Rattle.rules.specs.Index.{numbers}
-use Rattle.rules.specs.Volume.{files, placesIn, fileHolders}
+use Rattle.rules.specs.Volume.{filesIn, placesIn, fileHolders}
 use Rattle.rules.proofs.Tests.{absurd-test}
 use Rattle.descriptor.specs.Cursor.{ahead, past, Steady}
 use Rattle.descriptor.proofs.Ahead.{at-place, at-end, follows}
@@ -21,20 +21,20 @@ use Rattle.judge.proofs.holders.claim_files.Statement.{statement}
 use Rattle.judge.proofs.holders.claim_files.Tie as tie
 
 abbrev Inv-loop : tie.InvT-loop
-Inv-loop image marks₀ sector1 twice₀ at k chain cursor₀ marks twice cursor =
-    let rest = fileHolders image (numbers (drop (at + 2) sector1)) in
+Inv-loop image i marks₀ index twice₀ at k chain cursor₀ marks twice cursor =
+    let rest = fileHolders image (numbers (drop (at + 2) index)) in
     (twice ≡ twice₀) × (length marks ≡ length marks₀) × Steady chain cursor × Left (sectorCount image) marks₀ (ahead chain cursor₀ ++ rest) marks (ahead chain cursor ++ rest)
 
 abbrev μ-loop : tie.MeasureT-loop
-μ-loop image marks₀ sector1 twice₀ at k chain cursor₀ marks twice cursor = length (ahead chain cursor)
+μ-loop image i marks₀ index twice₀ at k chain cursor₀ marks twice cursor = length (ahead chain cursor)
 
 abbrev Inv-files : tie.InvT-files
-Inv-files image marks₀ sector1 twice₀ at₀ marks twice at =
-    (at ≤ length sector1) × (twice ≡ false) × (length marks ≡ length marks₀)
-    × Left (sectorCount image) marks₀ (fileHolders image (files image)) marks (fileHolders image (numbers (drop at sector1)))
+Inv-files image i marks₀ index twice₀ at₀ marks twice at =
+    (at ≤ length index) × (twice ≡ false) × (length marks ≡ length marks₀)
+    × Left (sectorCount image) marks₀ (fileHolders image (filesIn image i)) marks (fileHolders image (numbers (drop at index)))
 
 abbrev μ-files : tie.MeasureT-files
-μ-files image marks₀ sector1 twice₀ at₀ marks twice at = length sector1 - at
+μ-files image i marks₀ index twice₀ at₀ marks twice at = length index - at
 
 -- The ways back: from a place of a chain to the loop over it and to its start; from there to the taking of the descriptor's sector, its number, and the loop over the files.
 abbrev test : tie.After-place Inv-loop μ-loop Inv-files μ-files → tie.At-loop Inv-loop μ-loop Inv-files μ-files
@@ -72,7 +72,7 @@ chain c = c .before .part .result .now
 
 -- what is left to claim, of the whole; and what is left behind the file that stands here
 abbrev To : tie.At-files Inv-loop μ-loop Inv-files μ-files → List ℕ → List ℕ → Type 0
-To c = Left (sectorCount (image c)) (start c .args .marks .now) (fileHolders (image c) (files (image c)))
+To c = Left (sectorCount (image c)) (start c .args .marks .now) (fileHolders (image c) (filesIn (image c) (start c .args .i)))
 
 abbrev rest : tie.At-files Inv-loop μ-loop Inv-files μ-files → List ℕ
 rest c = fileHolders (image c) (numbers (drop (c .files .at + 2) (c .before .sector-in .result .now)))
@@ -117,7 +117,7 @@ sector-in-requires : tie.Need-sector-in-requires Inv-loop μ-loop Inv-files μ-f
 sector-in-requires c κs = omega (arith, c .before .before .pre .1)
 
 files-holds : tie.Need-files-holds Inv-loop μ-loop Inv-files μ-files
-unfolding files
+unfolding filesIn
 files-holds c =
     let s = c .before .before .before in
     (search needs, refl, refl, left-as _ _ _ _ (rw (← c .sector-in .ensures)) (left-start _ _ _ (s .pre .3)))
@@ -177,7 +177,7 @@ loop-again c =
       rw (c .past .ensures) (left-taken _ _ _ _ _ _ _ (placed b) _ (t .result) (t .ensures .0) (t .ensures .1) (c .before .if3 .left)),
     )
 
--- two bytes of sector 1 are there
+-- two bytes of the index are there
 inside : (c : tie.After-enum-told Inv-loop μ-loop Inv-files μ-files) →
     let f = filed (last c .before) in
     f .files .at + 2 ≤ length (f .before .sector-in .result .now)

@@ -14,10 +14,10 @@ use Rattle.judge.proofs.system.index_rule.Statement.{statement}
 use Rattle.judge.proofs.system.index_rule.Tie as tie
 
 abbrev Inv-loop : tie.InvT-loop
-Inv-loop n sector1 at₀ at = (at ≤ length sector1) × (indexRest n sector1 at ≡ indexRule n sector1)
+Inv-loop n index at₀ at = (at ≤ length index) × (indexRest n index at ≡ indexRule n index)
 
 abbrev μ-loop : tie.MeasureT-loop
-μ-loop n sector1 at₀ at = length sector1 - at
+μ-loop n index at₀ at = length index - at
 
 loop-holds : tie.Need-loop-holds Inv-loop μ-loop
 loop-holds c = (search needs, index-start _ _)
@@ -26,7 +26,7 @@ loop-holds c = (search needs, index-start _ _)
 past : (c : tie.Then1 Inv-loop μ-loop) →
     let l = c .before .before in
     let a = l .before .before .args in
-    indexRule (a .n) (a .sector1 .now) ≡ indexEnd (a .sector1 .now) (l .loop .at)
+    indexRule (a .n) (a .index .now) ≡ indexEnd (a .index .now) (l .loop .at)
 past c = sym (c .before .before .loop .inv .1) ∙ index-past _ _ _ (c .before .number-at .ensures .none (c .if1 .taken))
 
 returns : tie.Need-returns Inv-loop μ-loop
@@ -40,8 +40,8 @@ stepped : (c : tie.Else1 Inv-loop μ-loop) →
     let l = c .before .before in
     let a = l .before .before .args in
     let k = c .before .number-at .result in
-    let more = numbers (drop (l .loop .at + 2) (a .sector1 .now)) in
-    indexRule (a .n) (a .sector1 .now) ≡ ((leb 2 k && (ltb k (a .n) && rangeRule (a .n) more)) && indexEnd (a .sector1 .now) (l .loop .at + 2 + 2 * length more))
+    let more = numbers (drop (l .loop .at + 2) (a .index .now)) in
+    indexRule (a .n) (a .index .now) ≡ ((leb 2 k && (ltb k (a .n) && rangeRule (a .n) more)) && indexEnd (a .index .now) (l .loop .at + 2 + 2 * length more))
 stepped c = sym (c .before .before .loop .inv .1) ∙ index-step _ _ _ _ (c .before .number-at .ensures .some (c .if1 .left))
 
 returns-3 : tie.Need-returns-3 Inv-loop μ-loop
@@ -51,7 +51,7 @@ returns-4 : tie.Need-returns-4 Inv-loop μ-loop
 returns-4 c = let low = c .before in sym (stepped (low .before) ∙ rw (le-leb _ _ (low .if3 .left), le-ltb _ _ (c .if4 .taken)))
 
 -- two bytes are there
-inside : (c : tie.Else1 Inv-loop μ-loop) → let l = c .before .before in l .loop .at + 2 ≤ length (l .before .before .args .sector1 .now)
+inside : (c : tie.Else1 Inv-loop μ-loop) → let l = c .before .before in l .loop .at + 2 ≤ length (l .before .before .args .index .now)
 inside c = c .before .number-at .ensures .inside (c .if1 .left)
 
 add-at : tie.Need-add-at Inv-loop μ-loop

@@ -1,23 +1,24 @@
 -- `listing::lines::put_file_lines` meets its contract. The loop's invariant: the lines of the numbers from byte `place` on are left, and go to `next` (`Ahead`).
--- The measure is what is left of sector 1. Assumes nothing.
+-- The measure is what is left of the index. Assumes nothing.
 use Prim.Native.Nat.{_-_, _≤_}
 use native.Mathlib.Omega.{arith}
 use lib.ListN.{length}
-use Rattle.listing.proofs.LineSteps.{Ahead, ahead-start, ahead-step, ahead-end, sector-short}
+use Rattle.rules.proofs.Sectors.{sector-short}
+use Rattle.listing.proofs.LineSteps.{Ahead, ahead-start, ahead-step, ahead-end}
 use borrow.Author.Needs.{needs}
 use Rattle.listing.proofs.lines.put_file_lines.Statement.{statement}
 use Rattle.listing.proofs.lines.put_file_lines.Tie as tie
 
 abbrev Inv-loop : tie.InvT-loop
-Inv-loop layout text₀ at image sector1 next₀ place₀ text next place = Ahead layout image sector1 text₀ text at next place
+Inv-loop layout text₀ at image i index next₀ place₀ text next place = Ahead layout image i index text₀ text at next place
 
 abbrev μ-loop : tie.MeasureT-loop
-μ-loop layout text₀ at image sector1 next₀ place₀ text next place = length sector1 - place
+μ-loop layout text₀ at image i index next₀ place₀ text next place = length index - place
 
 loop-holds : tie.Need-loop-holds Inv-loop μ-loop
-loop-holds c = ahead-start _ _ _ _ _ (c .sector-of .ensures)
+loop-holds c = ahead-start _ _ _ _ _ _ (c .sector-of .ensures)
 
--- the start of the call, and the number that was read; that sector 1 is short
+-- the start of the call, and the number that was read; that the index is short
 abbrev start : tie.At-loop Inv-loop μ-loop → tie.Start Inv-loop μ-loop
 start c = c .before .before .before .before
 
@@ -25,7 +26,7 @@ abbrev number : tie.After-sector-of2 Inv-loop μ-loop → tie.Else1 Inv-loop μ-
 number c = c .before .before
 
 short : (c : tie.At-loop Inv-loop μ-loop) → length (c .before .sector-of .result .now) ≤ 256
-short c = sector-short _ _ _ (c .before .sector-of .ensures)
+short c = rw (c .before .sector-of .ensures) (sector-short _ _)
 
 returns : tie.Need-returns Inv-loop μ-loop
 returns c =

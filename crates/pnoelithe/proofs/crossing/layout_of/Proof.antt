@@ -1,4 +1,4 @@
--- `pnoelithe::crossing::layout_of` meets its contract: the lowest bit as the code reads it. Assumes nothing.
+-- `pnoelithe::crossing::layout_of` meets its contract: the two lowest bits as the code reads them. Assumes nothing.
 use native.Mathlib.Nat.{div-one}
 use Rattle.pnoelithe.specs.Crossing.{layoutOf}
 use Rattle.pnoelithe.proofs.crossing.layout_of.Statement.{statement}

@@ -1,0 +1,2 @@
+-- The walk through the files of all indexes.
+pub mod Walk
