@@ -1,5 +1,5 @@
 // Appending: one sector more of a file. The call takes any image and any arguments, answers with its number, and leaves the image with the
-// writes of the rules' definition laid over it; a refusal has none.
+// writes of the rules' definition laid over it, and their order in a list that is lent for it; a refusal has none.
 ghost use mathlib.Core.Path.{_≡_};
 ghost use Prim.Native.Nat.{ℕ, _+_};
 ghost use lib.ListN.{length};
@@ -10,7 +10,7 @@ ghost use Rattle.rules.specs.Map.{marked};
 ghost use Rattle.rules.specs.Sectors.{sectorOf, written};
 ghost use Rattle.rules.specs.Sound.{IsFile};
 ghost use Rattle.rules.specs.Choice.{dataChoice};
-ghost use Rattle.rules.specs.Outcome.{NamedSays, Meets};
+ghost use Rattle.rules.specs.Outcome.{listed, NamedSays, Meets};
 ghost use Rattle.rules.specs.Calls.Append.{appendWrites, appending, appendOf};
 ghost use Rattle.rules.specs.declared.WrongPlace.the-variants.{None};
 ghost use Rattle.extension.specs.Built.{Extendable};
@@ -32,6 +32,7 @@ use sector::buffer::write_sector;
 use sector::bytes::byte;
 use sector::bytes::part;
 use sector::bytes::sector_of;
+use sector::order::list;
 
 // The descriptor of the file with the sector `new` behind its chain, marked by the rule.
 fn longer(layout: Layout, to: &mut [u8], descriptor: &[u8], tip: Tip, new: usize)
@@ -72,9 +73,16 @@ fn write_longer(layout: Layout, image: &mut [u8], k: usize, bytes: &[u8], tip: T
 }
 
 // Of the file whose descriptor is in sector k.
-fn append_at(layout: Layout, image: &mut [u8], k: usize, bytes: &[u8]) -> NamedAnswer
+fn append_at(
+    layout: Layout,
+    image: &mut [u8],
+    k: usize,
+    bytes: &[u8],
+    changes: &mut [u32; 133],
+) -> NamedAnswer
     requires { ⌜ ((i : ℕ) × IsFile layout (now image) i k) ⌝ }
     ensures { λ r. ⌜ Meets (NamedSays None) (appending layout (now (image .entry)) (now (bytes .entry)) k) r (now (image .entry)) (now (image .exit)) ⌝ }
+    ensures order { λ _. ⌜ now (changes .exit) ≡ listed (appending layout (now (image .entry)) (now (bytes .entry)) k) (now (changes .entry)) ⌝ }
 {
     let status = byte(sector_of(image, k), 12);
     if status / 8 % 2 == 1 {
@@ -98,6 +106,8 @@ fn append_at(layout: Layout, image: &mut [u8], k: usize, bytes: &[u8]) -> NamedA
         return NamedAnswer::Refused(13);
     }
     write_longer(layout, image, k, bytes, tip, new);
+    let order = [new as u32, 0, k as u32];
+    list(changes, 0, &order);
     NamedAnswer::Done
 }
 
@@ -107,14 +117,16 @@ pub fn append(
     directory: usize,
     name: &[u8],
     bytes: &[u8],
+    changes: &mut [u32; 133],
 ) -> NamedAnswer
     ensures { λ r. ⌜ Meets (NamedSays (wrongPlace (now (name .entry)))) (appendOf layout (now (image .entry)) directory (now (name .entry)) (now (bytes .entry))) r (now (image .entry)) (now (image .exit)) ⌝ }
+    ensures order { λ _. ⌜ now (changes .exit) ≡ listed (appendOf layout (now (image .entry)) directory (now (name .entry)) (now (bytes .entry))) (now (changes .entry)) ⌝ }
 {
     let opened = find(layout, image, directory, name);
     match opened {
         Opened::Refused(number) => NamedAnswer::Refused(number),
         Opened::Misnamed(place) => NamedAnswer::Misnamed(place),
         Opened::Absent(_) => NamedAnswer::Refused(8),
-        Opened::At(_, _, k) => append_at(layout, image, k, bytes),
+        Opened::At(_, _, k) => append_at(layout, image, k, bytes, changes),
     }
 }

@@ -1,5 +1,5 @@
 // Creating: a file without sectors. The call takes any image and any arguments, answers with its number, and leaves the image with the
-// writes of the rules' definition laid over it; a refusal has none.
+// writes of the rules' definition laid over it, and their order in a list that is lent for it; a refusal has none.
 ghost use mathlib.Core.Path.{_≡_};
 ghost use mathlib.Core.Bool.{true};
 ghost use Prim.Native.Nat.{_*_, _<_};
@@ -8,7 +8,7 @@ ghost use Rattle.rules.specs.Bytes.{splice};
 ghost use Rattle.rules.specs.Name.{nameRule, wrongPlace};
 ghost use Rattle.rules.specs.Descriptor.{newDescriptor};
 ghost use Rattle.rules.specs.Sound.{IsIndexed, Sound};
-ghost use Rattle.rules.specs.Outcome.{NamedSays, Meets};
+ghost use Rattle.rules.specs.Outcome.{listed, NamedSays, Meets};
 ghost use Rattle.rules.specs.Calls.Create.{createStatus, creating, createOf};
 ghost use Rattle.rules.specs.declared.WrongPlace.the-variants.{None};
 use descriptor::header::new_descriptor;
@@ -24,6 +24,7 @@ use rules::Opened;
 use sector::buffer::write_sector;
 use sector::bytes::sector_of;
 use sector::bytes::word;
+use sector::order::list;
 
 // The four that a file can be created with.
 fn create_status(status: u8) -> bool
@@ -74,9 +75,11 @@ fn create_new(
     status: u8,
     record_length: u8,
     records_per_sector: u8,
+    changes: &mut [u32; 133],
 ) -> NamedAnswer
     requires { ⌜ Sound layout (now image) × IsIndexed layout (now image) i × (nameRule (now name) ≡ true) ⌝ }
     ensures { λ r. ⌜ Meets (NamedSays None) (creating layout (now (image .entry)) (now (name .entry)) status «record_length» «records_per_sector» i) r (now (image .entry)) (now (image .exit)) ⌝ }
+    ensures order { λ _. ⌜ now (changes .exit) ≡ listed (creating layout (now (image .entry)) (now (name .entry)) status «record_length» «records_per_sector» i) (now (changes .entry)) ⌝ }
 {
     if !create_status(status) {
         return NamedAnswer::Refused(15);
@@ -93,6 +96,8 @@ fn create_new(
     write_descriptor(image, k, name, marked, records_per_sector, record_length);
     mark(&mut image[0..256], k);
     enter(image, i, name, k);
+    let order = [k as u32, 0, i as u32];
+    list(changes, 0, &order);
     NamedAnswer::Done
 }
 
@@ -104,8 +109,10 @@ pub fn create(
     status: u8,
     record_length: u8,
     records_per_sector: u8,
+    changes: &mut [u32; 133],
 ) -> NamedAnswer
     ensures { λ r. ⌜ Meets (NamedSays (wrongPlace (now (name .entry)))) (createOf layout (now (image .entry)) directory (now (name .entry)) status «record_length» «records_per_sector») r (now (image .entry)) (now (image .exit)) ⌝ }
+    ensures order { λ _. ⌜ now (changes .exit) ≡ listed (createOf layout (now (image .entry)) directory (now (name .entry)) status «record_length» «records_per_sector») (now (changes .entry)) ⌝ }
 {
     let opened = find(layout, image, directory, name);
     match opened {
@@ -120,6 +127,7 @@ pub fn create(
             status,
             record_length,
             records_per_sector,
+            changes,
         ),
     }
 }

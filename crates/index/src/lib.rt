@@ -1,18 +1,22 @@
-// An index anew: with a number taken out, and with one put in its place by name. Each answers for any bytes with what the
+// An index anew: with a number taken out, with one put in its place by name, and with all of them in the order of their names. Each answers for any bytes with what the
 // rules' definitions say; numbers that do not fit into the sector are left out.
 ghost use mathlib.Core.Path.{_≡_};
+ghost use mathlib.Core.Bool.{true};
 ghost use mathlib.Core.List.{[], _∷_};
-ghost use Prim.Native.Nat.{_+_, _≤_, _<_};
+ghost use Prim.Native.Nat.{_+_, _*_, _≤_, _<_};
 ghost use lib.ListN.{length, drop, replicate};
 ghost use Rattle.rules.specs.Bytes.{splice};
-ghost use Rattle.rules.specs.Index.{numbers, numbersBytes, indexOf, without};
-ghost use Rattle.rules.specs.Sectors.{written};
+ghost use Rattle.rules.specs.Index.{numbers, numbersBytes, indexOf, without, IsIndex};
+ghost use Rattle.rules.specs.Sectors.{sectorCount, written};
 ghost use Rattle.rules.specs.Volume.{filesIn, placed};
 ghost use Rattle.rules.specs.Outcome.{write};
+ghost use Rattle.rules.specs.Calls.Repair.{distinctRule, ordered};
 use descriptor::name::precedes;
 use sector::buffer::write_sector;
 use sector::bytes::part;
+use sector::bytes::same;
 use sector::bytes::sector_of;
+use sector::bytes::word;
 use sector::numbers::lay_number;
 use sector::numbers::number_at;
 
@@ -75,6 +79,47 @@ pub fn index_with(index: &mut [u8; 256], image: &[u8], old: &[u8], name: &[u8], 
     lay_number(index, at, k);
     let next = at + 2;
     copy_numbers(index, next, old, at);
+}
+
+// The number at byte `at` goes to its place by name among those before it, which are in order: those that come after it move up by one place. False where one
+// of them has its name; then the index is of no more use.
+fn settle(index: &mut [u8; 256], image: &[u8], at: usize) -> bool {
+    let k = word(index, at);
+    let name = part(sector_of(image, k), 0, 10);
+    let mut to = at;
+    while to > 0 {
+        let before = to - 2;
+        let j = word(index, before);
+        let other = part(sector_of(image, j), 0, 10);
+        if !precedes(name, other) {
+            if same(name, other) {
+                return false;
+            }
+            break;
+        }
+        lay_number(index, to, j);
+        to = before;
+    }
+    lay_number(index, to, k);
+    true
+}
+
+// The numbers of an index in the order of the names that they lead to, where they stand; false where two have one name, and then the index is of no more use.
+pub fn order_numbers(index: &mut [u8; 256], image: &[u8]) -> bool
+    requires { ⌜ (length (now image) ≡ 256 * sectorCount (now image)) × IsIndex (sectorCount (now image)) (now index) ⌝ }
+    ensures { λ r. ⌜ r ≡ distinctRule (now (image .entry)) [] (numbers (now (index .entry))) ⌝ }
+    ensures { λ r. ⌜ (r ≡ true → now (index .exit) ≡ indexOf (ordered (now (image .entry)) (numbers (now (index .entry))))) ⌝ }
+{
+    let mut at = 0;
+    loop {
+        if number_at(index, at) == 0 {
+            return true;
+        }
+        if !settle(index, image, at) {
+            return false;
+        }
+        at += 2;
+    }
 }
 
 // A new file's last write: the index in sector i with the number k in its place, its files and their names being those of the image as it stands.

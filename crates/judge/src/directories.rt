@@ -59,7 +59,7 @@ fn entry_rule(n: usize, sector0: &[u8], place: usize) -> bool
     !is_named(name, sector0, place + 1)
 }
 
-pub(crate) fn entries_rule(layout: Layout, n: usize, sector0: &[u8]) -> bool
+pub fn entries_rule(layout: Layout, n: usize, sector0: &[u8]) -> bool
     ensures { λ r. ⌜ r ≡ entriesRule n (entries layout (now (sector0 .entry))) ⌝ }
 {
     if !layout.directories {
@@ -76,7 +76,7 @@ pub(crate) fn entries_rule(layout: Layout, n: usize, sector0: &[u8]) -> bool
 }
 
 // The rule of every index that is there.
-pub(crate) fn indexes_rule(layout: Layout, n: usize, image: &[u8]) -> bool
+pub fn indexes_rule(layout: Layout, n: usize, image: &[u8]) -> bool
     requires { ⌜ (length (now image) ≡ 256 * n) × Below n (indexes layout (now image)) ⌝ }
     ensures { λ r. ⌜ r ≡ every (λ i. indexRule n (sectorOf (now (image .entry)) i)) (indexes layout (now (image .entry))) ⌝ }
 {

@@ -72,7 +72,7 @@ fn kind_rule(kind: Kind, c: usize, end_offset: usize) -> bool
     }
 }
 
-fn descriptor_rule(layout: Layout, n: usize, descriptor: &[u8]) -> bool
+pub fn descriptor_rule(layout: Layout, n: usize, descriptor: &[u8]) -> bool
     ensures { λ r. ⌜ r ≡ descriptorRule layout n (now (descriptor .entry)) ⌝ }
 {
     if !name_rule(part(descriptor, 0, 10)) {

@@ -66,7 +66,7 @@ fn claim_files(image: &[u8], i: usize, marks: &mut [u8]) -> bool
 }
 
 // Marks every holder but sector 0: each index that is there, and what its files hold. Answers whether one was taken already.
-pub(crate) fn claim_holders(layout: Layout, image: &[u8], marks: &mut [u8]) -> bool
+pub fn claim_holders(layout: Layout, image: &[u8], marks: &mut [u8]) -> bool
     requires { ⌜ (length (now marks) ≡ 200) × (sectorCount (now image) ≤ 1600) × Below (sectorCount (now image)) (claims (now image) (indexes layout (now image))) ⌝ }
     ensures { λ r. ⌜ r ≡ clashes (asMap (now (marks .entry))) (claims (now (image .entry)) (indexes layout (now (image .entry)))) ⌝ }
     ensures { λ r. ⌜ (r ≡ false → asMap (now (marks .exit)) ≡ markedAll 1 (asMap (now (marks .entry))) (claims (now (image .entry)) (indexes layout (now (image .entry))))) ⌝ }

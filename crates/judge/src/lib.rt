@@ -3,11 +3,11 @@
 ghost use mathlib.Core.Path.{_≡_};
 ghost use Rattle.rules.specs.Verdict.{verdict};
 
-mod directories;
-mod files;
-mod holders;
+pub mod directories;
+pub mod files;
+pub mod holders;
 mod marks;
-mod system;
+pub mod system;
 
 use directories::entries_rule;
 use directories::indexes_rule;

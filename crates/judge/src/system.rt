@@ -9,7 +9,7 @@ use sector::bytes::part;
 use sector::bytes::word;
 use sector::numbers::number_at;
 
-pub(crate) fn label_rule(n: usize, sector0: &[u8]) -> bool
+pub fn label_rule(n: usize, sector0: &[u8]) -> bool
     ensures { λ r. ⌜ r ≡ labelRule n (now (sector0 .entry)) ⌝ }
 {
     if !name_rule(part(sector0, 0, 10)) {

@@ -1,11 +1,12 @@
 -- How enums and bools cross to C, which has neither: as numbers. And what a call promises there.
 use mathlib.Core.Path.{_≡_}
 use mathlib.Core.Bool.{Bool, true, false, cond}
-use mathlib.Core.List.{List}
+use mathlib.Core.List.{List, _∷_}
 use Prim.Native.Nat.{ℕ}
 use lib.Dec.{eqb}
+use lib.ListN.{length}
 use Rattle.rules.specs.Bytes.{bitOf, splice}
-use Rattle.rules.specs.Sectors.{written}
+use Rattle.rules.specs.Sectors.{sectorsIn, written}
 use Rattle.rules.specs.Outcome.{Report, Outcome, ifWrong, behind}
 use Rattle.rules.specs.declared.Layout.{Layout}
 use Rattle.rules.specs.declared.WrongPlace.{WrongPlace}
@@ -42,6 +43,10 @@ firstWrong old new = ifWrong old At new
 -- and behind `which` 0 where the old name is wrong, else 1
 abbrev pub whichBehind : ℕ → WrongPlace → ℕ → ℕ
 whichBehind number old before = behindSeven number (ifWrong old (λ place. 0) 1) before
+
+-- what `changes` holds afterwards: how many sectors were written, none with a refusal, and their numbers in order; its first number stays, and what is behind them
+abbrev pub changesOf : Outcome → List ℕ → List ℕ
+changesOf outcome before = splice before 1 (length (outcome .writes) ∷ sectorsIn (outcome .writes))
 
 -- a call that writes: the number that it returns, and the image before and after
 pub record Crosses (outcome : Outcome) (number : ℕ) (before after : List ℕ) : Type 0 where

@@ -1,6 +1,6 @@
 // The C interface, documented in include/pnoelithe.h: thin functions over the calls, each with the promise of the call below it.
 // Each gives its number, 0 where it was done; what a call gives beside it is written behind the pointers lent for it: with number 0 its
-// values, with 7 where a name is wrong, and with any other nothing.
+// values, with 7 where a name is wrong, and with any other nothing; but in `changes` a call that was refused says that it wrote no sector.
 ghost use mathlib.Core.Path.{_≡_};
 ghost use lib.ListN.{length};
 ghost use Rattle.rules.specs.Sectors.{sectorOf, sectorCount};
@@ -24,8 +24,9 @@ ghost use Rattle.rules.specs.Calls.Protect.{protectOf, unprotectOf, clearOf};
 ghost use Rattle.rules.specs.Calls.Store.{storeOf};
 ghost use Rattle.rules.specs.Calls.Delete.{deleteOf};
 ghost use Rattle.rules.specs.Calls.Rename.{renameOf};
+ghost use Rattle.rules.specs.Calls.Repair.{repairOf};
 ghost use Rattle.rules.specs.Calls.Pack.{packNumber, afterPack};
-ghost use Rattle.pnoelithe.specs.Crossing.{layoutOf, kindNumber, flag, placeBehind, firstWrong, whichBehind, Crosses, ReportCrosses, AmountCrosses};
+ghost use Rattle.pnoelithe.specs.Crossing.{layoutOf, kindNumber, flag, placeBehind, firstWrong, whichBehind, changesOf, Crosses, ReportCrosses, AmountCrosses};
 
 mod crossing;
 
@@ -41,6 +42,7 @@ use descriptor::kind::kind_length;
 use formatting::format::Geometry;
 use rules::Answer;
 use rules::Summary;
+use sector::order::list_none;
 
 // The number 0 to 6 of an image.
 #[no_mangle]
@@ -219,10 +221,13 @@ pub extern "C" fn pno_create(
     record_length: u8,
     records_per_sector: u8,
     wrong: &mut usize,
+    changes: &mut [u32; 133],
 ) -> u32
     ensures image { λ r. ⌜ Crosses (createOf (layoutOf layout) (now (image .entry)) directory (now (name .entry)) status «record_length» «records_per_sector») r (now (image .entry)) (now (image .exit)) ⌝ }
     ensures wrong { λ r. ⌜ now (wrong .exit) ≡ placeBehind r (wrongPlace (now (name .entry))) (now (wrong .entry)) ⌝ }
+    ensures changes { λ _. ⌜ now (changes .exit) ≡ changesOf (createOf (layoutOf layout) (now (image .entry)) directory (now (name .entry)) status «record_length» «records_per_sector») (now (changes .entry)) ⌝ }
 {
+    list_none(changes);
     named_number(
         creating::create(
             layout_of(layout),
@@ -232,6 +237,7 @@ pub extern "C" fn pno_create(
             status,
             record_length,
             records_per_sector,
+            changes,
         ),
         wrong,
     )
@@ -246,12 +252,15 @@ pub extern "C" fn pno_append(
     name: &[u8],
     bytes: &[u8],
     wrong: &mut usize,
+    changes: &mut [u32; 133],
 ) -> u32
     ensures image { λ r. ⌜ Crosses (appendOf (layoutOf layout) (now (image .entry)) directory (now (name .entry)) (now (bytes .entry))) r (now (image .entry)) (now (image .exit)) ⌝ }
     ensures wrong { λ r. ⌜ now (wrong .exit) ≡ placeBehind r (wrongPlace (now (name .entry))) (now (wrong .entry)) ⌝ }
+    ensures changes { λ _. ⌜ now (changes .exit) ≡ changesOf (appendOf (layoutOf layout) (now (image .entry)) directory (now (name .entry)) (now (bytes .entry))) (now (changes .entry)) ⌝ }
 {
+    list_none(changes);
     named_number(
-        appending::append(layout_of(layout), image, directory, name, bytes),
+        appending::append(layout_of(layout), image, directory, name, bytes, changes),
         wrong,
     )
 }
@@ -266,12 +275,23 @@ pub extern "C" fn pno_overwrite(
     offset: usize,
     bytes: &[u8],
     wrong: &mut usize,
+    changes: &mut [u32; 133],
 ) -> u32
     ensures image { λ r. ⌜ Crosses (overwriteOf (layoutOf layout) (now (image .entry)) directory (now (name .entry)) offset (now (bytes .entry))) r (now (image .entry)) (now (image .exit)) ⌝ }
     ensures wrong { λ r. ⌜ now (wrong .exit) ≡ placeBehind r (wrongPlace (now (name .entry))) (now (wrong .entry)) ⌝ }
+    ensures changes { λ _. ⌜ now (changes .exit) ≡ changesOf (overwriteOf (layoutOf layout) (now (image .entry)) directory (now (name .entry)) offset (now (bytes .entry))) (now (changes .entry)) ⌝ }
 {
+    list_none(changes);
     named_number(
-        overwriting::overwrite(layout_of(layout), image, directory, name, offset, bytes),
+        overwriting::overwrite(
+            layout_of(layout),
+            image,
+            directory,
+            name,
+            offset,
+            bytes,
+            changes,
+        ),
         wrong,
     )
 }
@@ -284,12 +304,15 @@ pub extern "C" fn pno_protect(
     directory: usize,
     name: &[u8],
     wrong: &mut usize,
+    changes: &mut [u32; 133],
 ) -> u32
     ensures image { λ r. ⌜ Crosses (protectOf (layoutOf layout) (now (image .entry)) directory (now (name .entry))) r (now (image .entry)) (now (image .exit)) ⌝ }
     ensures wrong { λ r. ⌜ now (wrong .exit) ≡ placeBehind r (wrongPlace (now (name .entry))) (now (wrong .entry)) ⌝ }
+    ensures changes { λ _. ⌜ now (changes .exit) ≡ changesOf (protectOf (layoutOf layout) (now (image .entry)) directory (now (name .entry))) (now (changes .entry)) ⌝ }
 {
+    list_none(changes);
     named_number(
-        protecting::protect(layout_of(layout), image, directory, name),
+        protecting::protect(layout_of(layout), image, directory, name, changes),
         wrong,
     )
 }
@@ -302,12 +325,15 @@ pub extern "C" fn pno_unprotect(
     directory: usize,
     name: &[u8],
     wrong: &mut usize,
+    changes: &mut [u32; 133],
 ) -> u32
     ensures image { λ r. ⌜ Crosses (unprotectOf (layoutOf layout) (now (image .entry)) directory (now (name .entry))) r (now (image .entry)) (now (image .exit)) ⌝ }
     ensures wrong { λ r. ⌜ now (wrong .exit) ≡ placeBehind r (wrongPlace (now (name .entry))) (now (wrong .entry)) ⌝ }
+    ensures changes { λ _. ⌜ now (changes .exit) ≡ changesOf (unprotectOf (layoutOf layout) (now (image .entry)) directory (now (name .entry))) (now (changes .entry)) ⌝ }
 {
+    list_none(changes);
     named_number(
-        protecting::unprotect(layout_of(layout), image, directory, name),
+        protecting::unprotect(layout_of(layout), image, directory, name, changes),
         wrong,
     )
 }
@@ -320,12 +346,15 @@ pub extern "C" fn pno_clear_mark(
     directory: usize,
     name: &[u8],
     wrong: &mut usize,
+    changes: &mut [u32; 133],
 ) -> u32
     ensures image { λ r. ⌜ Crosses (clearOf (layoutOf layout) (now (image .entry)) directory (now (name .entry))) r (now (image .entry)) (now (image .exit)) ⌝ }
     ensures wrong { λ r. ⌜ now (wrong .exit) ≡ placeBehind r (wrongPlace (now (name .entry))) (now (wrong .entry)) ⌝ }
+    ensures changes { λ _. ⌜ now (changes .exit) ≡ changesOf (clearOf (layoutOf layout) (now (image .entry)) directory (now (name .entry))) (now (changes .entry)) ⌝ }
 {
+    list_none(changes);
     named_number(
-        protecting::clear_mark(layout_of(layout), image, directory, name),
+        protecting::clear_mark(layout_of(layout), image, directory, name, changes),
         wrong,
     )
 }
@@ -339,12 +368,15 @@ pub extern "C" fn pno_store(
     name: &[u8],
     bytes: &[u8],
     wrong: &mut usize,
+    changes: &mut [u32; 133],
 ) -> u32
     ensures image { λ r. ⌜ Crosses (storeOf (layoutOf layout) (now (image .entry)) directory (now (name .entry)) (now (bytes .entry))) r (now (image .entry)) (now (image .exit)) ⌝ }
     ensures wrong { λ r. ⌜ now (wrong .exit) ≡ placeBehind r (wrongPlace (now (name .entry))) (now (wrong .entry)) ⌝ }
+    ensures changes { λ _. ⌜ now (changes .exit) ≡ changesOf (storeOf (layoutOf layout) (now (image .entry)) directory (now (name .entry)) (now (bytes .entry))) (now (changes .entry)) ⌝ }
 {
+    list_none(changes);
     named_number(
-        storing::store(layout_of(layout), image, directory, name, bytes),
+        storing::store(layout_of(layout), image, directory, name, bytes, changes),
         wrong,
     )
 }
@@ -357,12 +389,15 @@ pub extern "C" fn pno_delete(
     directory: usize,
     name: &[u8],
     wrong: &mut usize,
+    changes: &mut [u32; 133],
 ) -> u32
     ensures image { λ r. ⌜ Crosses (deleteOf (layoutOf layout) (now (image .entry)) directory (now (name .entry))) r (now (image .entry)) (now (image .exit)) ⌝ }
     ensures wrong { λ r. ⌜ now (wrong .exit) ≡ placeBehind r (wrongPlace (now (name .entry))) (now (wrong .entry)) ⌝ }
+    ensures changes { λ _. ⌜ now (changes .exit) ≡ changesOf (deleteOf (layoutOf layout) (now (image .entry)) directory (now (name .entry))) (now (changes .entry)) ⌝ }
 {
+    list_none(changes);
     named_number(
-        deleting::delete(layout_of(layout), image, directory, name),
+        deleting::delete(layout_of(layout), image, directory, name, changes),
         wrong,
     )
 }
@@ -377,16 +412,29 @@ pub extern "C" fn pno_rename(
     new: &[u8],
     which: &mut usize,
     wrong: &mut usize,
+    changes: &mut [u32; 133],
 ) -> u32
     ensures image { λ r. ⌜ Crosses (renameOf (layoutOf layout) (now (image .entry)) directory (now (old .entry)) (now (new .entry))) r (now (image .entry)) (now (image .exit)) ⌝ }
     ensures which { λ r. ⌜ now (which .exit) ≡ whichBehind r (wrongPlace (now (old .entry))) (now (which .entry)) ⌝ }
     ensures wrong { λ r. ⌜ now (wrong .exit) ≡ placeBehind r (firstWrong (wrongPlace (now (old .entry))) (wrongPlace (now (new .entry)))) (now (wrong .entry)) ⌝ }
+    ensures changes { λ _. ⌜ now (changes .exit) ≡ changesOf (renameOf (layoutOf layout) (now (image .entry)) directory (now (old .entry)) (now (new .entry))) (now (changes .entry)) ⌝ }
 {
+    list_none(changes);
     rename_number(
-        renaming::rename(layout_of(layout), image, directory, old, new),
+        renaming::rename(layout_of(layout), image, directory, old, new, changes),
         which,
         wrong,
     )
+}
+
+// Every index ordered by name, and the map made anew.
+#[no_mangle]
+pub extern "C" fn pno_repair(image: &mut [u8], layout: u32, changes: &mut [u32; 133]) -> u32
+    ensures image { λ r. ⌜ Crosses (repairOf (layoutOf layout) (now (image .entry))) r (now (image .entry)) (now (image .exit)) ⌝ }
+    ensures changes { λ _. ⌜ now (changes .exit) ≡ changesOf (repairOf (layoutOf layout) (now (image .entry))) (now (changes .entry)) ⌝ }
+{
+    list_none(changes);
+    answer_number(repairing::repair(layout_of(layout), image, changes))
 }
 
 // The packed form of the source, in the target.

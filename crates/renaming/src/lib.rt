@@ -1,5 +1,5 @@
 // Renaming: the ten name bytes, and the file's place in its index. The call takes any image and any arguments, answers with its number, and
-// leaves the image with the writes of the rules' definition laid over it; a refusal has none.
+// leaves the image with the writes of the rules' definition laid over it, and their order in a list that is lent for it; a refusal has none.
 ghost use mathlib.Core.Path.{_≡_};
 ghost use mathlib.Core.Bool.{true};
 ghost use lib.ListN.{replicate};
@@ -7,7 +7,7 @@ ghost use Rattle.rules.specs.Name.{nameRule, wrongPlace};
 ghost use Rattle.rules.specs.Index.{indexOf, without};
 ghost use Rattle.rules.specs.Volume.{filesIn, placed};
 ghost use Rattle.rules.specs.Sound.{IsFile};
-ghost use Rattle.rules.specs.Outcome.{RenameSays, Meets};
+ghost use Rattle.rules.specs.Outcome.{listed, RenameSays, Meets};
 ghost use Rattle.rules.specs.Calls.Rename.{renaming, renameOf};
 ghost use Rattle.rules.specs.declared.WrongPlace.the-variants.{None};
 use descriptor::header::mark_descriptor;
@@ -24,6 +24,7 @@ use sector::buffer::lay;
 use sector::buffer::write_sector;
 use sector::bytes::byte;
 use sector::bytes::sector_of;
+use sector::order::list;
 
 // The index in sector i with the number k where the new name belongs, laid into 256 zeros.
 fn moved(layout: Layout, index: &mut [u8; 256], image: &[u8], i: usize, k: usize, new: &[u8])
@@ -36,9 +37,17 @@ fn moved(layout: Layout, index: &mut [u8; 256], image: &[u8], i: usize, k: usize
 }
 
 // Of the file whose descriptor is in sector k, and which the index in sector i lists.
-fn rename_at(layout: Layout, image: &mut [u8], i: usize, k: usize, new: &[u8]) -> RenameAnswer
+fn rename_at(
+    layout: Layout,
+    image: &mut [u8],
+    i: usize,
+    k: usize,
+    new: &[u8],
+    changes: &mut [u32; 133],
+) -> RenameAnswer
     requires { ⌜ IsFile layout (now image) i k × (nameRule (now new) ≡ true) ⌝ }
     ensures { λ r. ⌜ Meets (RenameSays None None) (renaming layout (now (image .entry)) (now (new .entry)) i k) r (now (image .entry)) (now (image .exit)) ⌝ }
+    ensures order { λ _. ⌜ now (changes .exit) ≡ listed (renaming layout (now (image .entry)) (now (new .entry)) i k) (now (changes .entry)) ⌝ }
 {
     if let Opened::At(_, _, _) = find_in(image, i, new) {
         return RenameAnswer::Refused(9);
@@ -52,6 +61,8 @@ fn rename_at(layout: Layout, image: &mut [u8], i: usize, k: usize, new: &[u8]) -
     mark_descriptor(layout, image, k);
     lay(image, 256 * k, new);
     write_sector(image, i, &index);
+    let order = [k as u32, i as u32];
+    list(changes, 0, &order);
     RenameAnswer::Done
 }
 
@@ -61,8 +72,10 @@ pub fn rename(
     directory: usize,
     old: &[u8],
     new: &[u8],
+    changes: &mut [u32; 133],
 ) -> RenameAnswer
     ensures { λ r. ⌜ Meets (RenameSays (wrongPlace (now (old .entry))) (wrongPlace (now (new .entry)))) (renameOf layout (now (image .entry)) directory (now (old .entry)) (now (new .entry))) r (now (image .entry)) (now (image .exit)) ⌝ }
+    ensures order { λ _. ⌜ now (changes .exit) ≡ listed (renameOf layout (now (image .entry)) directory (now (old .entry)) (now (new .entry))) (now (changes .entry)) ⌝ }
 {
     let number = judge::judge(layout, image);
     if number != 0 {
@@ -77,5 +90,5 @@ pub fn rename(
     let Opened::At(i, _, k) = in_directory(layout, image, directory, old) else {
         return RenameAnswer::Refused(8);
     };
-    rename_at(layout, image, i, k, new)
+    rename_at(layout, image, i, k, new, changes)
 }

@@ -12,4 +12,5 @@ pub mod Protect
 pub mod Store
 pub mod Delete
 pub mod Rename
+pub mod Repair
 pub mod Pack

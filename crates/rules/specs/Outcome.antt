@@ -1,11 +1,12 @@
 -- What a call gives: its number, and with number 0 what it reads or writes; what its answer says of that; and what the code promises.
 use mathlib.Core.Path.{_≡_}
 use mathlib.Core.Bool.{cond}
-use mathlib.Core.List.{List, []}
+use mathlib.Core.List.{List, [], _∷_}
 use Prim.Native.Nat.{ℕ}
 use lib.Dec.{eqb}
+use lib.ListN.{length}
 use Rattle.rules.specs.Bytes.{splice}
-use Rattle.rules.specs.Sectors.{Write, written}
+use Rattle.rules.specs.Sectors.{Write, sectorsIn, written}
 use Rattle.rules.specs.Tests.{Test, firstOf, unlessMet}
 use Rattle.rules.specs.declared.Answer.{Answer}
 use Rattle.rules.specs.declared.Amount.{Amount}
@@ -45,6 +46,15 @@ done writes = record { number = 0; writes = writes }
 
 abbrev pub refusal : ℕ → Outcome
 refusal number = record { number = number; writes = [] }
+
+-- the order of the writes, as a host is given it: how many there are, and the numbers of their sectors
+unfoldable pub orderOf : List Write → List ℕ
+orderOf [] = []
+orderOf (first ∷ more) = length (first ∷ more) ∷ sectorsIn (first ∷ more)
+
+-- it is put behind the first number of a list that is lent for it; a refusal has no writes, and puts nothing there
+abbrev pub listed : Outcome → List ℕ → List ℕ
+listed outcome before = splice before 1 (orderOf (outcome .writes))
 
 -- each by its tests: a refusal puts nothing into the buffer, and writes nothing
 abbrev pub reported : List Test → ℕ → List ℕ → Report

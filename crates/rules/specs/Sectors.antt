@@ -21,6 +21,11 @@ pub record Write : Type 0 where
   pub sector : ℕ
   pub bytes : List ℕ
 
+-- the sectors that they go to, in their order
+unfoldable pub sectorsIn : List Write → List ℕ
+sectorsIn [] = []
+sectorsIn (write ∷ writes) = write .sector ∷ sectorsIn writes
+
 -- the writes laid over an image, one after the other
 unfoldable pub written : List ℕ → List Write → List ℕ
 written image [] = image
