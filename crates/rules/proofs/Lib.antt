@@ -21,8 +21,10 @@ pub mod Indexed
 pub mod Indexes
 pub mod Written
 pub mod Staying
+pub mod Ordered
 pub mod Listed
 pub mod Verdict
+pub mod Repair
 pub mod Free
 pub mod Extended
 pub mod Longer
