@@ -1,13 +1,14 @@
 -- Writes as a host makes them, from the image that a call leaves: the order of a call's writes and that image are the writes; and what the medium holds when some of its sectors have been written through.
 use mathlib.Core.Path.{_≡_, refl, sym, ap, _∙_}
-use mathlib.Core.List.{List, [], _∷_}
+use mathlib.Core.List.{List, [], _∷_, _++_}
 use Prim.Native.Nat.{ℕ, _+_, _*_, _/_, _≤_, _<_}
 use native.Mathlib.Omega.{arith}
 use native.Mathlib.Decide.{decLt, ℕ-discrete}
-use lib.ListN.{length}
+use lib.ListN.{length, drop}
 use Rattle.rules.specs.Bytes.{splice}
 use Rattle.rules.specs.Sectors.{sectorOf, sectorCount, Write, sectorsIn, through, written}
 use Rattle.rules.specs.Map.{count}
+use Rattle.rules.specs.Calls.Store.{dataWrites}
 use Rattle.rules.proofs.Splice.{splice-length, splice-past}
 use Rattle.rules.proofs.Sectors.{sector-length}
 use Rattle.rules.proofs.Map.{count-none, count-here, count-other, count-more, count-apart}
@@ -18,6 +19,12 @@ pub none-named : (j : ℕ) (writes : List Write) → count j (sectorsIn writes) 
 unfolding sectorsIn Apart
 none-named j [] none = tt
 none-named j (write ∷ writes) none = let parts = count-apart j (write .sector) (sectorsIn writes) none in (parts .0, none-named j writes (parts .1))
+
+-- the data of a program, and what is written behind it
+pub data-order : (bytes ks : List ℕ) (behind : List Write) → sectorsIn (dataWrites bytes ks ++ behind) ≡ ks ++ sectorsIn behind
+unfolding sectorsIn dataWrites
+data-order bytes [] behind = refl
+data-order bytes (k ∷ ks) behind = ap (λ (l : List ℕ). k ∷ l) (data-order (drop 256 bytes) ks behind)
 
 -- whole sectors, each named once: those of the image afterwards are the writes' bytes
 pub through-writes : (image : List ℕ) (writes : List Write) → Whole (length image) writes → ((k : ℕ) → count k (sectorsIn writes) ≤ 1) → through (written image writes) (sectorsIn writes) ≡ writes
