@@ -60,6 +60,20 @@ through-each image f (k ∷ ks) same j there =
       | no other ↦ through-each image f ks (cc same) j (omega (arith, there, count-other j k ks other))
     ]
 
+-- what the files of several indexes hold, where those of each hold as much as before
+pub held-alike : (image after is : List ℕ) → ((i : ℕ) → 1 ≤ count i is → (j : ℕ) → count j (fileHolders after (filesIn after i)) ≡ count j (fileHolders image (filesIn image i)))
+    → (j : ℕ) → count j (fileHolders after (filesOf after is)) ≡ count j (fileHolders image (filesOf image is))
+unfolding filesOf fileHolders
+held-alike image after [] each j = refl
+held-alike image after (i ∷ is) each j =
+    omega (
+      arith,
+      held-append after j (filesIn after i) (filesOf after is),
+      held-append image j (filesIn image i) (filesOf image is),
+      each i (omega (arith, count-here i is)) j,
+      held-alike image after is (λ h some. each h (omega (arith, some, count-more h i is))) j,
+    )
+
 module _ (layout : Layout) (image : List ℕ) (is : Mendable layout image) where
   abbrev n : ℕ
   n = sectorCount image
@@ -204,23 +218,11 @@ module _ (layout : Layout) (image : List ℕ) (is : Mendable layout image) where
   pub mended-indexes : indexes layout after ≡ all
   mended-indexes = indexes-kept layout image after mended-entries
 
-  all-hold : (j : ℕ) (js : List ℕ) → ((i : ℕ) → 1 ≤ count i js → IsIndexed layout image i) → count j (fileHolders after (filesOf after js)) ≡ count j (fileHolders image (filesOf image js))
-  unfolding filesOf fileHolders
-  all-hold j [] among = refl
-  all-hold j (i ∷ js) among =
-      omega (
-        arith,
-        held-append after j (filesIn after i) (filesOf after js),
-        held-append image j (filesIn image i) (filesOf image js),
-        files-hold i (among i (omega (arith, count-here i js))) j,
-        all-hold j js (λ h some. among h (omega (arith, some, count-more h i js))),
-      )
-
   pub mended-holders : (j : ℕ) → count j (holders layout after) ≡ count j (holders layout image)
   unfolding holders
   mended-holders j =
       let now = fileHolders after (filesOf after all) in
-      rw mended-indexes (omega (arith, all-hold j all (λ i h. h), count-append j (0 ∷ all) now, count-append j (0 ∷ all) held))
+      rw mended-indexes (omega (arith, held-alike image after all files-hold j, count-append j (0 ∷ all) now, count-append j (0 ∷ all) held))
 
   anew-part : part (mapAnew layout image) 56 200 ≡ mapOf n (holders layout image)
   unfolding mapAnew
