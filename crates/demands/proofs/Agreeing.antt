@@ -44,7 +44,7 @@ counts-twice (k ∷ ks) zero (suc q) h l e = rw (← e) (omega (arith, count-her
 counts-twice (k ∷ ks) (suc p) (suc q) h l e = omega (arith, counts-twice ks p q (omega arith) (omega arith) e, count-more (getD ks q 0) k ks)
 
 -- each file's descriptor is a holder
-descriptors-held : (image : List ℕ) (j : ℕ) (ks : List ℕ) → count j ks ≤ count j (fileHolders image ks)
+pub descriptors-held : (image : List ℕ) (j : ℕ) (ks : List ℕ) → count j ks ≤ count j (fileHolders image ks)
 unfolding fileHolders
 descriptors-held image j [] = omega arith
 descriptors-held image j (k ∷ ks) =

@@ -217,7 +217,7 @@ module _ (layout : Layout) (image marks : List ℕ) (first : marks ≡ mapOf (se
           let as-long = all-length 1 (asMap marks) hs ∙ long in
           sym (as-map-part after kept) ∙ ap (λ (s : List ℕ). part s 56 200) left
           ∙ map-of-bytes (sectorCount image) (holders layout image) whole (part-length whole 56 200 (omega (arith, as-long)))
-          (all-below 1 (omega arith) (asMap marks) hs (as-map-below marks (rw first (map-below (sectorCount image) (0 ∷ []) (one-once 0)))))
+          (λ i low. all-below 1 (omega arith) (asMap marks) hs (as-map-below marks (rw first (map-below (sectorCount image) (0 ∷ []) (one-once 0)))) (56 + i))
           (map-left (sectorCount image) hs (holders layout image) (asMap marks) (size .2) long bits (claims-below layout image passed) (holders-count layout image) (judged-twice ∙ once))
 
       pub judged-map : (map sector0 : List ℕ) → map ≡ part sector0 56 200 → sector0 ≡ sectorOf image 0 → ((i : ℕ) → byteAt image i < 256)
