@@ -38,6 +38,7 @@ pub mod Complete
 pub mod Rules
 pub mod Editions
 pub mod Lengths
+mod Cutting
 pub mod StoredLoads
 pub mod Wrong
 pub mod WrongPacking
