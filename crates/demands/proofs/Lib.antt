@@ -39,6 +39,7 @@ pub mod Rules
 pub mod Editions
 pub mod Lengths
 mod Cutting
+pub mod Stop
 pub mod StoredLoads
 pub mod Wrong
 pub mod WrongPacking
