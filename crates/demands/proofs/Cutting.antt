@@ -51,7 +51,7 @@ restored layout version meets volume medium is agrees =
     record { done = done; sound = m .sound; catalogues-are = agreed-catalogues layout volume medium is agrees _ _ m }
 
 -- a part of a list counts no more
-take-count : (j m : ℕ) (ks : List ℕ) → count j (take m ks) ≤ count j ks
+pub take-count : (j m : ℕ) (ks : List ℕ) → count j (take m ks) ≤ count j ks
 take-count j zero ks = omega (arith, count-none j)
 take-count j (suc m) [] = omega arith
 take-count j (suc m) (k ∷ ks) = omega (arith, take-count j m ks, count-append j (k ∷ []) (take m ks), count-append j (k ∷ []) ks)

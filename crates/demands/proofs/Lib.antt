@@ -39,6 +39,8 @@ pub mod Rules
 pub mod Editions
 pub mod Lengths
 mod Cutting
+mod Between
+mod Resuming
 pub mod Stop
 pub mod StoredLoads
 pub mod Wrong

@@ -70,28 +70,33 @@ pub repair-mends : (layout : Layout) (image : List ℕ) → repairOf layout imag
 unfolding repairOf
 repair-mends layout image zero = rw (unless-passed (repairTests layout image) (mending layout image) [] zero) (mended layout image (mendable layout image zero))
 
+-- the indexes are those of the image, and no sector stands twice in the order
+module _ (layout : Layout) (image after order : List ℕ) (m : Mends layout image after order) where
+  pub mends-count : sectorCount after ≡ sectorCount image
+  mends-count = ap (λ (k : ℕ). k / 256) (m .size)
+
+  pub mends-long : length (sectorOf image 0) ≡ 256
+  mends-long = sector-length image 0 (omega (arith, m .sound .whole, m .sound .size, m .size))
+
+  pub mends-indexes : indexes layout after ≡ indexes layout image
+  mends-indexes = indexes-kept layout image after (entries-kept layout (sectorOf image 0) (sectorOf after 0) (label-long layout after (m .sound) ∙ sym mends-long) (m .label))
+
+  pub mends-once : (k : ℕ) → count k order ≤ 1
+  unfolding holders
+  mends-once k =
+      let all = indexes layout after in
+      rw (m .writes, ← mends-indexes)
+      (omega (arith, m .sound .single k, count-append k (0 ∷ all) (fileHolders after (filesOf after all)), count-append k all (0 ∷ []), count-append k (0 ∷ []) all))
+
+  pub mends-others : Others image after order
+  mends-others j inside none =
+      let all = indexes layout image in
+      m .others j inside (omega (arith, ap (count j) (sym (m .writes)) ∙ none, count-append j all (0 ∷ []), count-append j (0 ∷ []) all))
+
 -- two that an image is mended to
 module _ (layout : Layout) (image a b order order′ : List ℕ) (m : Mends layout image a order) (m′ : Mends layout image b order′) where
   abbrev all : List ℕ
   all = indexes layout image
-
-  large : 256 ≤ length a
-  large = omega (arith, m .sound .whole, m .sound .size)
-
-  many : sectorCount a ≡ sectorCount image
-  many = ap (λ (k : ℕ). k / 256) (m .size)
-
-  many′ : sectorCount b ≡ sectorCount image
-  many′ = ap (λ (k : ℕ). k / 256) (m′ .size)
-
-  long : length (sectorOf image 0) ≡ 256
-  long = sector-length image 0 (omega (arith, large, m .size))
-
-  indexes-a : indexes layout a ≡ all
-  indexes-a = indexes-kept layout image a (entries-kept layout (sectorOf image 0) (sectorOf a 0) (label-long layout a (m .sound) ∙ sym long) (m .label))
-
-  indexes-b : indexes layout b ≡ all
-  indexes-b = indexes-kept layout image b (entries-kept layout (sectorOf image 0) (sectorOf b 0) (label-long layout b (m′ .sound) ∙ sym long) (m′ .label))
 
   -- what is neither sector 0 nor an index is the same
   same-other : (j : ℕ) → j < sectorCount image → count j (0 ∷ all) ≡ 0 → sectorOf a j ≡ sectorOf b j
@@ -100,12 +105,12 @@ module _ (layout : Layout) (image a b order order′ : List ℕ) (m : Mends layo
   held-same : (j : ℕ) → 1 ≤ count j (fileHolders a (filesOf a (indexes layout a))) → sectorOf a j ≡ sectorOf b j
   held-same j there =
       let away = held-away layout a (m .sound) j there in
-      same-other j (omega (arith, away .1, many)) (ap (λ (l : List ℕ). count j (0 ∷ l)) (sym indexes-a) ∙ away .0)
+      same-other j (omega (arith, away .1, mends-count layout image a order m)) (ap (λ (l : List ℕ). count j (0 ∷ l)) (sym (mends-indexes layout image a order m)) ∙ away .0)
 
   module _ (i : ℕ) (indexed : IsIndexed layout image i) where
     file-same : (k : ℕ) → 1 ≤ count k (filesIn a i) → sectorOf a k ≡ sectorOf b k
     file-same k there =
-        held-same k (omega (arith, file-holds a k k (filesIn a i) there, count-here k (placesIn a k), held-of-has a i (indexes layout a) (rw indexes-a indexed) k))
+        held-same k (omega (arith, file-holds a k k (filesIn a i) there, count-here k (placesIn a k), held-of-has a i (indexes layout a) (rw (mends-indexes layout image a order m) indexed) k))
 
     name-same : (k : ℕ) → 1 ≤ count k (filesIn a i) → nameIn a k ≡ nameIn b k
     unfolding nameIn
@@ -119,8 +124,8 @@ module _ (layout : Layout) (image a b order order′ : List ℕ) (m : Mends layo
         one-order b (filesIn a i) (filesIn b i)
         (λ p q h l.
         rw (← name-same (fileAt a i p) (count-at (filesIn a i) p (omega (arith, h, l))), ← name-same (fileAt a i q) (count-at (filesIn a i) q l))
-        (m .sound .each i (rw indexes-a indexed) .ascending p q h l))
-        (m′ .sound .each i (rw indexes-b indexed) .ascending) counts-same
+        (m .sound .each i (rw (mends-indexes layout image a order m) indexed) .ascending p q h l))
+        (m′ .sound .each i (rw (mends-indexes layout image b order′ m′) indexed) .ascending) counts-same
 
     index-same : sectorOf a i ≡ sectorOf b i
     index-same = m .numbers i indexed .laid ∙ ap indexOf files-same ∙ sym (m′ .numbers i indexed .laid)
@@ -136,8 +141,8 @@ module _ (layout : Layout) (image a b order order′ : List ℕ) (m : Mends layo
   holders-same =
       let same = all-files all (λ i h. h) in
       let kept = holders-kept b a (filesOf a all)
-      (λ k there. held-same k (omega (arith, there, descriptors-held a k (filesOf a all), ap (λ (l : List ℕ). count k (fileHolders a (filesOf a l))) indexes-a))) in
-      rw (indexes-a, indexes-b) (rw (kept, same))
+      (λ k there. held-same k (omega (arith, there, descriptors-held a k (filesOf a all), ap (λ (l : List ℕ). count k (fileHolders a (filesOf a l))) (mends-indexes layout image a order m)))) in
+      rw (mends-indexes layout image a order m, mends-indexes layout image b order′ m′) (rw (kept, same))
 
   map-bytes : (c after : List ℕ) → Mends layout image c after → sectorCount c ≡ sectorCount image → part (sectorOf c 0) 56 200 ≡ mapOf (sectorCount image) (holders layout c)
   map-bytes c after is n =
@@ -148,7 +153,7 @@ module _ (layout : Layout) (image a b order order′ : List ℕ) (m : Mends layo
   zero-same =
       halves 56 200 (sectorOf a 0) (sectorOf b 0) (label-long layout a (m .sound)) (label-long layout b (m′ .sound))
       (part-same (sectorOf a 0) (sectorOf b 0) 0 56 (label-long layout a (m .sound) ∙ sym (label-long layout b (m′ .sound))) (λ i low high. m .label i high ∙ sym (m′ .label i high)))
-      (map-bytes a order m many ∙ ap (mapOf (sectorCount image)) holders-same ∙ sym (map-bytes b order′ m′ many′))
+      (map-bytes a order m (mends-count layout image a order m) ∙ ap (mapOf (sectorCount image)) holders-same ∙ sym (map-bytes b order′ m′ (mends-count layout image b order′ m′)))
 
   pub mends-one : a ≡ b
   mends-one =
@@ -159,6 +164,6 @@ module _ (layout : Layout) (image a b order order′ : List ℕ) (m : Mends layo
         | no none ↦
             elim (ℕ-discrete j 0) [
               | yes here ↦ rw here zero-same
-              | no other ↦ same-other j (omega (arith, low, many)) (count-other j 0 all (λ e. other (sym e)) ∙ omega (arith, none))
+              | no other ↦ same-other j (omega (arith, low, mends-count layout image a order m)) (count-other j 0 all (λ e. other (sym e)) ∙ omega (arith, none))
             ]
       ])

@@ -17,21 +17,26 @@ use Rattle.rules.specs.Map.{count}
 use Rattle.rules.specs.Descriptor.{chainOf}
 use Rattle.rules.specs.Volume.{File, indexAt, indexes, filesIn, filesOf, nameIn, placesIn, fileHolders, holders, headerIn, contentsIn, fileIn, catalogue, catalogues}
 use Rattle.rules.specs.Sound.{IsIndexed, Sound}
-use Rattle.rules.specs.Verdict.{verdict}
+use Rattle.rules.specs.Tests.{firstOf}
+use Rattle.rules.specs.Kind.{withMarks}
+use Rattle.rules.specs.Calls.Repair.{repairTests, repairOf, Mendable}
 use Rattle.rules.specs.declared.Layout.{Layout}
 use Rattle.rules.specs.declared.Block.{Block}
 use Rattle.rules.proofs.Tests.{by-rule}
 use Rattle.rules.proofs.Map.{count-none, count-here, count-other, count-more, only-one, one-once, count-apart, count-at, count-append}
 use Rattle.rules.proofs.Indexes.{held-of-has}
 use Rattle.rules.proofs.Staying.{map-agree, free-unheld, catalogue-kept, indexes-kept}
-use Rattle.rules.proofs.Written.{entries-stand}
+use Rattle.rules.proofs.Written.{sector-back, entries-stand}
+use Rattle.rules.proofs.Repair.{mendable}
 use Rattle.rules.proofs.Listed.{index-low, listed-range}
 use Rattle.rules.proofs.Altered.{own-once, own-other, own-inside, place-other}
 use Rattle.demands.specs.Catalogue.{changed}
-use Rattle.demands.specs.Effects.{Kept, Effect, Done, markedFile, overwritten}
+use Rattle.demands.specs.Effects.{Changed}
 use Rattle.demands.specs.Call as call
 use Rattle.demands.specs.Call.{Change, Call, Version, changeRule, ruleOf, formOf, numberOf, Result}
-use Rattle.demands.specs.Grounds.{Has, First, faults, grounds}
+use Rattle.demands.specs.Ours.{ours}
+use Rattle.demands.specs.Rules.{ClearsNothing}
+use Rattle.demands.specs.Grounds.{mendingFaults, grounds}
 use Rattle.demands.specs.Taking.{Free, ForData, Takes}
 use Rattle.demands.specs.Touches.{Others, Numbers, Stays, Enters, Grows, Leaves, overwriteTouches, TouchesIn}
 use Rattle.demands.specs.Repairing.{Mends}
@@ -39,8 +44,14 @@ use Rattle.demands.specs.Demand2.{Means, Unlisted, Demand2}
 use Rattle.demands.specs.Stop.{cut, Restores, withCatalogue, Between, markedCatalogues, Withstands, Withstood, Stop, EmergencyStop}
 use Rattle.demands.proofs.Touched.{directory-there}
 use Rattle.demands.proofs.Agreeing.{Agrees, agrees-itself, descriptors-held, held-away}
-use Rattle.demands.proofs.Cutting.{restored, all-written, agrees-after, commits-last}
-use Rattle.demands.proofs.Complete.{done-sound}
+use Rattle.demands.proofs.Cutting.{restored, take-count, all-written, agrees-after, commits-last}
+use Rattle.demands.proofs.Mending.{mends-once, mends-others, mends-one}
+use Rattle.demands.proofs.Resuming.{resumed-agrees, resumed-mends}
+use Rattle.demands.proofs.Carried.{answer-number}
+use Rattle.demands.proofs.Demand2.{demand2}
+use Rattle.demands.proofs.Rules.{clears-nothing}
+use Rattle.demands.proofs.Between.{between-sound, between-catalogues}
+use Rattle.demands.proofs.Complete.{first-one, done-sound}
 
 -- the sectors that data takes are free, and each is taken once
 takes-free : (image taken places : List ℕ) (before : List Block) (ks : List ℕ) (after : List Block) → Takes image taken places before ks after → (j : ℕ) → 1 ≤ count j ks → Free image taken j
@@ -69,6 +80,12 @@ takes-once image taken places before (k ∷ ks) after takes j =
           omega (arith, later, count-other j k ks (λ e. apart (sym e)))
       | no none ↦ omega (arith, none, count-append j (k ∷ []) ks, one-once k j)
     ]
+
+with-marks : (layout : Layout) → layout .marks ≡ true → withMarks layout ≡ layout
+with-marks layout e = go (layout .marks) (layout .directories) e
+  where
+    go : (marks directories : Bool) → marks ≡ true → _≡_ {A = Layout} (record { marks = true; directories = directories }) (record { marks = marks; directories = directories })
+    go marks directories e = rw e
 
 -- no sector of an order stands in it twice, and all that is not in it stands as it stood
 record Listed (image after order : List ℕ) : Type 0 where
@@ -219,9 +236,7 @@ module _ (layout : Layout) (version : Version) (meets : Demand2 layout version) 
 
     -- the facts of a change by the rule of the layout
     record Facts (change : Change) : Type 0 where
-      now : Sound layout (version (call.change directory name change) image .image)
-      size : length (version (call.change directory name change) image .image) ≡ length image
-      kept : Kept layout image (version (call.change directory name change) image .image) i name
+      done : Changed layout change image (version (call.change directory name change) image .image) directory name
       indexed : IsIndexed layout image i
       touches : TouchesIn layout change image (version (call.change directory name change) image .image) i name (version (call.change directory name change) image .order)
 
@@ -236,17 +251,17 @@ module _ (layout : Layout) (version : Version) (meets : Demand2 layout version) 
       listed = touched-listed layout image after i name is (facts .indexed) change order (facts .touches)
 
       whole : cut image (version (call.change directory name change) image) (length order) ≡ after
-      whole = ap (λ (l : List ℕ). written image (through after l)) (take-all (length order) order (omega arith)) ∙ all-written image after (is .whole) (facts .size) order (listed .others)
+      whole = ap (λ (l : List ℕ). written image (through after l)) (take-all (length order) order (omega arith)) ∙ all-written image after (is .whole) (facts .done .size) order (listed .others)
 
       -- the write that commits comes last
       last-commits : (front : List ℕ) (last : ℕ) → order ≡ front ++ (last ∷ []) → ((j : ℕ) → 1 ≤ count j front → (j ≡ 0) ⊎ (count j (holders layout image) ≡ 0)) → (m : ℕ) → AfterCut change directory name image m
       last-commits front last e spared m =
-          rw e (go (take m (front ++ (last ∷ []))) (commits-last layout image after i name is (facts .now) (facts .size) (facts .kept) front last (rw e at (listed .others)) spared m))
+          rw e (go (take m (front ++ (last ∷ []))) (commits-last layout image after i name is (facts .done .sound) (facts .done .size) (facts .done .kept) front last (rw e at (listed .others)) spared m))
         where
           go : (done : List ℕ) → Agrees layout image (written image (through after done)) ⊎ (written image (through after done) ≡ after)
               → Agrees layout image (written image (through after done)) ⊎ (Agrees layout after (written image (through after done)) ⊎ (Between layout change m × Restores layout version (written image (through after done)) (markedCatalogues layout image directory name)))
           go done (inl before) = inl before
-          go done (inr all) = inr (inl (rw all (agrees-itself layout after (facts .now))))
+          go done (inr all) = inr (inl (rw all (agrees-itself layout after (facts .done .sound))))
 
       -- two writes, and what is on the medium between them
       two-writes : (a b : ℕ) → order ≡ a ∷ (b ∷ []) → AfterCut change directory name image 1 → (m : ℕ) → AfterCut change directory name image m
@@ -254,7 +269,7 @@ module _ (layout : Layout) (version : Version) (meets : Demand2 layout version) 
       two-writes a b e between zero = inl (agrees-itself layout image is)
       two-writes a b e between (suc zero) = between
       two-writes a b e between (suc (suc m)) =
-          inr (inl (rw (ap (λ (l : List ℕ). written image (through after l)) (take-all (suc (suc m)) order (rw e (omega arith))) ∙ all-written image after (is .whole) (facts .size) order (listed .others)) (agrees-itself layout after (facts .now))))
+          inr (inl (rw (ap (λ (l : List ℕ). written image (through after l)) (take-all (suc (suc m)) order (rw e (omega arith))) ∙ all-written image after (is .whole) (facts .done .size) order (listed .others)) (agrees-itself layout after (facts .done .sound))))
 
       -- what is still to be written when the first is done is held by no file
       first-commits : (a b : ℕ) → order ≡ a ∷ (b ∷ []) → count b (fileHolders after (filesOf after (indexes layout after))) ≡ 0 → (1 ≤ count i (a ∷ [])) ⊎ ((j : ℕ) → count j (filesIn image i) ≡ count j (filesIn after i))
@@ -264,7 +279,7 @@ module _ (layout : Layout) (version : Version) (meets : Demand2 layout version) 
           (inr
           (inl
           (rw e
-          (agrees-after layout image after i name is (facts .now) (facts .size) (facts .kept) (a ∷ (b ∷ [])) (a ∷ []) (rw e at (listed .others))
+          (agrees-after layout image after i name is (facts .done .sound) (facts .done .size) (facts .done .kept) (a ∷ (b ∷ [])) (a ∷ []) (rw e at (listed .others))
           (λ j some none. rw (only-one b j (omega (arith, some, none, count-append j (a ∷ []) (b ∷ [])))) at late) own))))
 
     -- a new file, and one that grows: before the last only free sectors and sector 0 are written
@@ -304,6 +319,33 @@ module _ (layout : Layout) (version : Version) (meets : Demand2 layout version) 
           | no none ↦ omega (arith, none)
         ]
 
+    -- overwriting: one write, or with marks two
+    overwrite-cut : (offset : ℕ) (bytes : List ℕ) (facts : Facts (call.overwrite offset bytes)) (t : Bool) → layout .marks ≡ t → (m : ℕ) → AfterCut (call.overwrite offset bytes) directory name image m
+    unfolding TouchesIn Between through written
+    overwrite-cut offset bytes facts false old =
+        let change = call.overwrite offset bytes in
+        bit-cut change facts (getD (placesIn image (facts .touches .sector)) offset 0) (facts .touches .so .2 ∙ rw old)
+    overwrite-cut offset bytes facts true marks =
+        let change = call.overwrite offset bytes in
+        let now = after change facts in
+        let k = facts .touches .sector in
+        let there = facts .touches .listed in
+        let place = getD (placesIn image k) offset 0 in
+        let e : order change facts ≡ k ∷ (place ∷ []) = facts .touches .so .2 ∙ rw marks in
+        let own : 1 ≤ count k (k ∷ placesIn image k) = omega (arith, count-here k (placesIn image k)) in
+        let placed : 1 ≤ count place (k ∷ placesIn image k) = omega (arith, count-at (placesIn image k) offset (facts .touches .so .0), count-more place k (placesIn image k)) in
+        let apart = own-other layout image i k is (facts .indexed) there in
+        let same-index = listed change facts .others i (index-low layout image is i (facts .indexed) .1)
+        (rw e (count-other i k (place ∷ []) (apart k own) ∙ count-other i place [] (apart place placed) ∙ count-none i)) in
+        let lies = facts .touches .so .1 .lies in
+        two-writes change facts k place e
+        (inr (inr (
+          (marks, refl),
+          rw (e, ← between-catalogues layout image now i name k offset bytes is (facts .indexed) there (facts .touches .named) (facts .done) lies same-index)
+              (restored layout version meets _ _ (between-sound layout image now i name k offset bytes is (facts .indexed) there (facts .touches .named) (facts .done) lies same-index)
+              (agrees-itself layout _ (between-sound layout image now i name k offset bytes is (facts .indexed) there (facts .touches .named) (facts .done) lies same-index))),
+        )))
+
     every-cut : (change : Change) → Facts change → (m : ℕ) → AfterCut change directory name image m
     unfolding TouchesIn
     every-cut (call.create status recordLength recordsPerSector) facts = new-cut (call.create status recordLength recordsPerSector) facts 0 (facts .touches)
@@ -313,18 +355,153 @@ module _ (layout : Layout) (version : Version) (meets : Demand2 layout version) 
         let taken = g .gains .taken in
         last-commits (call.append bytes) facts (taken .ks ++ (0 ∷ [])) (facts .touches .sector) (g .writes ∙ sym (append-assoc (taken .ks) (0 ∷ []) (facts .touches .sector ∷ [])))
         (spared-data [] (taken .ks) (takes-free image [] _ _ (taken .ks) (taken .chain) (taken .takes)) (0 ∷ []) spared-zero)
-    every-cut (call.overwrite offset bytes) facts = ?overwrite
+    every-cut (call.overwrite offset bytes) facts = overwrite-cut offset bytes facts (layout .marks) refl
     every-cut call.protect facts = bit-cut call.protect facts (facts .touches .sector) (facts .touches .so .1)
     every-cut call.unprotect facts = bit-cut call.unprotect facts (facts .touches .sector) (facts .touches .so .1)
     every-cut call.clear facts = bit-cut call.clear facts (facts .touches .sector) (facts .touches .so .1)
     every-cut call.delete facts =
         first-commits call.delete facts i 0 (facts .touches .so .1)
-        (not-held (after call.delete facts) (facts .now) 0 (omega (arith, count-here 0 (indexes layout (after call.delete facts)))))
+        (not-held (after call.delete facts) (facts .done .sound) 0 (omega (arith, count-here 0 (indexes layout (after call.delete facts)))))
         (inl (omega (arith, count-here i [])))
     every-cut (call.rename new) facts =
         let now = after (call.rename new) facts in
-        let same = indexes-kept layout image now (entries-stand layout image now is (facts .size) (facts .kept .label)) in
+        let same = indexes-kept layout image now (entries-stand layout image now is (facts .done .size) (facts .done .kept .label)) in
         let indexed : IsIndexed layout now i = rw same (facts .indexed) in
         first-commits (call.rename new) facts (facts .touches .sector) i (facts .touches .so .2)
-        (not-held now (facts .now) i (omega (arith, indexed, count-more i 0 (indexes layout now))))
+        (not-held now (facts .done .sound) i (omega (arith, indexed, count-more i 0 (indexes layout now))))
         (inr (λ j. omega (arith, facts .touches .so .1 .lists j)))
+
+    -- a change by the rule of the layout, as all are but clearing by a layout without marks
+    by-layout : (change : Change) → changeRule layout change ≡ layout → numberOf version (call.change directory name change) image ≡ 0 → Facts change
+    unfolding Means
+    by-layout change rule number =
+        let c = call.change directory name change in
+        let means : Means layout c image (version c image) = rw rule at (meets .means c image (rw rule is) number) in
+        record { done = means .0; touches = means .1; indexed = rw rule at (directory-there (changeRule layout change) directory name change image (numberOf version c image) number (meets .progress c image)) }
+
+    facts-withstand : (change : Change) → Facts change → Withstands layout version change directory name image
+    facts-withstand change facts = withstanding change directory name image is (facts .done .sound) (whole change facts) (every-cut change facts)
+
+    -- clearing a mark by a layout without marks leaves every byte as it was, and so does every cut
+    laid-back : (ks : List ℕ) → written image (through image ks) ≡ image
+    unfolding through written
+    laid-back [] = refl
+    laid-back (k ∷ ks) = ap (λ (l : List ℕ). written l (through image ks)) (sector-back image k) ∙ laid-back ks
+
+    same-withstand : (change : Change) → version (call.change directory name change) image .image ≡ image → Withstands layout version change directory name image
+    same-withstand change same =
+        let r = version (call.change directory name change) image in
+        withstanding change directory name image is (rw same is) (rw same (laid-back (take (length (r .order)) (r .order)))) (λ m. inl (rw (same, laid-back (take m (r .order))) (agrees-itself layout image is)))
+
+    clear-withstand : (t : Bool) → layout .marks ≡ t → numberOf version (call.change directory name call.clear) image ≡ 0 → Withstands layout version call.clear directory name image
+    unfolding ClearsNothing
+    clear-withstand true marks number = facts-withstand call.clear (by-layout call.clear (with-marks layout marks) number)
+    clear-withstand false old number = same-withstand call.clear (clears-nothing layout version meets old image directory name is)
+
+    change-withstands : (change : Change) → numberOf version (call.change directory name change) image ≡ 0 → Withstands layout version change directory name image
+    change-withstands (call.create status recordLength recordsPerSector) number = facts-withstand (call.create status recordLength recordsPerSector) (by-layout _ refl number)
+    change-withstands (call.append bytes) number = facts-withstand (call.append bytes) (by-layout _ refl number)
+    change-withstands (call.overwrite offset bytes) number = facts-withstand (call.overwrite offset bytes) (by-layout _ refl number)
+    change-withstands call.protect number = facts-withstand call.protect (by-layout _ refl number)
+    change-withstands call.unprotect number = facts-withstand call.unprotect (by-layout _ refl number)
+    change-withstands call.clear number = clear-withstand (layout .marks) refl number
+    change-withstands (call.store bytes) number = facts-withstand (call.store bytes) (by-layout _ refl number)
+    change-withstands call.delete number = facts-withstand call.delete (by-layout _ refl number)
+    change-withstands (call.rename new) number = facts-withstand (call.rename new) (by-layout _ refl number)
+
+  -- the order of a change, whatever the rule that it goes by
+  change-listed : (directory : ℕ) (name : List ℕ) (change : Change) (image : List ℕ) →
+      let r = version (call.change directory name change) image in
+      numberOf version (call.change directory name change) image ≡ 0 → Sound (changeRule layout change) image × (length (r .image) ≡ length image) × Listed image (r .image) (r .order)
+  unfolding Means grounds
+  change-listed directory name change image number =
+      let c = call.change directory name change in
+      let rule = changeRule layout change in
+      let is = done-sound rule image (numberOf version c image) _ number (meets .progress c image) in
+      let means = meets .means c image is number in
+      let indexed = directory-there rule directory name change image (numberOf version c image) number (meets .progress c image) in
+      (is, means .0 .size, touched-listed rule image (version c image .image) (indexAt rule image directory) name is indexed change (version c image .order) (means .1))
+
+  nothing-once : (order : List ℕ) → order ≡ [] → (k : ℕ) → count k order ≤ 1
+  nothing-once order none k = rw none (omega (arith, count-none k))
+
+  done-once : (c : Call) (image : List ℕ) (k : ℕ) → numberOf version c image ≡ 0 → count k (version c image .order) ≤ 1
+  unfolding Unlisted Means
+  done-once (call.look look buffer) image k number = nothing-once _ (meets .unlisted (call.look look buffer) image) k
+  done-once (call.change directory name change) image k number = change-listed directory name change image number .2 .once k
+  done-once call.repair image k number = mends-once layout image _ _ (meets .mends image number) k
+  done-once (call.format n name geometry) image k number = nothing-once _ (meets .unlisted (call.format n name geometry) image) k
+
+  each-once : (c : Call) (image : List ℕ) (k : ℕ) → count k (version c image .order) ≤ 1
+  each-once c image k =
+      elim (ℕ-discrete (numberOf version c image) 0) [
+        | yes number ↦ done-once c image k number
+        | no some ↦ nothing-once _ (meets .refuses c image some .2) k
+      ]
+
+  -- all writes make the image afterwards
+  all-make : (image after order : List ℕ) → length image ≡ 256 * sectorCount image → length after ≡ length image → Others image after order → written image (through after (take (length order) order)) ≡ after
+  all-make image after order whole size others = ap (λ (l : List ℕ). written image (through after l)) (take-all (length order) order (omega arith)) ∙ all-written image after whole size order others
+
+  none-make : (image after order : List ℕ) → after ≡ image → order ≡ [] → written image (through after (take (length order) order)) ≡ after
+  unfolding through written
+  none-make image after order same none = rw (none, same)
+
+  change-whole : (directory : ℕ) (name : List ℕ) (change : Change) (image : List ℕ) →
+      let r = version (call.change directory name change) image in
+      cut image r (length (r .order)) ≡ r .image
+  change-whole directory name change image =
+      let c = call.change directory name change in
+      elim (ℕ-discrete (numberOf version c image) 0) [
+        | yes number ↦ let l = change-listed directory name change image number in all-make image _ _ (l .0 .whole) (l .1) (l .2 .others)
+        | no some ↦ let left = meets .refuses c image some in none-make image _ _ (left .0) (left .2)
+      ]
+
+  -- repair accepts what can be mended
+  accepted : (image : List ℕ) → numberOf version call.repair image ≡ 0 → Mendable layout image
+  unfolding ours repairOf grounds
+  accepted image number =
+      mendable layout image
+      (first-one _ _ (mendingFaults layout image) (rw (answer-number (firstOf (repairTests layout image))) at (demand2 layout .progress call.repair image)) (meets .progress call.repair image) ∙ number)
+
+  repair-whole : (image : List ℕ) →
+      let r = version call.repair image in
+      cut image r (length (r .order)) ≡ r .image
+  unfolding Means
+  repair-whole image =
+      elim (ℕ-discrete (numberOf version call.repair image) 0) [
+        | yes number ↦ let m = meets .mends image number in all-make image _ _ (accepted image number .whole) (m .size) (mends-others layout image _ _ m)
+        | no some ↦ let left = meets .refuses call.repair image some in none-make image _ _ (left .0) (left .2)
+      ]
+
+  repair-resumes : (image : List ℕ) (m : ℕ) → numberOf version call.repair image ≡ 0 →
+      let r = version call.repair image in
+      let again = version call.repair (cut image r m) in
+      (numberOf version call.repair (cut image r m) ≡ 0) × (again .image ≡ r .image)
+  unfolding Means
+  repair-resumes image m number =
+      let r = version call.repair image in
+      let first = meets .mends image number in
+      let is = accepted image number in
+      let done = take m (r .order) in
+      let among : (j : ℕ) → count j done ≤ count j (r .order) = λ j. take-count j m (r .order) in
+      let agrees = resumed-agrees layout image (r .image) (r .order) is first done among in
+      let again = restored layout version meets (r .image) (cut image r m) (first .sound) agrees .done in
+      (again, mends-one layout (cut image r m) _ (r .image) _ _ (meets .mends (cut image r m) again) (resumed-mends layout image (r .image) (r .order) is first done among))
+
+pub emergency-stop : (layout : Layout) → EmergencyStop layout
+unfolding EmergencyStop Withstood
+emergency-stop layout version meets =
+    record {
+      meets = meets;
+      once = each-once layout version meets;
+      whole = change-whole layout version meets;
+      mended = repair-whole layout version meets;
+      withstands = λ change directory name image is number. change-withstands layout version meets directory name image is change number;
+      resumes = repair-resumes layout version meets;
+    }
+
+-- so ours does
+pub stop : (layout : Layout) → Stop layout (ours layout)
+unfolding EmergencyStop
+stop layout = emergency-stop layout (ours layout) (demand2 layout)

@@ -74,6 +74,9 @@ pub record Stop (layout : Layout) (version : Version) : Type 0 where
   pub whole : (directory : ℕ) (name : List ℕ) (change : Change) (image : List ℕ) →
       let r = version (call.change directory name change) image in
       cut image r (length (r .order)) ≡ r .image
+  pub mended : (image : List ℕ) →
+      let r = version call.repair image in
+      cut image r (length (r .order)) ≡ r .image
   pub withstands : Withstood layout version
   -- a repair that is cut and begun again ends the same
   pub resumes : (image : List ℕ) (m : ℕ) → numberOf version call.repair image ≡ 0 →
