@@ -33,7 +33,7 @@ use Rattle.demands.specs.Stop.{Restores}
 use Rattle.demands.proofs.Agreeing.{Agrees, held-away, agreed-mendable, agreed-catalogues}
 
 -- what can be mended has none of repair's grounds
-mendable-done : (layout : Layout) (image : List ℕ) (n : ℕ) → Mendable layout image → First n (mendingFaults layout image) → n ≡ 0
+pub mendable-done : (layout : Layout) (image : List ℕ) (n : ℕ) → Mendable layout image → First n (mendingFaults layout image) → n ≡ 0
 unfolding First mendingFaults
 mendable-done layout image n is (inl one) = absurd (one .0 (record { whole = is .whole; range = is .size }))
 mendable-done layout image n is (inr (_, inl two)) = absurd (two .0 (is .label))

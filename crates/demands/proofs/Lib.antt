@@ -42,6 +42,7 @@ mod Cutting
 mod Between
 mod Resuming
 pub mod Stop
+pub mod WrongStop
 pub mod StoredLoads
 pub mod Wrong
 pub mod WrongPacking

@@ -458,7 +458,7 @@ module _ (layout : Layout) (version : Version) (meets : Demand2 layout version) 
       ]
 
   -- repair accepts what can be mended
-  accepted : (image : List ℕ) → numberOf version call.repair image ≡ 0 → Mendable layout image
+  pub accepted : (image : List ℕ) → numberOf version call.repair image ≡ 0 → Mendable layout image
   unfolding ours repairOf grounds
   accepted image number =
       mendable layout image

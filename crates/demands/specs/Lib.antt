@@ -19,6 +19,7 @@ pub mod Rules
 pub mod Editions
 pub mod Lengths
 pub mod Stop
+pub mod WrongStop
 pub mod Wrong
 pub mod Unique
 pub mod Demand3
