@@ -1,19 +1,19 @@
 -- Overwriting with marks, between its two writes: the volume whose descriptor has the mark and whose data stands as it stood. It is sound, and its catalogue is the old one with the bit set.
-use mathlib.Core.Path.{_≡_, refl, sym, ap, _∙_}
+use mathlib.Core.Path.{_≡_, sym, ap, _∙_}
 use mathlib.Core.Bool.{cond}
-use mathlib.Core.List.{List, [], _∷_, map}
-use Prim.Native.Nat.{ℕ, _*_, _/_, _≤_, _<_}
+use mathlib.Core.List.{List, [], map}
+use Prim.Native.Nat.{ℕ, _*_, _/_, _≤_}
 use native.Mathlib.Omega.{arith}
 use native.Mathlib.Decide.{ℕ-discrete}
 use lib.Dec.{eqb}
 use lib.ListN.{length}
 use borrow.Author.Tests.{eq-eqb, ne-eqb}
-use Rattle.rules.specs.Bytes.{part, splice}
+use Rattle.rules.specs.Bytes.{splice}
 use Rattle.rules.specs.Sectors.{sectorOf, sectorCount}
 use Rattle.rules.specs.Map.{count}
 use Rattle.rules.specs.Descriptor.{nameOf, chainOf, IsDescriptor}
 use Rattle.rules.specs.Index.{numbers}
-use Rattle.rules.specs.Volume.{File, indexes, filesIn, nameIn, placesIn, headerIn, contentsIn, fileIn, catalogue, catalogues}
+use Rattle.rules.specs.Volume.{File, indexes, filesIn, nameIn, placesIn, headerIn, fileIn, catalogue, catalogues}
 use Rattle.rules.specs.Sound.{IsIndexed, Sound}
 use Rattle.rules.specs.declared.Layout.{Layout}
 use Rattle.rules.proofs.Sectors.{sector-length}

@@ -1,6 +1,6 @@
 -- A change that is cut. What is on the medium agrees with the volume before the change as long as only sector 0 and sectors that nobody holds were written, and with the volume after it once what is still to be written
 -- is held by no file. Repair then gives that volume's catalogues.
-use mathlib.Core.Path.{_≡_, refl, sym, ap, _∙_}
+use mathlib.Core.Path.{_≡_, sym, ap, _∙_}
 use mathlib.Core.Logic.{_⊎_, inl, inr}
 use mathlib.Core.List.{List, [], _∷_, _++_}
 use Prim.Native.Nat.{ℕ, zero, suc, _+_, _*_, _/_, _≤_, _<_}
@@ -17,8 +17,7 @@ use Rattle.rules.specs.Sound.{IsIndexed, Sound}
 use Rattle.rules.specs.Calls.Repair.{Mendable}
 use Rattle.rules.specs.declared.Layout.{Layout}
 use Rattle.rules.proofs.Sectors.{image-same}
-use Rattle.rules.proofs.Map.{count-none, count-here, count-other, count-more, count-append}
-use Rattle.rules.proofs.Indexes.{held-of-has, holders-inside}
+use Rattle.rules.proofs.Map.{count-none, count-here, count-append}
 use Rattle.rules.proofs.Staying.{indexes-kept}
 use Rattle.rules.proofs.Written.{written-length, entries-stand}
 use Rattle.rules.proofs.Through.{sector-through, sector-stood}

@@ -1,37 +1,34 @@
 -- Repair: ours mends what it accepts; a sound volume keeps its catalogues; and there is one image that an image is mended to.
 use mathlib.Core.Path.{_≡_, refl, sym, ap, _∙_}
-use mathlib.Core.List.{List, [], _∷_, _++_}
+use mathlib.Core.List.{List, [], _∷_}
 use Prim.Native.Nat.{ℕ, _+_, _-_, _*_, _/_, _≤_, _<_}
 use native.Mathlib.Omega.{arith}
 use native.Mathlib.Decide.{decLt, ℕ-discrete}
-use lib.ListN.{length, getD}
-use lib.Seq.{ext-getD}
-use Rattle.rules.specs.Bytes.{byteAt, part, splice}
+use lib.ListN.{length}
+use Rattle.rules.specs.Bytes.{byteAt, part}
 use Rattle.rules.specs.Sectors.{sectorOf, sectorCount, sectorsIn, written}
-use Rattle.rules.specs.Map.{mapBit, count, taken, byteOf, mapOf}
+use Rattle.rules.specs.Map.{count, taken, mapOf}
 use Rattle.rules.specs.Descriptor.{nameOf}
 use Rattle.rules.specs.Index.{indexOf}
-use Rattle.rules.specs.Directory.{entries}
 use Rattle.rules.specs.Volume.{indexes, filesIn, filesOf, nameIn, placesIn, fileHolders, holders, catalogues}
-use Rattle.rules.specs.Sound.{fileAt, IsIndexed, Sound}
-use Rattle.rules.specs.Tests.{firstOf}
-use Rattle.rules.specs.Calls.Repair.{ordered, repairTests, mapAnew, mending, repairOf, Mendable}
+use Rattle.rules.specs.Sound.{fileAt, IsIndexed}
+use Rattle.rules.specs.Calls.Repair.{repairTests, mapAnew, mending, repairOf, Mendable}
 use Rattle.rules.specs.declared.Layout.{Layout}
 use Rattle.rules.proofs.Tests.{unless-passed}
 use Rattle.rules.proofs.Bytes.{part-length, part-same, halves}
 use Rattle.rules.proofs.Splice.{splice-inside}
 use Rattle.rules.proofs.Sectors.{sector-length, image-same}
-use Rattle.rules.proofs.Map.{count-none, count-here, count-other, count-more, count-apart, count-at, count-append, byte-small, bytes-at, map-of-bytes, taken-same, taken-once}
+use Rattle.rules.proofs.Map.{count-here, count-other, count-more, count-apart, count-at, count-append, byte-small, bytes-at, map-of-bytes, taken-once}
 use Rattle.rules.proofs.Directory.{entries-kept}
-use Rattle.rules.proofs.Indexes.{index-inside, held-of-has}
+use Rattle.rules.proofs.Indexes.{held-of-has}
 use Rattle.rules.proofs.Formatted.{map-length}
 use Rattle.rules.proofs.Staying.{holders-kept, indexes-kept, file-holds}
 use Rattle.rules.proofs.Ordered.{ordered-count}
-use Rattle.rules.proofs.Listed.{one-order, map-is, label-long, index-low}
+use Rattle.rules.proofs.Listed.{one-order, map-is, label-long}
 use Rattle.rules.proofs.Repair.{mendable}
 use Rattle.rules.proofs.Mended.{mending-order, mended-size, mended-index, mended-map, mended-other, mended-label, mended-files, mended-sound}
 use Rattle.demands.specs.Repairing.{Mends}
-use Rattle.demands.specs.Touches.{Others, Numbers}
+use Rattle.demands.specs.Touches.{Others}
 use Rattle.demands.proofs.Agreeing.{descriptors-held, held-away}
 
 -- the map's 200 are bytes

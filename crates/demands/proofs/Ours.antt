@@ -36,7 +36,7 @@ use Rattle.rules.proofs.Indexes.{directory-indexed}
 use Rattle.demands.specs.Effects.{Kept}
 use Rattle.demands.specs.Does.{Does, FormatCall}
 use Rattle.demands.specs.Call as call
-use Rattle.demands.specs.Call.{Names, Form, namedNumber, numberIn, Look, Change, Call, namesOf, ruleOf, lent, numberOf, run}
+use Rattle.demands.specs.Call.{Form, namedNumber, numberIn, Look, Change, Call, namesOf, ruleOf, lent, numberOf, run}
 use Rattle.demands.specs.Ours.{answered, seen, outcome, ours}
 use Rattle.demands.specs.Demand3.{packs}
 use Rattle.demands.specs.Grounds.{First, grounds}

@@ -4,24 +4,24 @@ use mathlib.Core.List.{List, [], _∷_, _++_}
 use Prim.Native.Nat.{ℕ, _+_, _/_, _≤_, _<_}
 use native.Mathlib.Omega.{arith}
 use native.Mathlib.Decide.{decLt}
-use lib.ListN.{length, take}
+use lib.ListN.{length}
 use Rattle.rules.specs.Bytes.{byteAt}
 use Rattle.rules.specs.Sectors.{sectorOf, sectorCount, through, written}
 use Rattle.rules.specs.Map.{count}
 use Rattle.rules.specs.Index.{numbers}
 use Rattle.rules.specs.Volume.{indexes, filesIn}
-use Rattle.rules.specs.Sound.{IsIndexed, Sound}
+use Rattle.rules.specs.Sound.{IsIndexed}
 use Rattle.rules.specs.Calls.Repair.{Mendable}
 use Rattle.rules.specs.declared.Layout.{Layout}
-use Rattle.rules.proofs.Map.{count-none, count-apart, count-append}
+use Rattle.rules.proofs.Map.{count-append}
 use Rattle.rules.proofs.Directory.{entries-kept}
 use Rattle.rules.proofs.Sectors.{sector-length}
 use Rattle.rules.proofs.Staying.{indexes-kept}
 use Rattle.rules.proofs.Listed.{index-low}
 use Rattle.demands.specs.Repairing.{Mends}
 use Rattle.demands.proofs.Agreeing.{Agrees, held-away}
-use Rattle.demands.proofs.Mending.{mends-count, mends-long, mends-indexes, mends-others}
-use Rattle.demands.proofs.Cutting.{take-count, on-size, on-written, on-stood, on-label}
+use Rattle.demands.proofs.Mending.{mends-count, mends-long, mends-indexes}
+use Rattle.demands.proofs.Cutting.{on-size, on-written, on-stood, on-label}
 
 module _ (layout : Layout) (image after order : List ℕ) (is : Mendable layout image) (m : Mends layout image after order) (done : List ℕ) (among : (j : ℕ) → count j done ≤ count j order) where
   abbrev medium : List ℕ

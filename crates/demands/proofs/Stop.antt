@@ -3,45 +3,38 @@
 use mathlib.Core.Path.{_≡_, refl, sym, ap, _∙_}
 use mathlib.Core.Bool.{Bool, true, false, cond}
 use mathlib.Core.Logic.{_⊎_, inl, inr}
-use mathlib.Core.List.{List, [], _∷_, _++_, map, append-assoc}
-use Prim.Native.Nat.{ℕ, zero, suc, _+_, _*_, _/_, _≤_, _<_}
+use mathlib.Core.List.{List, [], _∷_, _++_, append-assoc}
+use Prim.Native.Nat.{ℕ, zero, suc, _+_, _*_, _≤_, _<_}
 use native.Mathlib.Omega.{arith}
 use native.Mathlib.Decide.{decLt, ℕ-discrete}
-use lib.Dec.{eqb}
 use lib.ListN.{length, getD, take}
 use lib.Seq.{take-all}
-use borrow.Author.Tests.{eq-eqb, ne-eqb}
-use Rattle.rules.specs.Bytes.{byteAt, part, splice}
-use Rattle.rules.specs.Sectors.{sectorOf, sectorCount, through, written}
+use Rattle.rules.specs.Sectors.{sectorCount, through, written}
 use Rattle.rules.specs.Map.{count}
-use Rattle.rules.specs.Descriptor.{chainOf}
-use Rattle.rules.specs.Volume.{File, indexAt, indexes, filesIn, filesOf, nameIn, placesIn, fileHolders, holders, headerIn, contentsIn, fileIn, catalogue, catalogues}
+use Rattle.rules.specs.Volume.{indexAt, indexes, filesIn, filesOf, placesIn, fileHolders, holders, catalogues}
 use Rattle.rules.specs.Sound.{IsIndexed, Sound}
 use Rattle.rules.specs.Tests.{firstOf}
 use Rattle.rules.specs.Kind.{withMarks}
 use Rattle.rules.specs.Calls.Repair.{repairTests, repairOf, Mendable}
 use Rattle.rules.specs.declared.Layout.{Layout}
 use Rattle.rules.specs.declared.Block.{Block}
-use Rattle.rules.proofs.Tests.{by-rule}
 use Rattle.rules.proofs.Map.{count-none, count-here, count-other, count-more, only-one, one-once, count-apart, count-at, count-append}
 use Rattle.rules.proofs.Indexes.{held-of-has}
-use Rattle.rules.proofs.Staying.{map-agree, free-unheld, catalogue-kept, indexes-kept}
+use Rattle.rules.proofs.Staying.{free-unheld, indexes-kept}
 use Rattle.rules.proofs.Written.{sector-back, entries-stand}
 use Rattle.rules.proofs.Repair.{mendable}
-use Rattle.rules.proofs.Listed.{index-low, listed-range}
-use Rattle.rules.proofs.Altered.{own-once, own-other, own-inside, place-other}
-use Rattle.demands.specs.Catalogue.{changed}
+use Rattle.rules.proofs.Listed.{index-low}
+use Rattle.rules.proofs.Altered.{own-other, own-inside, place-other}
 use Rattle.demands.specs.Effects.{Changed}
 use Rattle.demands.specs.Call as call
-use Rattle.demands.specs.Call.{Change, Call, Version, changeRule, ruleOf, formOf, numberOf, Result}
+use Rattle.demands.specs.Call.{Change, Call, Version, changeRule, numberOf}
 use Rattle.demands.specs.Ours.{ours}
 use Rattle.demands.specs.Rules.{ClearsNothing}
 use Rattle.demands.specs.Grounds.{mendingFaults, grounds}
 use Rattle.demands.specs.Taking.{Free, ForData, Takes}
-use Rattle.demands.specs.Touches.{Others, Numbers, Stays, Enters, Grows, Leaves, overwriteTouches, TouchesIn}
-use Rattle.demands.specs.Repairing.{Mends}
+use Rattle.demands.specs.Touches.{Others, Enters, Grows, overwriteTouches, TouchesIn}
 use Rattle.demands.specs.Demand2.{Means, Unlisted, Demand2}
-use Rattle.demands.specs.Stop.{cut, Restores, withCatalogue, Between, markedCatalogues, Withstands, Withstood, Stop, EmergencyStop}
+use Rattle.demands.specs.Stop.{cut, Restores, Between, markedCatalogues, Withstands, Withstood, Stop, EmergencyStop}
 use Rattle.demands.proofs.Touched.{directory-there}
 use Rattle.demands.proofs.Agreeing.{Agrees, agrees-itself, descriptors-held, held-away}
 use Rattle.demands.proofs.Cutting.{restored, take-count, all-written, agrees-after, commits-last}

@@ -2,7 +2,7 @@
 use mathlib.Core.Path.{_≡_, refl, sym, ap, _∙_}
 use mathlib.Core.Bool.{Bool, true, false}
 use mathlib.Core.Logic.{_⊎_, inl, inr}
-use mathlib.Core.List.{List, [], _∷_, _++_}
+use mathlib.Core.List.{List, [], _∷_}
 use Prim.Native.Nat.{ℕ, _/_, _≤_, _<_}
 use native.Mathlib.Omega.{arith}
 use lib.ListN.{length, take, set}
@@ -20,7 +20,7 @@ use Rattle.rules.specs.Sound.{IsIndexed, Sound}
 use Rattle.rules.specs.Tests.{firstOf}
 use Rattle.rules.specs.Calls.Format.{newLabel, formatted}
 use Rattle.rules.specs.Calls.Pack.{together}
-use Rattle.rules.specs.Calls.Repair.{eachRule, distinctRule, repairTests, Mendable}
+use Rattle.rules.specs.Calls.Repair.{eachRule, distinctRule, repairTests}
 use Rattle.rules.specs.declared.Layout.{Layout}
 use Rattle.rules.proofs.Sectors.{sector-length}
 use Rattle.rules.proofs.Map.{count-none, count-here, count-other, counted-all, count-append}
@@ -35,7 +35,7 @@ use Rattle.demands.specs.Call as call
 use Rattle.demands.specs.Call.{Change, Version, numberOf}
 use Rattle.demands.specs.Grounds.{grounds}
 use Rattle.demands.specs.Demand2.{Means, Frame}
-use Rattle.demands.specs.Stop.{cut, Restores, Between, markedCatalogues, Withstood, Stop}
+use Rattle.demands.specs.Stop.{cut, Restores, Withstood, Stop}
 use Rattle.demands.specs.WrongStop.{Made, index, made, IndexFirst, MapFirst, DropsFiles, RepairsNothing, WrongStops}
 use Rattle.demands.proofs.Agreeing.{descriptors-held}
 use Rattle.demands.proofs.Cutting.{mendable-done, on-size, on-written, on-stood, on-label}

@@ -2,7 +2,7 @@
 -- these writes. After a cut at any place repair gives a sound volume, whose catalogues are those before the call or those after it.
 use mathlib.Core.Path.{_≡_}
 use mathlib.Core.Bool.{true, cond}
-use mathlib.Core.List.{List, [], _∷_, map}
+use mathlib.Core.List.{List, map}
 use mathlib.Core.Logic.{_⊎_}
 use Prim.Native.Nat.{ℕ, _≤_}
 use lib.Dec.{eqb}
@@ -15,7 +15,7 @@ use Rattle.rules.specs.declared.Layout.{Layout}
 use Rattle.demands.specs.Catalogue.{changed}
 use Rattle.demands.specs.Effects.{markedFile}
 use Rattle.demands.specs.Call as call
-use Rattle.demands.specs.Call.{Form, Change, Call, Result, Version, formOf, numberOf}
+use Rattle.demands.specs.Call.{Form, Change, Call, Result, Version, numberOf}
 use Rattle.demands.specs.Demand2.{Demand2}
 
 -- what is on the medium, which held an image, after the first m writes of a call

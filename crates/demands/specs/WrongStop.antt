@@ -12,7 +12,7 @@ use Rattle.rules.specs.Sound.{IsIndexed, Sound}
 use Rattle.rules.specs.Calls.Pack.{together}
 use Rattle.rules.specs.declared.Layout.{Layout}
 use Rattle.demands.specs.Call as call
-use Rattle.demands.specs.Call.{Change, Call, Result, Version, formOf, numberOf}
+use Rattle.demands.specs.Call.{Change, Result, Version, formOf, numberOf}
 use Rattle.demands.specs.Stop.{cut, Stop}
 
 -- a change that was done on a sound volume, in the directory whose index is in sector i
