@@ -62,9 +62,11 @@ both : (layout : Layout) (image new one two index : List ℕ) (i k : ℕ) → on
 unfolding written
 both layout image new one two index i k first made second = rw (second, first, made)
 
--- the index is a sector of the volume
-small : (c : tie.Start) → c .args .i < 65536
-small c = let file = c .pre .0 in omega (arith, index-low _ _ (file .sound) _ (file .indexed), file .sound .size)
+-- the descriptor and the index are sectors of the volume
+small : (c : tie.Start) → (c .args .k < 65536) × (c .args .i < 65536)
+small c =
+    let file = c .pre .0 in
+    (omega (arith, in-volume _ _ _ _ file, file .sound .size), omega (arith, index-low _ _ (file .sound) _ (file .indexed), file .sound .size))
 
 absent : (c : tie.At-match-keys2) →
     let a = start₂ c .args in
@@ -81,7 +83,7 @@ returns c =
     meets-refusal (RenameSays None None) (Refused 9) (start f .args .image .now) _ _ 9 (bare 9 refl) (adding-present _ _ _ _ _ (sym (f .find-in .ensures) ∙ c .enum-told .given .1))
 
 sector-of-requires : tie.Need-sector-of-requires
-sector-of-requires c κs = let file = start₂ (c .before) .pre .0 in omega (arith, in-volume _ _ _ _ file, file .sound .size)
+sector-of-requires c κs = small (start₂ (c .before)) .0
 
 returns-2 : tie.Need-returns-2
 unfolding renaming renamingIn renameTests firstOf unlessMet RenameSays
@@ -102,7 +104,7 @@ mark-descriptor-requires : tie.Need-mark-descriptor-requires
 mark-descriptor-requires c κs = inside (c .before)
 
 mul-lay : tie.Need-mul-lay
-mul-lay c = let file = start₄ (moving (c .before .before .before)) .pre .0 in omega (arith, in-volume _ _ _ _ file, file .sound .size)
+mul-lay c = omega (arith, small (start₄ (moving (c .before .before .before))))
 
 slice-aggregate-write-sector : tie.Need-slice-aggregate-write-sector
 slice-aggregate-write-sector c = sym (ap length (moving (marking (c .before .before .before .before)) .moved .ensures) ∙ index-length _)
@@ -118,7 +120,7 @@ abbrev named : tie.After-write-sector → tie.After-lay
 named c = c .before .before .before .before .before
 
 cast-t31 : tie.Need-cast-t31
-cast-t31 c = let file = start₄ (moving (marking (named (written-index c)))) .pre .0 in omega (arith, in-volume _ _ _ _ file, file .sound .size)
+cast-t31 c = omega (arith, small (start₄ (moving (marking (named (written-index c))))))
 
 cast-t32 : tie.Need-cast-t32
 cast-t32 c = omega (arith, small (start₄ (moving (marking (named (written-index c))))))
