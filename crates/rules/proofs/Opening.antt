@@ -16,7 +16,7 @@ use Rattle.rules.specs.Index.{numbers}
 use Rattle.rules.specs.Volume.{indexAt, filesIn, nameIn, placesIn}
 use Rattle.rules.specs.Verdict.{volumeTests, verdict}
 use Rattle.rules.specs.Sound.{fileAt, IsIndexed, SoundIndex, Sound, IsFile}
-use Rattle.rules.specs.Outcome.{Report, refuses, Outcome, refusal, Bare, NamedSays, NamedAmountSays, ReadSays, Meets, Gives}
+use Rattle.rules.specs.Outcome.{Report, refuses, Outcome, refusal, Bare, NamedSays, NamedAmountSays, ReadSays, Gives}
 use Rattle.rules.specs.Opening.{findFrom, findIn, inDirectory, onSound, underName, openOf, onFile, changing, adding}
 use Rattle.rules.specs.declared.Layout.{Layout}
 use Rattle.rules.specs.declared.WrongPlace.{WrongPlace}
@@ -35,7 +35,7 @@ use Rattle.rules.proofs.Volume.{place-inside}
 use Rattle.rules.proofs.Indexes.{directory-indexed}
 use Rattle.rules.proofs.Verdict.{sound, verdict-small}
 use Rattle.rules.proofs.Misnamed.{rule-none, none-rule}
-use Rattle.rules.proofs.Outcome.{wrong-there, wrong-nowhere, bare, meets-refusal, gives-refusal}
+use Rattle.rules.proofs.Outcome.{MeetsInOrder, wrong-there, wrong-nowhere, bare, meets-refusal, gives-refusal}
 
 -- the search, a number at a time
 module _ (image : List ℕ) (i : ℕ) (name : List ℕ) (p : ℕ) (ks : List ℕ) where
@@ -450,49 +450,49 @@ module _ (layout : Layout) (image : List ℕ) (directory : ℕ) (name before : L
   unfolding onFile
   on-found Says i p k e given after gives = rw (rule-none name (opened-is layout image directory name i p k e .rule), e) gives
 
--- a change of it
-module _ (layout : Layout) (image : List ℕ) (directory : ℕ) (name : List ℕ) (change : ℕ → ℕ → Outcome) where
+-- a change of it, with the order of its writes
+module _ (layout : Layout) (image changes : List ℕ) (directory : ℕ) (name : List ℕ) (change : ℕ → ℕ → Outcome) where
   abbrev outcome : Outcome
   outcome = changing (openOf layout image directory name) change
 
-  pub change-refused : (number : ℕ) → openOf layout image directory name ≡ Refused number → Meets (NamedSays (wrongPlace name)) outcome (named.Refused number) image image
+  pub change-refused : (number : ℕ) → openOf layout image directory name ≡ Refused number → MeetsInOrder (NamedSays (wrongPlace name)) outcome (named.Refused number) image image changes changes
   unfolding NamedSays
-  change-refused number e = meets-refusal (NamedSays (wrongPlace name)) (named.Refused number) image outcome number (open-refused layout image directory name number e) (changing-refused _ change number e)
+  change-refused number e = meets-refusal (NamedSays (wrongPlace name)) (named.Refused number) image changes outcome number (open-refused layout image directory name number e) (changing-refused _ change number e)
 
-  pub change-misnamed : (place : ℕ) → openOf layout image directory name ≡ Misnamed place → Meets (NamedSays (wrongPlace name)) outcome (named.Misnamed place) image image
+  pub change-misnamed : (place : ℕ) → openOf layout image directory name ≡ Misnamed place → MeetsInOrder (NamedSays (wrongPlace name)) outcome (named.Misnamed place) image image changes changes
   unfolding NamedSays
-  change-misnamed place e = meets-refusal (NamedSays (wrongPlace name)) (named.Misnamed place) image outcome 7 (refl, open-misnamed layout image directory name place e) (changing-misnamed _ change place e)
+  change-misnamed place e = meets-refusal (NamedSays (wrongPlace name)) (named.Misnamed place) image changes outcome 7 (refl, open-misnamed layout image directory name place e) (changing-misnamed _ change place e)
 
-  pub change-absent : (i : ℕ) → openOf layout image directory name ≡ Absent i → Meets (NamedSays (wrongPlace name)) outcome (named.Refused 8) image image
+  pub change-absent : (i : ℕ) → openOf layout image directory name ≡ Absent i → MeetsInOrder (NamedSays (wrongPlace name)) outcome (named.Refused 8) image image changes changes
   unfolding NamedSays
-  change-absent i e = meets-refusal (NamedSays (wrongPlace name)) (named.Refused 8) image outcome 8 (bare 8 refl) (changing-absent _ change i e)
+  change-absent i e = meets-refusal (NamedSays (wrongPlace name)) (named.Refused 8) image changes outcome 8 (bare 8 refl) (changing-absent _ change i e)
 
-  pub change-found : (i p k : ℕ) → openOf layout image directory name ≡ At i p k → (given : NamedAnswer) (after : List ℕ) → Meets (NamedSays wrong.None) (change i k) given image after
-      → Meets (NamedSays (wrongPlace name)) outcome given image after
+  pub change-found : (i p k : ℕ) → openOf layout image directory name ≡ At i p k → (given : NamedAnswer) (after order : List ℕ) → MeetsInOrder (NamedSays wrong.None) (change i k) given image after changes order
+      → MeetsInOrder (NamedSays (wrongPlace name)) outcome given image after changes order
   unfolding changing
-  change-found i p k e given after meets = rw (rule-none name (opened-is layout image directory name i p k e .rule), e) meets
+  change-found i p k e given after order meets = rw (rule-none name (opened-is layout image directory name i p k e .rule), e) meets
 
--- an addition under its name
-module _ (layout : Layout) (image : List ℕ) (directory : ℕ) (name : List ℕ) (addition : ℕ → Outcome) where
+-- an addition under its name, likewise
+module _ (layout : Layout) (image changes : List ℕ) (directory : ℕ) (name : List ℕ) (addition : ℕ → Outcome) where
   abbrev added : Outcome
   added = adding (openOf layout image directory name) addition
 
-  pub add-refused : (number : ℕ) → openOf layout image directory name ≡ Refused number → Meets (NamedSays (wrongPlace name)) added (named.Refused number) image image
+  pub add-refused : (number : ℕ) → openOf layout image directory name ≡ Refused number → MeetsInOrder (NamedSays (wrongPlace name)) added (named.Refused number) image image changes changes
   unfolding NamedSays
-  add-refused number e = meets-refusal (NamedSays (wrongPlace name)) (named.Refused number) image added number (open-refused layout image directory name number e) (adding-refused _ addition number e)
+  add-refused number e = meets-refusal (NamedSays (wrongPlace name)) (named.Refused number) image changes added number (open-refused layout image directory name number e) (adding-refused _ addition number e)
 
-  pub add-misnamed : (place : ℕ) → openOf layout image directory name ≡ Misnamed place → Meets (NamedSays (wrongPlace name)) added (named.Misnamed place) image image
+  pub add-misnamed : (place : ℕ) → openOf layout image directory name ≡ Misnamed place → MeetsInOrder (NamedSays (wrongPlace name)) added (named.Misnamed place) image image changes changes
   unfolding NamedSays
-  add-misnamed place e = meets-refusal (NamedSays (wrongPlace name)) (named.Misnamed place) image added 7 (refl, open-misnamed layout image directory name place e) (adding-misnamed _ addition place e)
+  add-misnamed place e = meets-refusal (NamedSays (wrongPlace name)) (named.Misnamed place) image changes added 7 (refl, open-misnamed layout image directory name place e) (adding-misnamed _ addition place e)
 
-  pub add-present : (i p k : ℕ) → openOf layout image directory name ≡ At i p k → Meets (NamedSays (wrongPlace name)) added (named.Refused 9) image image
+  pub add-present : (i p k : ℕ) → openOf layout image directory name ≡ At i p k → MeetsInOrder (NamedSays (wrongPlace name)) added (named.Refused 9) image image changes changes
   unfolding NamedSays
-  add-present i p k e = meets-refusal (NamedSays (wrongPlace name)) (named.Refused 9) image added 9 (bare 9 refl) (adding-present _ addition i p k e)
+  add-present i p k e = meets-refusal (NamedSays (wrongPlace name)) (named.Refused 9) image changes added 9 (bare 9 refl) (adding-present _ addition i p k e)
 
-  pub add-absent : (i : ℕ) → openOf layout image directory name ≡ Absent i → (given : NamedAnswer) (after : List ℕ) → Meets (NamedSays wrong.None) (addition i) given image after
-      → Meets (NamedSays (wrongPlace name)) added given image after
+  pub add-absent : (i : ℕ) → openOf layout image directory name ≡ Absent i → (given : NamedAnswer) (after order : List ℕ) → MeetsInOrder (NamedSays wrong.None) (addition i) given image after changes order
+      → MeetsInOrder (NamedSays (wrongPlace name)) added given image after changes order
   unfolding adding
-  add-absent i e given after meets = rw (rule-none name (absent-is layout image directory name i e .rule), e) meets
+  add-absent i e given after order meets = rw (rule-none name (absent-is layout image directory name i e .rule), e) meets
 
 -- the file at a place of the catalogue, by the two bytes of the index there
 module _ (layout : Layout) (image : List ℕ) (i p : ℕ) (is : SoundIndex layout image i) where

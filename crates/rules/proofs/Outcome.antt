@@ -1,16 +1,17 @@
--- What an answer says is one thing only; what a call promises where it was refused, where it was done and where it hands on what another did; and what stands behind a pointer.
+-- What an answer says is one thing only; what a call promises where it was refused, where it was done and where it hands on what another did, with the order of its writes; and what stands behind a pointer.
 use mathlib.Core.Path.{_≡_, refl, sym, ap, _∙_}
 use mathlib.Core.Bool.{Bool, true, not, _||_}
-use mathlib.Core.List.{List, []}
-use Prim.Native.Nat.{ℕ}
+use mathlib.Core.List.{List, [], _∷_}
+use Prim.Native.Nat.{ℕ, _<_}
 use native.Mathlib.Omega.{arith}
 use native.Mathlib.Decide.{ℕ-discrete}
 use lib.Dec.{eqb}
+use lib.ListN.{length}
 use borrow.Author.Tests.{eq-eqb, ne-eqb, eqb-false, not-true}
 use Rattle.rules.specs.Bytes.{splice}
-use Rattle.rules.specs.Sectors.{Write, written}
+use Rattle.rules.specs.Sectors.{Write, sectorsIn, written}
 use Rattle.rules.specs.Tests.{Test, firstOf, unlessMet}
-use Rattle.rules.specs.Outcome.{Report, gives, refuses, Outcome, done, refusal, reported, AnswerSays, AmountSays, Bare, NamedSays, NamedAmountSays, RenameSays, Meets, Gives, answerOf, amountOf, byNumber, ifWrong, namedAnswerOf, namedAmountOf, renameAnswerOf, behind}
+use Rattle.rules.specs.Outcome.{Report, gives, refuses, Outcome, done, refusal, orderOf, listed, reported, AnswerSays, AmountSays, Bare, NamedSays, NamedAmountSays, RenameSays, Meets, Gives, answerOf, amountOf, byNumber, ifWrong, namedAnswerOf, namedAmountOf, renameAnswerOf, behind}
 use Rattle.rules.specs.declared.Answer.{Answer}
 use Rattle.rules.specs.declared.Amount.{Amount}
 use Rattle.rules.specs.declared.Answer.the-variants as answer
@@ -24,7 +25,7 @@ use Rattle.rules.specs.declared.NamedAmount.the-variants as loaded
 use Rattle.rules.specs.declared.RenameAnswer.{RenameAnswer}
 use Rattle.rules.specs.declared.RenameAnswer.the-variants as renamed
 use Rattle.rules.proofs.Tests.{neither, unless-passed, unless-met}
-use Rattle.rules.proofs.Splice.{splice-none}
+use Rattle.rules.proofs.Splice.{splice-none, splice-cons}
 
 -- by its tests: a look that was refused, and one that was done
 module _ (tests : List Test) (value : ℕ) (bytes : List ℕ) where
@@ -115,24 +116,35 @@ bare number e =
     let apart = neither (eqb number 0) (eqb number 7) (not-true (eqb number 0 || eqb number 7) e) in
     (refl, eqb-false number 0 (apart .0), eqb-false number 7 (apart .1))
 
--- a call that writes
-module _ {Given : Type 0} (Says : Given → ℕ → Type 0) (given : Given) (image : List ℕ) (outcome : Outcome) where
-  pub meets-refusal : (number : ℕ) → Says given number → outcome ≡ refusal number → Meets Says outcome given image image
-  unfolding written
-  meets-refusal number said e = rw e (record { said = said; left = refl })
+-- the order of writes, where their sectors stand behind their number
+pub order-laid : (before : List ℕ) (writes : List Write) → 0 < length writes → splice (splice before 2 (sectorsIn writes)) 1 (length writes ∷ []) ≡ splice before 1 (orderOf writes)
+unfolding orderOf
+order-laid before [] some = absurd (omega arith)
+order-laid before (first ∷ more) some = splice-cons before 1 (length (first ∷ more)) (sectorsIn (first ∷ more))
 
-  pub meets-done : (writes : List Write) → Says given 0 → outcome ≡ done writes → Meets Says outcome given image (written image writes)
-  meets-done writes said e = rw e (record { said = said; left = refl })
+-- a call that writes, and that is lent a list for their order
+abbrev pub MeetsInOrder : {Given : Type 0} → (Given → ℕ → Type 0) → Outcome → Given → List ℕ → List ℕ → List ℕ → List ℕ → Type 0
+MeetsInOrder Says outcome given before after changes order = Meets Says outcome given before after × (order ≡ listed outcome changes)
+
+module _ {Given : Type 0} (Says : Given → ℕ → Type 0) (given : Given) (image changes : List ℕ) (outcome : Outcome) where
+  pub meets-refusal : (number : ℕ) → Says given number → outcome ≡ refusal number → MeetsInOrder Says outcome given image image changes changes
+  unfolding written orderOf
+  meets-refusal number said e = rw e (record { said = said; left = refl }, sym (splice-none changes 1))
+
+  pub meets-done : (writes : List Write) (after order : List ℕ) → Says given 0 → outcome ≡ done writes → after ≡ written image writes → order ≡ splice changes 1 (orderOf writes)
+      → MeetsInOrder Says outcome given image after changes order
+  meets-done writes after order said e left in-order = rw e (record { said = said; left = left }, in-order)
 
 -- behind the test of its name
-module _ (image : List ℕ) (outcome : Outcome) where
-  pub refusal-meets : (number : ℕ) → isBare number ≡ true → outcome ≡ refusal number → Meets (NamedSays None) outcome (named.Refused number) image image
+module _ (image changes : List ℕ) (outcome : Outcome) where
+  pub refusal-meets : (number : ℕ) → isBare number ≡ true → outcome ≡ refusal number → MeetsInOrder (NamedSays None) outcome (named.Refused number) image image changes changes
   unfolding NamedSays
-  refusal-meets number other e = meets-refusal (NamedSays None) (named.Refused number) image outcome number (bare number other) e
+  refusal-meets number other e = meets-refusal (NamedSays None) (named.Refused number) image changes outcome number (bare number other) e
 
-  pub done-meets : (writes : List Write) → outcome ≡ done writes → Meets (NamedSays None) outcome named.Done image (written image writes)
+  pub done-meets : (writes : List Write) (after order : List ℕ) → outcome ≡ done writes → after ≡ written image writes → order ≡ splice changes 1 (orderOf writes)
+      → MeetsInOrder (NamedSays None) outcome named.Done image after changes order
   unfolding NamedSays
-  done-meets writes e = meets-done (NamedSays None) named.Done image outcome writes refl e
+  done-meets writes after order e left in-order = meets-done (NamedSays None) named.Done image changes outcome writes after order refl e left in-order
 
 -- a call that makes a whole buffer anew, or leaves it
 module _ {Given : Type 0} (Says : Given → ℕ → Type 0) (given : Given) (tests : List Test) (whole before : List ℕ) where

@@ -1,11 +1,12 @@
 -- Bytes laid over a buffer: the length stays, what is read inside and outside, two that follow each other, and what a part that was lent leaves behind.
-use mathlib.Core.Path.{_≡_, refl, sym, ap}
+use mathlib.Core.Path.{_≡_, refl, sym, ap, _∙_}
 use mathlib.Core.List.{List, [], _∷_, _++_}
 use Prim.Native.Nat.{ℕ, zero, suc, _+_, _≤_, _<_}
 use native.Mathlib.Omega.{arith}
 use native.Mathlib.Nat.{zero-add, suc-add}
+use native.Mathlib.Numerals.{add-one}
 use lib.ListN.{length, set, take, drop}
-use lib.Seq.{drop-drop}
+use lib.Seq.{drop-drop, length-take-le, take-suc}
 use borrow.Rule.Slice.PartMut.{putMid}
 use Rattle.rules.specs.Bytes.{byteAt, part, over, splice}
 
@@ -88,6 +89,18 @@ unfolding splice
 splice-append buffer zero first second = rw (zero-add (length first)) (over-append buffer first second)
 splice-append [] (suc at) first second = rw (suc-add at (length first))
 splice-append (b ∷ buffer) (suc at) first second = rw (suc-add at (length first)) (ap (λ (l : List ℕ). b ∷ l) (splice-append buffer at first second))
+
+-- and a byte that stands before others
+over-cons : (buffer : List ℕ) (byte : ℕ) (bytes : List ℕ) → splice (splice buffer 1 bytes) 0 (byte ∷ []) ≡ over buffer (byte ∷ bytes)
+unfolding over splice
+over-cons [] byte bytes = refl
+over-cons (b ∷ buffer) byte bytes = ap (λ (l : List ℕ). byte ∷ l) (over-none (over buffer bytes))
+
+pub splice-cons : (buffer : List ℕ) (at byte : ℕ) (bytes : List ℕ) → splice (splice buffer (suc at) bytes) at (byte ∷ []) ≡ splice buffer at (byte ∷ bytes)
+unfolding splice
+splice-cons buffer zero byte bytes = over-cons buffer byte bytes
+splice-cons [] (suc at) byte bytes = refl
+splice-cons (b ∷ buffer) (suc at) byte bytes = ap (λ (l : List ℕ). b ∷ l) (splice-cons buffer at byte bytes)
 
 -- bytes laid over no fewer that were laid there before: laid over those first
 over-over : (buffer first second : List ℕ) → length second ≤ length first → over (over buffer first) second ≡ over buffer (over first second)
@@ -189,3 +202,12 @@ set-splice [] zero value = refl
 set-splice [] (suc at) value = refl
 set-splice (b ∷ buffer) zero value = ap (λ (l : List ℕ). value ∷ l) (sym (over-none buffer))
 set-splice (b ∷ buffer) (suc at) value = ap (λ (l : List ℕ). b ∷ l) (set-splice buffer at value)
+
+-- one more of the bytes that are laid one after the other
+pub splice-more : (buffer : List ℕ) (at : ℕ) (bytes : List ℕ) (i : ℕ) → i < length bytes → set (splice buffer at (take i bytes)) (at + i) (byteAt bytes i) ≡ splice buffer at (take (i + 1) bytes)
+splice-more buffer at bytes i h =
+    let so-far = length-take-le i bytes (omega arith) in
+    set-splice (splice buffer at (take i bytes)) (at + i) (byteAt bytes i)
+    ∙ ap (λ (n : ℕ). splice (splice buffer at (take i bytes)) (at + n) (byteAt bytes i ∷ [])) (sym so-far)
+    ∙ splice-append buffer at (take i bytes) (byteAt bytes i ∷ [])
+    ∙ rw (add-one, take-suc bytes i 0 h)
