@@ -8,13 +8,12 @@ use Prim.Native.Nat.{ℕ, _/_, _%_, _≤_, _<_}
 use native.Mathlib.Omega.{arith}
 use lib.ListN.{getD}
 use borrow.Author.Tests.{not-true, not-false}
-use Rattle.rules.specs.Bytes.{part, same}
-use Rattle.rules.specs.Sectors.{sectorOf}
+use Rattle.rules.specs.Bytes.{same}
 use Rattle.rules.specs.Name.{precedes, Before}
-use Rattle.rules.specs.Descriptor.{nameOf}
 use Rattle.rules.specs.Volume.{nameIn}
 use Rattle.rules.proofs.Tests.{absurd-test}
 use Rattle.index.specs.Front.{InFront}
+use Rattle.index.proofs.Named.{named}
 use Rattle.index.proofs.Settling.{Shifted, none-shifted, one-shifted, named-there, none-behind, all-behind, named-nowhere, laid-down}
 use borrow.Author.Needs.{needs}
 use Rattle.index.proofs.settle.Statement.{statement}
@@ -32,11 +31,6 @@ loop-holds c =
     let s = c .before .before .before in
     let even = s .pre .0 in
     (even, search needs, λ front is. none-shifted _ _ _ front is _ _ (omega (arith, even)))
-
--- the name that was read is that of the file whose number it was
-named : (image sector there : List ℕ) (j : ℕ) → sector ≡ sectorOf image j → there ≡ part sector 0 10 → there ≡ nameIn image j
-unfolding nameIn nameOf
-named image sector there j e f = rw (f, e)
 
 -- the ways back: to the number that was read, and to its turn
 abbrev word : tie.After-precedes Inv-loop μ-loop → tie.After-word Inv-loop μ-loop
@@ -70,12 +64,11 @@ loop-again c =
     let met = c .before .before .before in
     let t = turn met in
     let l = t .before in
-    let comes = ap (λ (n : List ℕ). precedes n (met .before .part2 .result .now)) (own-name l) ∙ ap (precedes _) (their-name (met .before)) in
-    (
+    let comes = ap (λ (n : List ℕ). precedes n (met .before .part2 .result .now)) (own-name l) ∙ ap (precedes _) (their-name (met .before)) in (
       omega (arith, l .loop .inv .0),
       search needs,
       λ front is. one-shifted _ _ _ front is _ (l .loop .index) (l .loop .to) (word met .word .result) (l .loop .inv .2 front is) (l .loop .inv .0) (t .loop-test .taken) (word met .word .ensures .0)
-      _ (c .lay-number .ensures) (sym comes ∙ sym (met .precedes .ensures) ∙ not-false _ (c .before .before .if1 .left)),
+          _ (c .lay-number .ensures) (sym comes ∙ sym (met .precedes .ensures) ∙ not-false _ (c .before .before .if1 .left)),
     )
 
 -- where the loop is left, the names of those before come before
@@ -99,8 +92,7 @@ returns-2 c front is =
     let left = c .before .before in
     let l = left .before in
     let shifted = l .loop .inv .2 front is in
-    let low = behind left front is in
-    (
+    let low = behind left front is in (
       ap not (sym (named-nowhere _ _ _ front is _ _ (l .loop .index) shifted low (own l .pre .3))),
       λ e. c .lay-number2 .ensures ∙ laid-down _ _ _ front is _ _ (l .loop .index) shifted low _ _ (omega (arith, l .loop .inv .0)) (own l .pre .1),
     )
