@@ -20,6 +20,7 @@ pub mod Volume
 pub mod Indexed
 pub mod Indexes
 pub mod Written
+pub mod Through
 pub mod Staying
 pub mod Ordered
 pub mod Listed
@@ -37,5 +38,6 @@ pub mod Outcome
 pub mod Opening
 pub mod Formatted
 pub mod MapMade
+pub mod Mended
 pub mod Listing
 pub mod Pack
