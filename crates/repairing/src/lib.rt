@@ -129,7 +129,7 @@ fn examine(layout: Layout, image: &[u8], map: &mut [u8; 200]) -> u32
 
 // The index in sector i written in name order.
 fn order_index(image: &mut [u8], i: usize)
-    requires { ⌜ (length (now image) ≡ 256 * sectorCount (now image)) × (i < sectorCount (now image)) × IsIndex (sectorCount (now image)) (sectorOf (now image) i) × (distinctRule (now image) [] (filesIn (now image) i) ≡ true) ⌝ }
+    requires { ⌜ (length (now image) ≡ 256 * sectorCount (now image)) × (i < sectorCount (now image)) × (i < 65536) × IsIndex (sectorCount (now image)) (sectorOf (now image) i) × (distinctRule (now image) [] (filesIn (now image) i) ≡ true) ⌝ }
     ensures { λ _. ⌜ now (image .exit) ≡ splice (now (image .entry)) (256 * i) (indexOf (ordered (now (image .entry)) (filesIn (now (image .entry)) i))) ⌝ }
 {
     let mut index = [0u8; 256];
