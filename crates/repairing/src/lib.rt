@@ -3,7 +3,7 @@
 ghost use mathlib.Core.Path.{_≡_};
 ghost use mathlib.Core.Bool.{true, _&&_};
 ghost use mathlib.Core.List.{[], map};
-ghost use Prim.Native.Nat.{_*_, _<_};
+ghost use Prim.Native.Nat.{_*_, _≤_, _<_};
 ghost use lib.ListN.{length};
 ghost use Rattle.rules.specs.Bytes.{splice};
 ghost use Rattle.rules.specs.Sectors.{sectorOf, sectorCount, written};
@@ -141,7 +141,7 @@ fn order_index(image: &mut [u8], i: usize)
 fn order_indexes(layout: Layout, image: &mut [u8], changes: &mut [u32; 133]) -> usize
     requires { ⌜ Mendable layout (now image) ⌝ }
     ensures { λ _. ⌜ now (image .exit) ≡ written (now (image .entry)) (map (orderedIndex (now (image .entry))) (indexes layout (now (image .entry)))) ⌝ }
-    ensures order { λ r. ⌜ (now (changes .exit) ≡ splice (now (changes .entry)) 2 (indexes layout (now (image .entry)))) × (r ≡ length (indexes layout (now (image .entry)))) ⌝ }
+    ensures order { λ r. ⌜ (now (changes .exit) ≡ splice (now (changes .entry)) 2 (indexes layout (now (image .entry)))) × (r ≡ length (indexes layout (now (image .entry)))) × (r ≤ 4) ⌝ }
 {
     let count = directory_count(layout);
     let mut many = 0;
