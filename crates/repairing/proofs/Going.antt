@@ -49,8 +49,7 @@ module _ (layout : Layout) (image₀ changes₀ : List ℕ) (is : Mendable layou
       → (image ≡ written image₀ (map (orderedIndex image₀) (indexes layout image₀))) × (changes ≡ splice changes₀ 2 (indexes layout image₀)) × (many ≡ length (indexes layout image₀))
   unfolding written
   all-written past =
-      let none = from-past layout image₀ directory past in
-      (
+      let none = from-past layout image₀ directory past in (
         rw none at (so-far .writes),
         sym (splice-none changes (2 + many)) ∙ rw none at (so-far .listed),
         let t = rw none at (so-far .total) in omega (arith, t),
@@ -112,8 +111,7 @@ module _ (layout : Layout) (image₀ changes₀ : List ℕ) (is : Mendable layou
           let each = is .each i indexed in
           let ks = filesIn image₀ i in
           let same : (p : ℕ) → p < length ks → nameIn image (getD ks p 0) ≡ nameIn image₀ (getD ks p 0) = λ p h. name-stands (getD ks p 0) (count-at ks p h) in
-          rw (so-far .size, index-stands, files-stand)
-          (
+          rw (so-far .size, index-stands, files-stand) (
             is .whole,
             mendable-index layout image₀ is i indexed .1,
             each .index,

@@ -2,3 +2,4 @@
 mod EachSteps
 mod RepairSteps
 mod Going
+mod RepairLaws

@@ -152,8 +152,7 @@ returns-5 c =
 returns-6 : tie.Need-returns-6
 returns-6 c =
     let r = c .before in
-    let five = e₅ r in
-    (
+    let five = e₅ r in (
       sym (other-index _ _ (sized (size₅ five)) (labelled (e₄ (five .before))) (entered five) (indexes-is r ∙ not-true (r .indexes-rule .result) (c .if6 .taken))),
       λ e. absurd (omega (arith, e)),
     )
@@ -162,8 +161,7 @@ returns-7 : tie.Need-returns-7
 returns-7 c =
     let r = c .before in
     let six = e₆ r in
-    let five = e₅ (six .before) in
-    (
+    let five = e₅ (six .before) in (
       sym (other-catalogue _ _ (sized (size₆ six)) (labelled (e₄ (five .before))) (entered five) (indexed six) (catalogues-is r ∙ not-true (r .catalogues-rule .result) (c .if7 .taken))),
       λ e. absurd (omega (arith, e)),
     )
@@ -201,8 +199,7 @@ returns-9 : tie.Need-returns-9
 returns-9 c =
     let f = c .before in
     let l = laid f in
-    let is = passed (e₇ l) in
-    (
+    let is = passed (e₇ l) in (
       sym (can-mend _ _ is (twice-is f ∙ c .if8 .left)),
       λ e. claimed-map _ _ _ (l .lay-map .ensures) (is .sized) (below _ _ is) _ (f .claim-holders .ensures .0) (c .if8 .left) _ (f .claim-holders .ensures .1 (c .if8 .left)) (f .claim-holders .kept .1 .1 .0 ∙ long l),
     )
