@@ -91,7 +91,7 @@ module _ (layout : Layout) (image : List ℕ) (is : Mendable layout image) where
   mendable-index = index-inside layout image (omega (arith, is .size)) (is .entered)
 
   -- sector 0, the indexes and what the files hold are apart
-  apart : (j : ℕ) → count j (0 ∷ []) + (count j all + count j held) ≤ 1
+  pub apart : (j : ℕ) → count j (0 ∷ []) + (count j all + count j held) ≤ 1
   unfolding holders
   apart j = omega (arith, is .single j, count-append j (0 ∷ []) (all ++ held), count-append j all held)
 
@@ -159,7 +159,7 @@ module _ (layout : Layout) (image : List ℕ) (is : Mendable layout image) where
   pub held-stands : (j : ℕ) → 1 ≤ count j held → sectorOf after j ≡ sectorOf image j
   held-stands j there = mended-other j (λ e. omega (arith, apart 0, count-here 0 [], rw e at there)) (omega (arith, there, apart j))
 
-  file-held : (i k j : ℕ) → IsIndexed layout image i → 1 ≤ count k (filesIn image i) → 1 ≤ count j (k ∷ placesIn image k) → 1 ≤ count j held
+  pub file-held : (i k j : ℕ) → IsIndexed layout image i → 1 ≤ count k (filesIn image i) → 1 ≤ count j (k ∷ placesIn image k) → 1 ≤ count j held
   file-held i k j indexed there here = omega (arith, here, file-holds image k j (filesIn image i) there, held-of-has image i all indexed j)
 
   pub file-stands : (i k : ℕ) → IsIndexed layout image i → 1 ≤ count k (filesIn image i) → sectorOf after k ≡ sectorOf image k

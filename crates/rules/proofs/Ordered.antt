@@ -1,15 +1,16 @@
--- Numbers ordered by the names that they lead to: they are the same numbers, and they ascend where no two names are equal.
+-- Numbers ordered by the names that they lead to: they are the same numbers, they ascend where no two names are equal, and they stand so where the names stand.
 use mathlib.Core.Path.{_≡_, refl, sym, _∙_}
 use mathlib.Core.List.{List, [], _∷_}
 use Prim.Native.Nat.{ℕ, suc, _+_, _<_}
 use native.Mathlib.Omega.{arith}
+use native.Mathlib.Decide.{ℕ-discrete}
 use lib.ListN.{length, getD}
 use Rattle.rules.specs.Map.{count}
 use Rattle.rules.specs.Volume.{nameIn, placesIn, fileHolders, placed}
 use Rattle.rules.specs.Calls.Repair.{orderedOnto, ordered}
-use Rattle.rules.proofs.Map.{count-none, count-append}
+use Rattle.rules.proofs.Map.{count-none, count-here, count-other, count-more, count-append}
 use Rattle.rules.proofs.Indexed.{placed-count, placed-length, placed-all, placed-ascending, Ascending}
-use Rattle.rules.proofs.Staying.{holders-placed}
+use Rattle.rules.proofs.Staying.{placed-agree, holders-placed}
 
 -- no two of them lead to one name
 abbrev pub Distinct : List ℕ → List ℕ → Type 0
@@ -81,3 +82,23 @@ module _ (image : List ℕ) where
   pub ordered-ascending : (ks : List ℕ) → ((p : ℕ) → p < length ks → length (nameIn image (getD ks p 0)) ≡ 10) → Distinct image ks → Ascending image (ordered image ks)
   unfolding ordered
   ordered-ascending ks long distinct = onto-ascending [] ks (λ p q h l. absurd (omega arith)) (λ p h. absurd (omega arith)) long distinct (λ p q h l. absurd (omega arith))
+
+-- the order where the names stand
+onto-agree : (image after first ks : List ℕ) → ((j : ℕ) → 1 ≤ count j first → nameIn after j ≡ nameIn image j) → ((j : ℕ) → 1 ≤ count j ks → nameIn after j ≡ nameIn image j)
+    → orderedOnto after first ks ≡ orderedOnto image first ks
+unfolding orderedOnto
+onto-agree image after first [] here all = refl
+onto-agree image after first (k ∷ ks) here all =
+    let own = all k (omega (arith, count-here k ks)) in
+    rw (own, placed-agree image after (nameIn image k) k first here)
+    (onto-agree image after (placed image (nameIn image k) k first) ks
+    (λ j some.
+    elim (ℕ-discrete k j) [
+      | yes e ↦ rw e at own
+      | no other ↦ here j (omega (arith, some, placed-count k j image (nameIn image k) first, count-other j k first other))
+    ])
+    (λ j some. all j (omega (arith, some, count-more j k ks))))
+
+pub ordered-agree : (image after ks : List ℕ) → ((j : ℕ) → 1 ≤ count j ks → nameIn after j ≡ nameIn image j) → ordered after ks ≡ ordered image ks
+unfolding ordered
+ordered-agree image after ks = onto-agree image after [] ks (λ j some. absurd (omega (arith, some, count-none j)))
