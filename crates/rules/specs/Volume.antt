@@ -21,6 +21,7 @@ directories layout image = 1 ∷ map entryIndex (entries layout (sectorOf image 
 unfoldable pub indexAt : Layout → List ℕ → ℕ → ℕ
 indexAt layout image directory = getD (directories layout image) directory 0
 
+-- those that are there
 unfoldable pub present : List ℕ → List ℕ
 present [] = []
 present (i ∷ is) = cond (eqb i 0) (present is) (i ∷ present is)
