@@ -1,5 +1,5 @@
 -- `repairing::order_indexes` meets its contract. The loop's invariant: the indexes of the directories before this one are written and listed, and what the others need of the image stands.
--- The measure is how many numbers are left. Assumes nothing.
+-- The measure is how many numbers there could be left. Assumes nothing.
 use mathlib.Core.Path.{refl}
 use Prim.Native.Nat.{_-_, _≤_}
 use native.Mathlib.Omega.{arith}
@@ -9,10 +9,10 @@ use Rattle.repairing.proofs.order_indexes.Statement.{statement}
 use Rattle.repairing.proofs.order_indexes.Tie as tie
 
 abbrev Inv-loop : tie.InvT-loop
-Inv-loop layout image₀ changes₀ count many₀ directory₀ image changes many directory = (directory ≤ count) × (many ≤ directory) × Going layout image₀ changes₀ directory many image changes
+Inv-loop layout image₀ changes₀ count many₀ directory₀ image changes many directory = (directory ≤ 4) × (many ≤ directory) × Going layout image₀ changes₀ directory many image changes
 
 abbrev μ-loop : tie.MeasureT-loop
-μ-loop layout image₀ changes₀ count many₀ directory₀ image changes many directory = count - directory
+μ-loop layout image₀ changes₀ count many₀ directory₀ image changes many directory = 4 - directory
 
 -- The ways back: from the number of an index to the loop, and from there to the start.
 abbrev test : tie.After-index-at Inv-loop μ-loop → tie.At-loop Inv-loop μ-loop
@@ -60,8 +60,8 @@ returns c =
     let l = c .before in
     let s = start l in
     let many = l .before .directory-count .ensures in
-    let all = all-written _ _ _ (s .pre) _ _ _ _ (l .loop .inv .2) (rw (many .0 (s .args .image .now)) at (c .loop-test .left)) in
-    (all .0, (all .1, all .2, omega (arith, l .loop .inv .0, l .loop .inv .1, many .1)))
+    let all = all-written _ _ _ (s .pre) _ _ _ _ (l .loop .inv .2) (omega (arith, many .0 (s .args .image .now), c .loop-test .left)) in
+    (all .0, (all .1, all .2, omega (arith, l .loop .inv .0, l .loop .inv .1)))
 
 pub order-indexes-spec : {M : Type 1} → statement M
 order-indexes-spec =
