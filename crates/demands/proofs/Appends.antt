@@ -8,7 +8,7 @@ use native.Mathlib.Omega.{arith}
 use lib.ListN.{length, take, length-map}
 use borrow.Author.Tests.{not-false, eqb-true, ltb-false}
 use Rattle.rules.specs.Bytes.{wordBytes, splice}
-use Rattle.rules.specs.Sectors.{Write, sectorOf, sectorCount, written}
+use Rattle.rules.specs.Sectors.{Write, sectorOf, sectorCount, written, sectorsIn}
 use Rattle.rules.specs.Map.{count, freeCount, marked, markedAll}
 use Rattle.rules.specs.Chain.{blocks, places, extended, chainWith}
 use Rattle.rules.specs.Kind.{isProgram}
@@ -41,7 +41,7 @@ use Rattle.demands.specs.Ours.{outcome}
 use Rattle.demands.specs.Effects.{effect, Done, markedFile, longer}
 use Rattle.demands.specs.Grounds.{Has}
 use Rattle.demands.specs.Taking.{Takes}
-use Rattle.demands.specs.Touches.{Gains, TouchesIn}
+use Rattle.demands.specs.Touches.{Grows, TouchesIn}
 use Rattle.demands.specs.Does.{Does}
 use Rattle.demands.proofs.Replacing.{altered-done, altered-lies, found-has}
 use Rattle.demands.proofs.Taking.{append-takes}
@@ -158,11 +158,11 @@ module _ (layout : Layout) (image name : List ℕ) (i p k : ℕ) (o : IsOpened l
 
     -- and its blocks are those that the sector makes longer
     appended-gains : (blocks-now : List Block) → Takes image [] (placesIn image k) (blocks (chainOf (sectorOf image k))) (new ∷ []) blocks-now → chainOf d ≡ chainWith blocks-now
-        → Has image i name (λ j. Gains image after i name j [] (placesIn image j) (blocks (chainOf (sectorOf image j))) 1 (0 ∷ []))
+        → Has image i name (Grows image after i name (new ∷ (0 ∷ (k ∷ []))))
     unfolding markedAll
     appended-gains blocks-now takes chain =
         found-has layout image name i p k o
-        (record {
+        (record { gains = record {
           taken = record { ks = new ∷ []; so-many = refl; chain = blocks-now; takes = takes };
           lies = altered-lies layout altered name (o .named) (chainWith blocks-now) (ap chainOf descriptor-now ∙ chain);
           map = map-now;
@@ -170,13 +170,13 @@ module _ (layout : Layout) (image name : List ℕ) (i p k : ℕ) (o : IsOpened l
               let some = count-apart j 0 (k ∷ (new ∷ [])) apart in
               let own = count-apart j k (new ∷ []) (some .1) in
               else-same j (omega (arith, some .0)) (count-apart j new [] (own .1) .0) (own .0);
-        })
+        }; writes = refl })
 
 appending-done : (layout : Layout) (image name bytes : List ℕ) (i p k : ℕ) → IsOpened layout image name i p k → Passed (appendTests image bytes k) →
     let after = written image (appendWrites layout image bytes k) in
     Done layout image after i name (effect (changed name (λ file. longer bytes (markedFile layout file)) (catalogue image i)) 1 0)
-    × Has image i name (λ j. Gains image after i name j [] (placesIn image j) (blocks (chainOf (sectorOf image j))) 1 (0 ∷ []))
-unfolding nameIn placesIn appendTests appendWrites longerBlocks Passed
+    × Has image i name (Grows image after i name (sectorsIn (appendWrites layout image bytes k)))
+unfolding nameIn placesIn appendTests appendWrites longerBlocks Passed sectorsIn
 appending-done layout image name bytes i p k o passed =
     let n = sectorCount image in
     let d = sectorOf image k in

@@ -208,6 +208,7 @@ carried layout (call.change directory name change) image first =
     let number = outcome layout change image directory name .number in
     named-carries names number
     (λ seven. first-seven (Misnamed names) _ _ (faults-seven (changeRule layout change) _ image _ (name-sevens names _ (tt, change-sevens change image _ name _))) (named-number names number ∙ seven) first)
+carried layout call.repair image first = answer-carries _
 carried layout (call.format n name geometry) image first =
     let number = formatNumber image n name in
     named-carries (call.one name) number

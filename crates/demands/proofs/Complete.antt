@@ -31,13 +31,14 @@ use Rattle.demands.specs.Call as call
 use Rattle.demands.specs.Call.{Names, Form, AnsweredTo, Answered, answerNumber, amountNumber, summaryNumber, namedNumber, loadedNumber, numberIn, NamedCarries, LoadCarries, Carries, Look, Call, changeRule, ruleOf, namesOf, formOf, Result, Version, numberOf}
 use Rattle.demands.specs.Ours.{seen, ours}
 use Rattle.demands.specs.Grounds.{Ground, First, faults, lookGrounds, grounds}
-use Rattle.demands.specs.Demand2.{FreeIs, Shows, Means, Frame, Demand2}
+use Rattle.demands.specs.Demand2.{FreeIs, Shows, Means, Unlisted, Frame, Demand2}
 use Rattle.demands.specs.Unique.{OneVersion, OnlyOurs}
 use Rattle.demands.proofs.Demand2.{demand2}
 use Rattle.demands.proofs.Formatting.{formats-one}
 use Rattle.demands.proofs.Lines.{lists-one}
 use Rattle.demands.proofs.PackedOne.{packs-one}
-use Rattle.demands.proofs.Touched.{directory-there, touches-one}
+use Rattle.demands.proofs.Touched.{directory-there, touches-one, orders-one}
+use Rattle.demands.proofs.Mending.{mends-one}
 use Rattle.demands.proofs.Unique.{same-result}
 
 -- the first ground fixes the number
@@ -179,18 +180,18 @@ module _ (layout : Layout) (v w : Version) (meets : Demand2 layout v) (meets′ 
   number-one : (c : Call) → numberOf v c image ≡ numberOf w c image
   number-one c = first-one (numberOf v c image) (numberOf w c image) (grounds (ruleOf layout c) c image) (meets .progress c image) (meets′ .progress c image)
 
-  result-one : (c : Call) → v c image .answer ≡ w c image .answer → v c image .buffer ≡ w c image .buffer → v c image .image ≡ w c image .image → v c image ≡ w c image
-  result-one c a b i = same-result (formOf c) (v c image .answer) (w c image .answer) (v c image .buffer) (w c image .buffer) (v c image .image) (w c image .image) a b i
+  result-one : (c : Call) → v c image .answer ≡ w c image .answer → v c image .buffer ≡ w c image .buffer → v c image .image ≡ w c image .image → v c image .order ≡ w c image .order → v c image ≡ w c image
+  result-one c = same-result (formOf c) (v c image .answer) (w c image .answer) (v c image .buffer) (w c image .buffer) (v c image .image) (w c image .image) (v c image .order) (w c image .order)
 
   refused : (c : Call) → (numberOf v c image ≡ 0 → ⊥) → v c image ≡ w c image
   refused c some =
       let first = meets .refuses c image some in
       let second = meets′ .refuses c image (λ zero. some (number-one c ∙ zero)) in
       result-one c (refused-one (formOf c) (v c image .answer) (w c image .answer) (number-one c) some (meets .carries c image) (meets′ .carries c image))
-      (first .1 ∙ sym (second .1)) (first .0 ∙ sym (second .0))
+      (first .1 ∙ sym (second .1)) (first .0 ∙ sym (second .0)) (first .2 ∙ sym (second .2))
 
   done : (c : Call) → numberOf v c image ≡ 0 → v c image ≡ w c image
-  unfolding grounds Means Frame
+  unfolding grounds Means Frame Unlisted
   done (call.look {form} look buffer) zero =
       let c = call.look look buffer in
       let is = done-sound layout image (numberOf v c image) (lookGrounds layout look buffer image) zero (meets .progress c image) in
@@ -198,23 +199,33 @@ module _ (layout : Layout) (v w : Version) (meets : Demand2 layout v) (meets′ 
       shown-one layout look buffer image is (v c image) (w c image) (number-one c) (meets .carries c image) (meets′ .carries c image)
       (meets .means c image is zero) (meets′ .means c image is (sym (number-one c) ∙ zero))
       in
-      result-one c (shown .0) (shown .1) (meets .frame c image is ∙ sym (meets′ .frame c image is))
+      result-one c (shown .0) (shown .1) (meets .frame c image is ∙ sym (meets′ .frame c image is)) (meets .unlisted c image ∙ sym (meets′ .unlisted c image))
   done (call.change directory name change) zero =
       let c = call.change directory name change in
       let rule = changeRule layout change in
-      let is = done-sound (changeRule layout change) image (numberOf v c image) _ zero (meets .progress c image) in
+      let i = indexAt rule image directory in
+      let is = done-sound rule image (numberOf v c image) _ zero (meets .progress c image) in
+      let there = directory-there rule directory name change image (numberOf v c image) zero (meets .progress c image) in
       let first = meets .means c image is zero in
       let second = meets′ .means c image is (sym (number-one c) ∙ zero) in
       result-one c (named-one (namesOf name change) (v c image .answer) (w c image .answer) (number-one c) (meets .carries c image) (meets′ .carries c image))
       (nothing-one (v c image .buffer) (w c image .buffer) (meets .lengths c image .1) (meets′ .lengths c image .1))
-      (touches-one rule image (v c image .image) (w c image .image) (indexAt rule image directory) name _ (first .0) (second .0) is (directory-there rule directory name change image (numberOf v c image) zero (meets .progress c image)) change (first .1) (second .1))
+      (touches-one rule image (v c image .image) (w c image .image) i name _ (first .0) (second .0) is there change (v c image .order) (w c image .order) (first .1) (second .1))
+      (orders-one rule image (v c image .image) (w c image .image) i name is there change (v c image .order) (w c image .order) (first .1) (second .1))
+  done call.repair zero =
+      let c = call.repair in
+      let first = meets .mends image zero in
+      let second = meets′ .mends image (sym (number-one c) ∙ zero) in
+      result-one c (answer-one (v c image .answer) (w c image .answer) (number-one c) (meets .carries c image) (meets′ .carries c image))
+      (nothing-one (v c image .buffer) (w c image .buffer) (meets .lengths c image .1) (meets′ .lengths c image .1))
+      (mends-one layout image (v c image .image) (w c image .image) (v c image .order) (w c image .order) first second) (first .writes ∙ sym (second .writes))
   done (call.format n name geometry) zero =
       let c = call.format n name geometry in
       let first = meets .formats n name geometry image zero in
       let second = meets′ .formats n name geometry image (sym (number-one c) ∙ zero) in
       result-one c (named-one (call.one name) (v c image .answer) (w c image .answer) (number-one c) (meets .carries c image) (meets′ .carries c image))
       (nothing-one (v c image .buffer) (w c image .buffer) (meets .lengths c image .1) (meets′ .lengths c image .1))
-      (formats-one n name geometry (v c image .image) (w c image .image) (meets .lengths c image .0 ∙ sym (meets′ .lengths c image .0)) (first .1) (second .1))
+      (formats-one n name geometry (v c image .image) (w c image .image) (meets .lengths c image .0 ∙ sym (meets′ .lengths c image .0)) (first .1) (second .1)) (meets .unlisted c image ∙ sym (meets′ .unlisted c image))
 
 pub one-version : (layout : Layout) → OneVersion layout
 unfolding OneVersion

@@ -1,10 +1,10 @@
 -- Delete: the file goes and none comes. Its number leaves the index, the bits of its descriptor and places are cleared, and every other sector stands as it stood.
-use mathlib.Core.Path.{_≡_, _∙_}
+use mathlib.Core.Path.{_≡_, refl, _∙_}
 use mathlib.Core.List.{List, [], _∷_}
 use Prim.Native.Nat.{ℕ, _≤_, _<_}
 use native.Mathlib.Omega.{arith}
 use lib.ListN.{length, length-map}
-use Rattle.rules.specs.Sectors.{Write, sectorOf, sectorCount, written}
+use Rattle.rules.specs.Sectors.{sectorOf, sectorCount, Write, sectorsIn, written}
 use Rattle.rules.specs.Map.{count, markedAll}
 use Rattle.rules.specs.Index.{indexOf, without}
 use Rattle.rules.specs.Volume.{filesIn, nameIn, placesIn, contentsIn, fileIn, catalogue}
@@ -97,7 +97,7 @@ module _ (layout : Layout) (image : List ℕ) (i : ℕ) (name : List ℕ) (k : �
       }
 
 pub deletes : (layout : Layout) → Does layout delete
-unfolding outcome deleteOf deleting TouchesIn
+unfolding outcome deleteOf deleting TouchesIn sectorsIn
 deletes layout image directory name e =
     let was = changed-done (openOf layout image directory name) (deleting image) (open-refused layout image directory name) e in
     let i = was .index in
@@ -111,5 +111,5 @@ deletes layout image directory name e =
       opened-there .0,
     ) (
       deleted layout image i name k (opened .whole) (opened .indexed) there (opened .named),
-      found-has layout image name i (was .place) k opened {holds = Leaves image (after layout image i name k (opened .whole) (opened .indexed) there (opened .named)) i} (leaves layout image i name k (opened .whole) (opened .indexed) there (opened .named)),
+      found-has layout image name i (was .place) k opened (leaves layout image i name k (opened .whole) (opened .indexed) there (opened .named), refl),
     )

@@ -6,7 +6,7 @@ use Prim.Native.Nat.{ℕ, _+_, _≤_, _<_, _*_}
 use native.Mathlib.Omega.{arith}
 use lib.ListN.{length, drop, replicate}
 use Rattle.rules.specs.Bytes.{part, over, splice}
-use Rattle.rules.specs.Sectors.{sectorOf, sectorCount, written, Write}
+use Rattle.rules.specs.Sectors.{sectorOf, sectorCount, written, Write, sectorsIn}
 use Rattle.rules.specs.Map.{count, markedAll}
 use Rattle.rules.specs.Chain.{placesFrom, places, extendedAll, Linked, chainWith}
 use Rattle.rules.specs.Kind.{allowedBits, kindOf, IsStatus, IsKind}
@@ -30,6 +30,7 @@ use Rattle.rules.proofs.Listed.{label-long, sector-inside, index-low, besides-a
 use Rattle.rules.proofs.Replaced.{none, at, besides, all-parted, Replaced, taken-once, index-anew, taken-mapped}
 use Rattle.rules.proofs.Splice.{splice-length}
 use Rattle.rules.proofs.Written.{sector-same, Whole, Apart, written-length, written-both, written-apart, written-at, piece-length, data-whole, data-apart}
+use Rattle.rules.proofs.Through.{data-order}
 use Rattle.demands.specs.Catalogue.{putIn}
 use Rattle.demands.specs.Effects.{effect, Done, newHeader, pieces}
 use Rattle.demands.specs.Taking.{ForDescriptor, Takes}
@@ -188,7 +189,7 @@ module _ (layout : Layout) (image : List ℕ) (i : ℕ) (name bytes : List ℕ) 
       (rw places-now (omega arith))
 
   -- it lies where the facts say, and nothing else is touched
-  enters : ForDescriptor image k → (blocks : List Block) → Takes image (k ∷ []) [] [] ks blocks → chainOf descriptor ≡ chainWith blocks → Enters image after i name (length ks)
+  enters : ForDescriptor image k → (blocks : List Block) → Takes image (k ∷ []) [] [] ks blocks → chainOf descriptor ≡ chainWith blocks → Enters image after i name (length ks) (ks ++ (k ∷ (0 ∷ (i ∷ []))))
   enters chosen blocks takes chain =
       record {
         k = k;
@@ -203,6 +204,7 @@ module _ (layout : Layout) (image : List ℕ) (i : ℕ) (name bytes : List ℕ) 
               free-stays j (some .0) (more .0) (more .1);
         };
         numbers = numbers-after layout replaced index-now;
+        writes = refl;
       }
 
 -- with the descriptor of a new file, its blocks those of ks
@@ -232,8 +234,9 @@ module _ (layout : Layout) (image : List ℕ) (i : ℕ) (name bytes : List ℕ) 
   pub new-file-done : (descriptor : List ℕ) → descriptor ≡ header ++ chainWith (extendedAll [] ks) → ForDescriptor image k → Takes image (k ∷ []) [] [] ks (extendedAll [] ks)
       →
       let after = written image (dataWrites bytes ks ++ entered image i name k descriptor (markedAll 1 (sectorOf image 0) (k ∷ ks))) in
-      Done layout image after i name (effect (putIn (record { header = header; contents = pieces (length ks) bytes }) (catalogue image i)) (1 + length ks) 0) × Enters image after i name (length ks)
-  unfolding entered
+      Done layout image after i name (effect (putIn (record { header = header; contents = pieces (length ks) bytes }) (catalogue image i)) (1 + length ks) 0)
+      × Enters image after i name (length ks) (sectorsIn (dataWrites bytes ks ++ entered image i name k descriptor (markedAll 1 (sectorOf image 0) (k ∷ ks))))
+  unfolding entered sectorsIn
   new-file-done descriptor e chosen takes =
       let c = length ks in
       let bs = extendedAll [] ks in
@@ -243,7 +246,7 @@ module _ (layout : Layout) (image : List ℕ) (i : ℕ) (name bytes : List ℕ) 
       let named = made-name name status recordsPerSector endOffset recordLength ten c bs in
       let places-are = made-places name status recordsPerSector endOffset recordLength ten c bs (sectorCount image) small many short ks-linked ∙ ks-places in
       let done = entered-done layout image i name bytes k ks made absent few once free long rules named places-are in
-      rw (e, ← written-both image (dataWrites bytes ks) _) (
+      rw (e, data-order bytes ks _, ← written-both image (dataWrites bytes ks) _) (
         rw (made-header name status recordsPerSector endOffset recordLength ten c bs) at done,
         enters layout image i name bytes k ks made absent few once free long rules named places-are chosen bs takes (made-chain name status recordsPerSector endOffset recordLength ten c bs),
       )

@@ -1,4 +1,4 @@
--- Numbers 1 to 6: each test of a volume decides its ground.
+-- Numbers 1 to 6: each test of a volume decides its ground; and 1 to 5 as repair has them.
 use mathlib.Core.Path.{_≡_, refl, sym, _∙_}
 use mathlib.Core.Bool.{Bool, true, false, _&&_, _||_}
 use mathlib.Core.List.{List, [], _∷_}
@@ -13,15 +13,18 @@ use Rattle.rules.specs.Index.{indexRule}
 use Rattle.rules.specs.Directory.{entries, entriesRule}
 use Rattle.rules.specs.Volume.{indexes, every, filesIn, holders, nameIn}
 use Rattle.rules.specs.Verdict.{sizeRule, heldTwice, volumeTests, descriptorsRule}
+use Rattle.rules.specs.Sound.{IsIndexed}
+use Rattle.rules.specs.Calls.Repair.{eachRule, distinctRule, repairTests}
 use Rattle.rules.specs.declared.Layout.{Layout}
 use Rattle.rules.proofs.Tests.{absurd-test, both}
 use Rattle.rules.proofs.Label.{label-is, is-label}
-use Rattle.rules.proofs.Map.{count-here, count-more, taken-below, taken-past, bits-taken, map-at, at-map}
+use Rattle.rules.proofs.Map.{count-none, count-here, count-more, taken-below, taken-past, bits-taken, map-at, at-map}
 use Rattle.rules.proofs.Index.{index-is, is-index}
 use Rattle.rules.proofs.Directory.{entries-are, are-entries}
 use Rattle.rules.proofs.Indexes.{every-is, is-every}
 use Rattle.rules.proofs.Verdict.{size-is, is-size, held-once, descriptors-are, name-long, ascend, are-descriptors, precedes-none}
-use Rattle.demands.specs.Grounds.{IsSize, HasIndexes, HasDescriptors, HeldTwice, HasMap, faults}
+use Rattle.rules.proofs.Repair.{each-is, is-each, distinct-is, is-distinct}
+use Rattle.demands.specs.Grounds.{IsSize, HasIndexes, HasDescriptors, HeldTwice, HasMap, faults, HasNames, mendingFaults}
 use Rattle.demands.proofs.Deciding.{Decide, broken}
 
 -- the tests of the rules, as the grounds state them
@@ -66,6 +69,27 @@ module _ (layout : Layout) (image : List ℕ) where
       are-descriptors layout (sectorCount image) image [] (filesIn image i) (has .descriptors i indexed)
       (λ p h. precedes-none (nameIn image (getD (filesIn image i) p 0)) (name-long layout (sectorCount image) image (getD (filesIn image i) p 0) (has .descriptors i indexed p h)))
       (has .ascending i indexed))
+
+  -- and as repair has them: no two names are equal
+  abbrev apart : ℕ → Bool
+  apart i = eachRule layout (sectorCount image) image (filesIn image i) && distinctRule image [] (filesIn image i)
+
+  named-is : every apart (indexes layout image) ≡ true → HasNames layout image
+  named-is e =
+      let each : (i : ℕ) → IsIndexed layout image i → (eachRule layout (sectorCount image) image (filesIn image i) ≡ true) × (distinctRule image [] (filesIn image i) ≡ true) =
+      λ i indexed. both (eachRule layout (sectorCount image) image (filesIn image i)) (distinctRule image [] (filesIn image i)) (every-is apart (indexes layout image) e i indexed)
+      in
+      record {
+        descriptors = λ i indexed. each-is layout (sectorCount image) image (filesIn image i) (each i indexed .0);
+        distinct = λ i indexed. distinct-is image [] (filesIn image i) (each i indexed .1) .1;
+      }
+
+  is-named : HasNames layout image → every apart (indexes layout image) ≡ true
+  is-named has =
+      is-every apart (indexes layout image)
+      (λ i indexed.
+      rw (is-each layout (sectorCount image) image (filesIn image i) (has .descriptors i indexed))
+      (is-distinct image [] (filesIn image i) (λ k some q h e. omega (arith, some, count-none k)) (has .distinct i indexed)))
 
 record Twice (hs : List ℕ) : Type 0 where
   sector : ℕ
@@ -119,6 +143,27 @@ faults-decided layout image =
               record { yes-there = twice-is layout image; not-there = not-twice layout image },
               λ _. (refl, broken (map-is layout image (size-is image (not-false (sizeRule image) sized) .2)) (is-map layout image), λ _. tt),
             ),
+          ),
+        ),
+      ),
+    )
+
+pub mending-decided : (layout : Layout) (image : List ℕ) → Decide (repairTests layout image) (mendingFaults layout image)
+unfolding Decide repairTests mendingFaults
+mending-decided layout image =
+    let n = sectorCount image in (
+      refl,
+      broken (sized-is image) (is-sized image),
+      λ _. (
+        refl,
+        broken (label-is n (sectorOf image 0)) (is-label n (sectorOf image 0)),
+        λ _. (
+          refl,
+          broken (indexed-is layout image) (is-indexed layout image),
+          λ _. (
+            refl,
+            broken (named-is layout image) (is-named layout image),
+            λ _. (refl, record { yes-there = twice-is layout image; not-there = not-twice layout image }, λ _. tt),
           ),
         ),
       ),

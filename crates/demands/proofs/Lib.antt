@@ -18,6 +18,8 @@ pub mod Creates
 pub mod Stores
 pub mod Deletes
 pub mod Renames
+mod Agreeing
+mod Mending
 mod Deciding
 mod Faults
 mod Opening

@@ -8,12 +8,13 @@ use native.Mathlib.Decide.{ℕ-discrete}
 use lib.ListN.{length, getD, set}
 use borrow.Author.Tests.{not-false, eqb-true, leb-false}
 use Rattle.rules.specs.Bytes.{splice}
-use Rattle.rules.specs.Sectors.{sectorOf, sectorCount}
+use Rattle.rules.specs.Sectors.{sectorOf, sectorCount, sectorsIn}
 use Rattle.rules.specs.Map.{count, markedAll}
 use Rattle.rules.specs.Chain.{places}
 use Rattle.rules.specs.Descriptor.{nameOf, sectorsOf, chainOf, markedBy}
 use Rattle.rules.specs.Volume.{filesIn, nameIn, placesIn, headerIn, contentsIn, fileIn}
 use Rattle.rules.specs.Tests.{Passed}
+use Rattle.rules.specs.Outcome.{write}
 use Rattle.rules.specs.Opening.{openOf}
 use Rattle.rules.specs.Calls.Overwrite.{overwriteTests, overwriteWrites, overwriting, overwriteOf}
 use Rattle.rules.specs.declared.Layout.{Layout}
@@ -134,7 +135,19 @@ module _ (layout : Layout) (image name : List ℕ) (i p k : ℕ) (o : IsOpened l
         | no other ↦ others j other (count-apart j at [] none .0)
       ]
 
-  overwritten-stays : Has image i name (λ j. (offset < length (placesIn image j)) × Stays image after i name j (overwriteTouches layout j (getD (placesIn image j) offset 0)))
+  -- the writes are what is touched
+  listed-so : sectorsIn (overwriteWrites layout image offset bytes k) ≡ overwriteTouches layout k at
+  unfolding overwriteWrites sectorsIn
+  listed-so = go (layout .marks)
+    where
+      go : (t : Bool) → sectorsIn (cond t (write k marked ∷ (write at bytes ∷ [])) (write at bytes ∷ [])) ≡ cond t (k ∷ (at ∷ [])) (at ∷ [])
+      go true = refl
+      go false = refl
+
+  overwritten-stays : Has image i name
+      (λ j.
+      let touched = overwriteTouches layout j (getD (placesIn image j) offset 0) in
+      (offset < length (placesIn image j)) × Stays image after i name j touched × (sectorsIn (overwriteWrites layout image offset bytes k) ≡ touched))
   overwritten-stays =
       found-has layout image name i p k o (
         offset-low,
@@ -144,6 +157,7 @@ module _ (layout : Layout) (image name : List ℕ) (i p k : ℕ) (o : IsOpened l
               (altered-lies layout changed-there name (o .named) (chainOf (sectorOf image k)) (ap chainOf descriptor-now ∙ mark-chain layout (sectorOf image k)));
           others = λ j inside none. untouched (layout .marks) refl j none;
         },
+        listed-so,
       )
 
 pub overwrites : (layout : Layout) (offset : ℕ) (bytes : List ℕ) → Does layout (overwrite offset bytes)

@@ -27,6 +27,7 @@ use Rattle.rules.specs.Calls.Entry.{entryTests, entryOf}
 use Rattle.rules.specs.Calls.Read.{readTests, reading, readOf}
 use Rattle.rules.specs.Calls.Load.{lengthIn, loadTests, loading, loadOf}
 use Rattle.rules.specs.Calls.Listing.{listingText, listingTests, listingOf}
+use Rattle.rules.specs.Calls.Repair.{repairTests, repairOf}
 use Rattle.rules.specs.Calls.Pack.{packTests}
 use Rattle.rules.specs.Calls.Format.{formatTests}
 use Rattle.rules.specs.Calls.Create.{createTests, creating, createOf}
@@ -48,13 +49,13 @@ use Rattle.rules.proofs.Listed.{opened-listed}
 use Rattle.demands.specs.Call as call
 use Rattle.demands.specs.Call.{Form, numberIn, Look, Change, Call, namesOf, changeRule, ruleOf, numberOf}
 use Rattle.demands.specs.Ours.{seen, outcome, ours}
-use Rattle.demands.specs.Grounds.{Ground, ground, First, faults, nowhere, lookGrounds, changeGrounds, grounds, isProtected, Has, Present, Overfull, NewOverfull, TextOver}
+use Rattle.demands.specs.Grounds.{Ground, ground, First, faults, nowhere, lookGrounds, changeGrounds, grounds, isProtected, Has, Present, Overfull, NewOverfull, TextOver, mendingFaults}
 use Rattle.demands.specs.Taking.{Takes}
 use Rattle.demands.proofs.Carried.{answer-number, amount-number, summary-number, named-number, loaded-number}
 use Rattle.demands.proofs.Taking.{lowest-one, takes-one, descriptor-lowest, append-takes, new-takes}
 use Rattle.demands.proofs.Lines.{listing-lists, lists-one}
 use Rattle.demands.proofs.Deciding.{Decides, Decide, first-after, first-ground, decide-both, broken, equal, unequal, below, at-most}
-use Rattle.demands.proofs.Faults.{sized-is, is-sized, faults-decided}
+use Rattle.demands.proofs.Faults.{sized-is, is-sized, faults-decided, mending-decided}
 use Rattle.demands.proofs.Creates.{status-among, among-status}
 use Rattle.demands.proofs.Opening.{of-file, unnamed, sound-first, name-first, directory-first, absent-first, present-first}
 
@@ -232,9 +233,10 @@ change-first layout (call.rename new) image directory name = rename-first layout
 
 -- each call
 pub progress : (layout : Layout) (c : Call) (image : List ℕ) → First (numberOf (ours layout) c image) (grounds (ruleOf layout c) c image)
-unfolding ours grounds formatTests Decide
+unfolding ours grounds formatTests repairOf Decide
 progress layout (call.look look buffer) image = look-first layout look buffer image
 progress layout (call.change directory name change) image = rw (named-number (namesOf name change) (outcome layout change image directory name .number)) (change-first layout change image directory name)
+progress layout call.repair image = rw (answer-number (firstOf (repairTests layout image))) (first-ground (repairTests layout image) (mendingFaults layout image) (mending-decided layout image))
 progress layout (call.format n name g) image =
     rw (named-number (call.one name) (firstOf (formatTests image n name)))
     (first-ground (formatTests image n name) _

@@ -5,7 +5,7 @@ use Prim.Native.Nat.{ℕ, _≤_}
 use native.Mathlib.Omega.{arith}
 use lib.Seq.{getD-take}
 use Rattle.rules.specs.Bytes.{bitOf, withBit}
-use Rattle.rules.specs.Sectors.{sectorOf, sectorCount, written}
+use Rattle.rules.specs.Sectors.{sectorOf, sectorCount, sectorsIn, written}
 use Rattle.rules.specs.Kind.{allowedBits, withMarks}
 use Rattle.rules.specs.Descriptor.{statusOf}
 use Rattle.rules.specs.Volume.{indexAt, headerIn, fileIn, catalogue}
@@ -24,26 +24,28 @@ use Rattle.demands.specs.Effects.{effect, Done, withStatus}
 use Rattle.demands.specs.Grounds.{Has}
 use Rattle.demands.specs.Touches.{Stays, TouchesIn}
 use Rattle.demands.specs.Does.{Does}
-use Rattle.demands.proofs.Replacing.{byte-done, byte-stays}
+use Rattle.demands.proofs.Replacing.{byte-done, byte-stays, found-has}
 
 -- the 08 bit and the 10 bit of the file at sector k, one law over both
 module _ (layout : Layout) (j bit : ℕ) (small : bit ≤ 1) (low : 3 ≤ j) (high : j ≤ 4) (fits : bitOf (allowedBits layout) j ≡ 0 → bit ≡ 0) where
   bit-there : (image name : List ℕ) (i p k : ℕ) → IsOpened layout image name i p k →
       let after = written image (settingBit j bit image k .writes) in
-      Done layout image after i name (effect (changed name (withStatus j bit) (catalogue image i)) 0 0) × Has image i name (λ k. Stays image after i name k (k ∷ []))
-  unfolding settingBit written withStatus fileIn headerIn
+      Done layout image after i name (effect (changed name (withStatus j bit) (catalogue image i)) 0 0)
+      × Has image i name (λ h. Stays image after i name h (h ∷ []) × (sectorsIn (settingBit j bit image k .writes) ≡ h ∷ []))
+  unfolding settingBit sectorsIn written withStatus fileIn headerIn
   bit-there image name i p k o =
       let d = sectorOf image k in
       let value = withBit (statusOf d) j bit in
       let rules = bit-rules layout j bit small low high fits d (o .long) (sectorCount image) (o .descriptor) in (
         byte-done layout image name i p k o 12 value (omega arith) (omega arith) rules (withStatus j bit) (rw (getD-take 28 d 12 0 (omega arith))),
-        byte-stays layout image name i p k o 12 value (omega arith) (omega arith) rules,
+        found-has layout image name i p k o (byte-stays layout image name i p k o 12 value (omega arith) (omega arith) rules, refl),
       )
 
   bit-done : (image : List ℕ) (directory : ℕ) (name : List ℕ) → setBitOf layout j bit image directory name .number ≡ 0 →
       let after = written image (setBitOf layout j bit image directory name .writes) in
       let i = indexAt layout image directory in
-      Done layout image after i name (effect (changed name (withStatus j bit) (catalogue image i)) 0 0) × Has image i name (λ k. Stays image after i name k (k ∷ []))
+      Done layout image after i name (effect (changed name (withStatus j bit) (catalogue image i)) 0 0)
+      × Has image i name (λ h. Stays image after i name h (h ∷ []) × (sectorsIn (setBitOf layout j bit image directory name .writes) ≡ h ∷ []))
   unfolding setBitOf
   bit-done image directory name e =
       let c = changed-done (openOf layout image directory name) (λ i k. settingBit j bit image k) (open-refused layout image directory name) e in

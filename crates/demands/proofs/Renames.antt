@@ -7,7 +7,7 @@ use Prim.Native.Nat.{ℕ, _≤_, _<_}
 use native.Mathlib.Omega.{arith}
 use lib.ListN.{length}
 use Rattle.rules.specs.Bytes.{byteAt, splice}
-use Rattle.rules.specs.Sectors.{Write, sectorOf, sectorCount, written}
+use Rattle.rules.specs.Sectors.{Write, sectorOf, sectorCount, written, sectorsIn}
 use Rattle.rules.specs.Name.{nameRule, IsName}
 use Rattle.rules.specs.Map.{count}
 use Rattle.rules.specs.Chain.{places}
@@ -159,13 +159,13 @@ module _ (layout : Layout) (image : List ℕ) (i : ℕ) (old new : List ℕ) (k 
       (catalogue-after layout replaced old is-named ∙ rw (file-now, named-file layout image i old k is indexed there is-named))
       (rw places-now refl)
 
-  renamed-stays : Stays image after i new k (i ∷ (k ∷ []))
+  renamed-stays : Stays image after i new k (k ∷ (i ∷ []))
   renamed-stays =
       record {
         lies =
             lies-after layout replaced (placesIn image k) (chainOf (sectorOf image k)) places-now
             (ap chainOf sector-k ∙ chain-now);
-        others = λ j inside apart. let some = count-apart j i (k ∷ []) apart in others j (count-apart j k [] (some .1) .0) (some .0);
+        others = λ j inside apart. let some = count-apart j k (i ∷ []) apart in others j (some .0) (count-apart j i [] (some .1) .0);
       }
 
 -- a file that was found under its old name: the volume is sound, and both names keep the rule
@@ -186,7 +186,7 @@ both-refused layout image directory old new =
 
 -- number 0: the old name is found and the new one is not, and the file is not protected
 pub renames : (layout : Layout) (new : List ℕ) → Does layout (rename new)
-unfolding outcome renameOf renaming renamingIn TouchesIn
+unfolding outcome renameOf renaming renamingIn TouchesIn sectorsIn
 renames layout new image directory old e =
     let was = changed-done (openBoth layout image directory old new) (renaming layout image new) (both-refused layout image directory old new) e in
     let i = was .index in
@@ -204,5 +204,6 @@ renames layout new image directory old e =
         renamed-stays layout image i old new k (opened .whole) (opened .indexed) there (opened .named) is-name absent,
         still-listed image _ i k
             (numbers-after layout (replaced layout image i old new k (opened .whole) (opened .indexed) there (opened .named) is-name absent) (index-now layout image i old new k (opened .whole) (opened .indexed) there (opened .named) is-name absent)),
+        refl,
       ),
     )

@@ -202,12 +202,11 @@ module _ (layout : Layout) (image name : List ℕ) (i p k : ℕ) (o : IsOpened l
       altered-done layout byte-altered name (o .named) change
       (e ∙ sym (redescribed-file layout image i k (o .whole) (o .indexed) (opened-listed layout image name i p k o) (set d b value) long rules named chain ∙ rw (take-set-lt 28 d b value high)))
 
-  pub byte-stays : Has image i name (λ j. Stays image byte-after i name j (j ∷ []))
+  pub byte-stays : Stays image byte-after i name k (k ∷ [])
   byte-stays =
-      found-has layout image name i p k o
-      (record {
+      record {
         lies =
             rw (append-nil (placesIn image k)) at
             (altered-lies layout byte-altered name (o .named) (chainOf d) (ap chainOf (own-here layout image i k (o .whole) (o .indexed) (opened-listed layout image name i p k o) k (set d b value) long (omega (arith, count-here k (placesIn image k)))) ∙ chain));
         others = λ j inside apart. sector-other image k (set d b value) long j (count-apart j k [] apart .0);
-      })
+      }

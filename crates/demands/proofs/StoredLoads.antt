@@ -87,7 +87,7 @@ module _ (layout : Layout) (version : Version) (all : Demand2 layout version) (d
     unfolding Means
     changed = all .means storing image is zero .0
 
-    enters : Enters image after i name (sectorsFor (length bytes))
+    enters : Enters image after i name (sectorsFor (length bytes)) (version storing image .order)
     unfolding Means TouchesIn
     enters = all .means storing image is zero .1
 

@@ -12,7 +12,7 @@ use lib.ListN.{length, getD}
 use borrow.Author.Tests.{eqb-false}
 use Rattle.rules.specs.Sectors.{sectorOf, sectorCount}
 use Rattle.rules.specs.Map.{count}
-use Rattle.rules.specs.Chain.{chainWith}
+use Rattle.rules.specs.Chain.{blocks, chainWith}
 use Rattle.rules.specs.Descriptor.{nameOf, chainOf}
 use Rattle.rules.specs.Index.{indexOf}
 use Rattle.rules.specs.Volume.{File, indexAt, filesIn, nameIn, placesIn, headerIn, contentsIn, fileIn}
@@ -171,14 +171,18 @@ module _ (layout : Layout) (image a b : List ℕ) (i : ℕ) (name : List ℕ) (e
       image-one touched (stays .others) (stays′ .others)
       (λ j some. here j some (descriptor-one own k places chain (stays .lies) (stays′ .lies)) (place-one own k places chain (stays .lies) (stays′ .lies)))
 
-  renamed-one : (own : List ℕ) (k : ℕ) → Stays image a i own k (i ∷ (k ∷ [])) → Stays image b i own k (i ∷ (k ∷ [])) → Numbers image a i [] [] → Numbers image b i [] [] → a ≡ b
+  -- a bit of its status
+  bit-one : (order order′ : List ℕ) → Has image i name (λ k. Stays image a i name k (k ∷ []) × (order ≡ k ∷ [])) → Has image i name (λ k. Stays image b i name k (k ∷ []) × (order′ ≡ k ∷ [])) → a ≡ b
+  bit-one order order′ t t′ = stays-one name (t .sector) _ (t .so .0) (of-first layout image i name is indexed t t′ .0) (λ j some same places. rw (only-one _ j some) at same)
+
+  renamed-one : (own : List ℕ) (k : ℕ) → Stays image a i own k (k ∷ (i ∷ [])) → Stays image b i own k (k ∷ (i ∷ [])) → Numbers image a i [] [] → Numbers image b i [] [] → a ≡ b
   renamed-one own k stays stays′ numbers numbers′ =
-      stays-one own k (i ∷ (k ∷ [])) stays stays′
+      stays-one own k (k ∷ (i ∷ [])) stays stays′
       (λ j some same places.
-      among Same i (k ∷ [])
-      (index-one (i ∷ (k ∷ [])) (stays .others) (stays′ .others) [] [] numbers numbers′
-      (λ h more apart other. rw (only-one k h (omega (arith, other, count-other h i (k ∷ []) (λ e. apart (sym e))))) at same))
-      (λ h other. rw (only-one k h other) at same) j some)
+      among Same k (i ∷ []) same
+      (among Same i []
+      (index-one (k ∷ (i ∷ [])) (stays .others) (stays′ .others) [] [] numbers numbers′ (λ h more apart some. among (λ g. (g ≡ i → ⊥) → Same g) k (i ∷ []) (λ away. same) (λ g other away. absurd (away (sym (only-one i g other)))) h some apart))
+      (none Same)) j some)
 
   -- a file that goes
   leaves-one : (k : ℕ) → Leaves image a i k → Leaves image b i k → a ≡ b
@@ -231,21 +235,48 @@ module _ (layout : Layout) (image a b : List ℕ) (i : ℕ) (name : List ℕ) (e
       (index-one touched (gains .others) others′ [] (k ∷ []) numbers numbers′ (λ j more apart some. held j (omega (arith, some, behind-system i j (k ∷ gains .taken .ks) more apart))))
       held))
 
-  enters-one : (m : ℕ) → Enters image a i name m → Enters image b i name m → a ≡ b
-  enters-one m enters enters′ =
+  enters-one : (m : ℕ) (order order′ : List ℕ) → Enters image a i name m order → Enters image b i name m order′ → a ≡ b
+  enters-one m order order′ enters enters′ =
       let e = lowest-one image [] 2 (enters′ .k) (enters .k) (enters′ .chosen) (enters .chosen) in
       entered-one m (enters .k) (enters .gains) (rw e at (enters′ .gains)) (enters .numbers) (rw e at (enters′ .numbers))
 
-  pub touches-one : (change : Change) → TouchesIn layout change image a i name → TouchesIn layout change image b i name → a ≡ b
+  pub touches-one : (change : Change) (order order′ : List ℕ) → TouchesIn layout change image a i name order → TouchesIn layout change image b i name order′ → a ≡ b
   unfolding TouchesIn
-  touches-one (call.create status recordLength recordsPerSector) t t′ = enters-one 0 t t′
-  touches-one (call.store bytes) t t′ = enters-one _ t t′
-  touches-one (call.append bytes) t t′ = grown-one (t .sector) _ _ (t .so) (of-first layout image i name is indexed t t′)
-  touches-one (call.overwrite offset bytes) t t′ =
+  touches-one (call.create status recordLength recordsPerSector) o o′ t t′ = enters-one 0 o o′ t t′
+  touches-one (call.store bytes) o o′ t t′ = enters-one _ o o′ t t′
+  touches-one (call.append bytes) o o′ t t′ = grown-one (t .sector) _ _ (t .so .gains) (of-first layout image i name is indexed t t′ .gains)
+  touches-one (call.overwrite offset bytes) o o′ t t′ =
       stays-one name (t .sector) _ (t .so .1) (of-first layout image i name is indexed t t′ .1)
       (λ j some same places. overwrite-among layout Same (t .sector) (getD (placesIn image (t .sector)) offset 0) same (places _ (count-at (placesIn image (t .sector)) offset (t .so .0))) j some)
-  touches-one call.protect t t′ = stays-one name (t .sector) _ (t .so) (of-first layout image i name is indexed t t′) (λ j some same places. rw (only-one _ j some) at same)
-  touches-one call.unprotect t t′ = stays-one name (t .sector) _ (t .so) (of-first layout image i name is indexed t t′) (λ j some same places. rw (only-one _ j some) at same)
-  touches-one call.clear t t′ = stays-one name (t .sector) _ (t .so) (of-first layout image i name is indexed t t′) (λ j some same places. rw (only-one _ j some) at same)
-  touches-one call.delete t t′ = leaves-one (t .sector) (t .so) (of-first layout image i name is indexed t t′)
-  touches-one (call.rename new) t t′ = let second = of-first layout image i name is indexed t t′ in renamed-one new (t .sector) (t .so .0) (second .0) (t .so .1) (second .1)
+  touches-one call.protect o o′ t t′ = bit-one o o′ t t′
+  touches-one call.unprotect o o′ t t′ = bit-one o o′ t t′
+  touches-one call.clear o o′ t t′ = bit-one o o′ t t′
+  touches-one call.delete o o′ t t′ = leaves-one (t .sector) (t .so .0) (of-first layout image i name is indexed t t′ .0)
+  touches-one (call.rename new) o o′ t t′ = let second = of-first layout image i name is indexed t t′ in renamed-one new (t .sector) (t .so .0) (second .0) (t .so .1) (second .1)
+
+-- and the orders of their writes
+module _ (layout : Layout) (image a b : List ℕ) (i : ℕ) (name : List ℕ) (is : Sound layout image) (indexed : IsIndexed layout image i) where
+  chosen-order : (m : ℕ) (order order′ : List ℕ) → Enters image a i name m order → Enters image b i name m order′ → order ≡ order′
+  chosen-order m order order′ enters enters′ =
+      let e = lowest-one image [] 2 (enters′ .k) (enters .k) (enters′ .chosen) (enters .chosen) in
+      let taken = enters .gains .taken in
+      let taken′ = enters′ .gains .taken in
+      let same = takes-one image (enters .k ∷ []) [] [] (taken .ks) (taken′ .ks) (taken .chain) (taken′ .chain) (taken .so-many ∙ sym (taken′ .so-many)) (taken .takes) (rw e at (taken′ .takes)) .0 in
+      enters .writes ∙ ap (λ (ks : List ℕ). ks ++ (enters .k ∷ (0 ∷ (i ∷ [])))) same ∙ ap (λ (k : ℕ). taken′ .ks ++ (k ∷ (0 ∷ (i ∷ [])))) (sym e) ∙ sym (enters′ .writes)
+
+  pub orders-one : (change : Change) (order order′ : List ℕ) → TouchesIn layout change image a i name order → TouchesIn layout change image b i name order′ → order ≡ order′
+  unfolding TouchesIn
+  orders-one (call.create status recordLength recordsPerSector) o o′ t t′ = chosen-order 0 o o′ t t′
+  orders-one (call.store bytes) o o′ t t′ = chosen-order _ o o′ t t′
+  orders-one (call.append bytes) o o′ t t′ =
+      let second = of-first layout image i name is indexed t t′ in
+      let taken = t .so .gains .taken in
+      let taken′ = second .gains .taken in
+      let same = takes-one image [] (placesIn image (t .sector)) (blocks (chainOf (sectorOf image (t .sector)))) (taken .ks) (taken′ .ks) (taken .chain) (taken′ .chain) (taken .so-many ∙ sym (taken′ .so-many)) (taken .takes) (taken′ .takes) .0 in
+      t .so .writes ∙ ap (λ (ks : List ℕ). ks ++ (0 ∷ (t .sector ∷ []))) same ∙ sym (second .writes)
+  orders-one (call.overwrite offset bytes) o o′ t t′ = t .so .2 ∙ sym (of-first layout image i name is indexed t t′ .2)
+  orders-one call.protect o o′ t t′ = t .so .1 ∙ sym (of-first layout image i name is indexed t t′ .1)
+  orders-one call.unprotect o o′ t t′ = t .so .1 ∙ sym (of-first layout image i name is indexed t t′ .1)
+  orders-one call.clear o o′ t t′ = t .so .1 ∙ sym (of-first layout image i name is indexed t t′ .1)
+  orders-one call.delete o o′ t t′ = t .so .1 ∙ sym (t′ .so .1)
+  orders-one (call.rename new) o o′ t t′ = t .so .2 ∙ sym (of-first layout image i name is indexed t t′ .2)

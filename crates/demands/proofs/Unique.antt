@@ -37,9 +37,9 @@ unfolding Says answered
 says-names (call.one name) given number said = says-named (wrongPlace name) given number said
 says-names (call.both old new) given number said = says-rename (wrongPlace old) (wrongPlace new) given number said
 
-pub same-result : (form : Form) (answer answer′ : Answered form) (buffer buffer′ image image′ : List ℕ) → answer ≡ answer′ → buffer ≡ buffer′ → image ≡ image′
-    → _≡_ {A = Result form} (record { answer = answer; buffer = buffer; image = image }) (record { answer = answer′; buffer = buffer′; image = image′ })
-same-result form answer answer′ buffer buffer′ image image′ a b i = rw (a, b, i)
+pub same-result : (form : Form) (answer answer′ : Answered form) (buffer buffer′ image image′ order order′ : List ℕ) → answer ≡ answer′ → buffer ≡ buffer′ → image ≡ image′ → order ≡ order′
+    → _≡_ {A = Result form} (record { answer = answer; buffer = buffer; image = image; order = order }) (record { answer = answer′; buffer = buffer′; image = image′; order = order′ })
+same-result form answer answer′ buffer buffer′ image image′ order order′ a b i o = rw (a, b, i, o)
 
 look-ours : (layout : Layout) {form : Form} (look : Look form) (buffer image : List ℕ) (given : Answered form) (after : List ℕ) → LookPromised layout look buffer image given after
     → (given ≡ seen layout look buffer image .answer) × (after ≡ seen layout look buffer image .buffer)
@@ -57,9 +57,12 @@ pub is-ours : (layout : Layout) → IsOurs layout
 unfolding IsOurs Promised ours
 is-ours layout (call.look {form} look buffer) image r p =
     let seen-so = look-ours layout look buffer image (r .answer) (r .buffer) (p .0) in
-    same-result form (r .answer) _ (r .buffer) _ (r .image) image (seen-so .0) (seen-so .1) (p .1)
-is-ours layout (call.change directory name change) image r p = same-result (formOf (call.change directory name change)) (r .answer) _ (r .buffer) [] (r .image) _ (says-names (namesOf name change) (r .answer) _ (p .0 .said)) (p .1) (p .0 .left)
-is-ours layout (call.format n name geometry) image r p = same-result (formOf (call.format n name geometry)) (r .answer) _ (r .buffer) [] (r .image) _ (says-names (call.one name) (r .answer) _ (p .0)) (p .2) (p .1)
+    same-result form (r .answer) _ (r .buffer) _ (r .image) image (r .order) [] (seen-so .0) (seen-so .1) (p .1) (p .2)
+is-ours layout (call.change directory name change) image r p =
+    same-result (formOf (call.change directory name change)) (r .answer) _ (r .buffer) [] (r .image) _ (r .order) _ (says-names (namesOf name change) (r .answer) _ (p .0 .said)) (p .1) (p .0 .left) (p .2)
+is-ours layout call.repair image r p = same-result (formOf call.repair) (r .answer) _ (r .buffer) [] (r .image) _ (r .order) _ (says-answer (r .answer) _ (p .0 .said)) (p .1) (p .0 .left) (p .2)
+is-ours layout (call.format n name geometry) image r p =
+    same-result (formOf (call.format n name geometry)) (r .answer) _ (r .buffer) [] (r .image) _ (r .order) [] (says-names (call.one name) (r .answer) _ (p .0)) (p .2) (p .1) (p .3)
 
 pub unique : (layout : Layout) → Unique layout
 unfolding Unique IsOurs

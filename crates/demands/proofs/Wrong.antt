@@ -149,7 +149,7 @@ unfolding OnlyReports
 only-reports layout version kind all = append-marks layout version all (kind (caseM layout) 0 notes secondSector (sound layout (caseM layout) (computed layout .judged)) (rw (root-at layout (caseM layout)) (computed layout .held)))
 
 -- what demand 2 says of the sectors where a change was done
-touched : (layout : Layout) (version : Version) → Demand2 layout version → {change : Change} → (some : Instance layout version change) → Touches (changeRule layout change) change (some .image) (after some) (some .directory) (some .name)
+touched : (layout : Layout) (version : Version) → Demand2 layout version → {change : Change} → (some : Instance layout version change) → Touches (changeRule layout change) change (some .image) (after some) (some .directory) (some .name) (version (call.change (some .directory) (some .name) change) (some .image) .order)
 unfolding Means
 touched layout version all {change} some = all .means (call.change (some .directory) (some .name) change) (some .image) (some .sound) (some .done) .1
 
@@ -171,7 +171,7 @@ wipes layout version kind all =
     let indexed = there layout version all some in
     let inside = own-inside layout (some .image) i (some .k) (some .sound) indexed (some .listed) (kind .sector) (kind .own) in
     let apart = own-other layout (some .image) i (some .k) (some .sound) indexed (some .listed) (kind .sector) (kind .own) in
-    kind .wiped (touched layout version all some .so .others (kind .sector) (inside .1) (behind-system i (kind .sector) [] (λ e. omega (arith, e, inside .0)) apart ∙ count-none (kind .sector)))
+    kind .wiped (touched layout version all some .so .0 .others (kind .sector) (inside .1) (behind-system i (kind .sector) [] (λ e. omega (arith, e, inside .0)) apart ∙ count-none (kind .sector)))
 
 moves-data : (layout : Layout) (version : Version) → MovesData layout version → Demand2 layout version → ⊥
 unfolding TouchesIn
@@ -196,7 +196,7 @@ takes-higher : (layout : Layout) (version : Version) → TakesHigher layout vers
 unfolding TouchesIn
 takes-higher layout version kind all =
     let some = kind .some in
-    let gains = touched layout version all some .so in
+    let gains = touched layout version all some .so .gains in
     let apart = taken-low (some .image) _ (gains .taken .chain) _ (gains .taken .ks) (kind .lower) (kind .higher) (kind .order .0) (kind .order .1) (kind .lower-free) (gains .taken .takes) (gains .taken .so-many) in
     let stays = all-other 1 (omega arith) (sectorOf (some .image) 0) (gains .taken .ks) (kind .higher) apart in
     omega (arith, sym (kind .taken) ∙ ap (λ (s : List ℕ). mapBit s (kind .higher)) (gains .map) ∙ stays ∙ kind .higher-free .free)

@@ -1,5 +1,5 @@
--- Any call of the paper with any arguments, and any version of the software: what it answers to each call, and what it leaves of the image and of the buffer lent.
--- A call looks at a volume, changes the file that it names, or formats; what it answers with is said once for each form of an answer.
+-- Any call of the paper with any arguments, and any version of the software: what it answers to each call, what it leaves of the image and of the buffer lent, and in which order the sectors are to be written.
+-- A call looks at a volume, changes the file that it names, repairs, or formats; what it answers with is said once for each form of an answer.
 use mathlib.Core.Path.{_≡_}
 use mathlib.Core.List.{List, [], _∷_}
 use Prim.Native.Nat.{ℕ}
@@ -142,6 +142,7 @@ pub data Change : Type 0 where
 pub data Call : Type 0 where
   look : {form : Form} → Look form → (buffer : List ℕ) → Call
   change : (directory : ℕ) (name : List ℕ) → Change → Call
+  repair : Call
   format : (n : ℕ) (name : List ℕ) (geometry : Geometry) → Call
 
 -- the rule that a call goes by: the one that was chosen; clearing a mark goes by the rule with marks always
@@ -159,6 +160,7 @@ changeRule layout (rename new) = layout
 abbrev pub ruleOf : Layout → Call → Layout
 ruleOf layout (look this buffer) = layout
 ruleOf layout (change directory name this) = changeRule layout this
+ruleOf layout repair = layout
 ruleOf layout (format n name geometry) = layout
 
 -- the names of a change
@@ -177,18 +179,22 @@ namesOf name (rename new) = both name new
 abbrev pub formOf : Call → Form
 formOf (look {form} this buffer) = form
 formOf (change directory name this) = named (namesOf name this)
+formOf repair = answer
 formOf (format n name geometry) = named (one name)
 
 -- the buffer lent to be filled, where there is one
 abbrev pub lent : Call → List ℕ
 lent (look this buffer) = buffer
 lent (change directory name this) = []
+lent repair = []
 lent (format n name geometry) = []
 
 pub record Result (form : Form) : Type 0 where
   pub answer : Answered form
   pub buffer : List ℕ
   pub image : List ℕ
+  -- the sectors that a host is to write through, in this order
+  pub order : List ℕ
 
 abbrev pub Version : Type 0
 Version = (call : Call) → List ℕ → Result (formOf call)

@@ -19,6 +19,7 @@ use Rattle.rules.specs.declared.Summary.the-variants as summary
 use Rattle.demands.specs.Effects.{Kept, Changed}
 use Rattle.demands.specs.Lines.{Lists}
 use Rattle.demands.specs.Touches.{Touches}
+use Rattle.demands.specs.Repairing.{Mends}
 use Rattle.demands.specs.Packing.{Packs}
 use Rattle.demands.specs.Formatting.{EmptyVolume, Formats}
 use Rattle.demands.specs.Catalogue.{named, fileOf, lengthIs, rowIs}
@@ -67,13 +68,22 @@ Shows layout call.pack buffer image r = Sound layout (r .buffer) × Packs layout
 -- what a call that was done means: of what it gives back, or on the catalogue and the sectors
 unfoldable pub Means : Layout → (c : Call) → List ℕ → Result (formOf c) → Type 0
 Means layout (call.look look buffer) image r = Shows layout look buffer image r
-Means layout (call.change directory name change) image r = Changed layout change image (r .image) directory name × Touches layout change image (r .image) directory name
+Means layout (call.change directory name change) image r = Changed layout change image (r .image) directory name × Touches layout change image (r .image) directory name (r .order)
+Means layout call.repair image r = Mends layout image (r .image) (r .order)
 Means layout (call.format n name geometry) image r = EmptyVolume layout (r .image) × Formats n name geometry (r .image)
 
--- what a call leaves as it stood, done or refused: a look the image; a change the label with its entries, every index but that of the directory it names, and every file but the one it names there; formatting leaves nothing
+-- a host is given the order of the writes of a change and of repair
+unfoldable pub Unlisted : Call → List ℕ → Type 0
+Unlisted (call.look look buffer) order = order ≡ []
+Unlisted (call.change directory name change) order = Unit {0}
+Unlisted call.repair order = Unit {0}
+Unlisted (call.format n name geometry) order = order ≡ []
+
+-- what a call leaves as it stood, done or refused: a look the image; a change the label with its entries, every index but that of the directory it names, and every file but the one it names there; repair the catalogues; formatting leaves nothing
 unfoldable pub Frame : Layout → Call → List ℕ → List ℕ → Type 0
 Frame layout (call.look look buffer) image after = after ≡ image
 Frame layout (call.change directory name change) image after = Kept layout image after (indexAt layout image directory) name
+Frame layout call.repair image after = catalogues layout after ≡ catalogues layout image
 Frame layout (call.format n name geometry) image after = Unit {0}
 
 pub record Demand2 (layout : Layout) (version : Version) : Type 0 where
@@ -81,13 +91,15 @@ pub record Demand2 (layout : Layout) (version : Version) : Type 0 where
   pub carries : (c : Call) (image : List ℕ) → Carries (formOf c) (version c image .answer)
   -- the image and the buffer lent keep their lengths
   pub lengths : (c : Call) (image : List ℕ) → (length (version c image .image) ≡ length image) × (length (version c image .buffer) ≡ length (lent c))
-  -- a number other than 0 leaves every buffer as it was, whatever the image
-  pub refuses : (c : Call) (image : List ℕ) → (numberOf version c image ≡ 0 → ⊥) → (version c image .image ≡ image) × (version c image .buffer ≡ lent c)
-  -- a sound volume stays sound through any list of calls; what formatting makes of any image is sound
+  -- a number other than 0 leaves every buffer as it was, whatever the image, and lists no sector
+  pub refuses : (c : Call) (image : List ℕ) → (numberOf version c image ≡ 0 → ⊥) → (version c image .image ≡ image) × (version c image .buffer ≡ lent c) × (version c image .order ≡ [])
+  pub unlisted : (c : Call) (image : List ℕ) → Unlisted c (version c image .order)
+  -- a sound volume stays sound through any list of calls; what formatting makes of any image is sound, and what repair makes of one that it accepts
   pub sound : (calls : List Call) (image : List ℕ) → Sound layout image → Sound layout (run version calls image)
   pub formats : (n : ℕ) (name : List ℕ) (geometry : Geometry) (image : List ℕ) →
       let c = call.format n name geometry in
       numberOf version c image ≡ 0 → Means layout c image (version c image)
+  pub mends : (image : List ℕ) → numberOf version call.repair image ≡ 0 → Means layout call.repair image (version call.repair image)
   -- the frame
   pub frame : (c : Call) (image : List ℕ) → Sound (ruleOf layout c) image → Frame (ruleOf layout c) c image (version c image .image)
   -- the meaning

@@ -3,7 +3,7 @@ use mathlib.Core.Path.{_≡_}
 use mathlib.Core.Bool.{true}
 use mathlib.Core.List.{List}
 use Prim.Native.Nat.{ℕ, _≤_}
-use Rattle.rules.specs.Sectors.{written}
+use Rattle.rules.specs.Sectors.{sectorsIn, written}
 use Rattle.rules.specs.Name.{nameRule}
 use Rattle.rules.specs.Calls.Format.{Geometry, formatted, formatNumber, afterFormat}
 use Rattle.rules.specs.declared.Layout.{Layout}
@@ -13,11 +13,11 @@ use Rattle.demands.specs.Effects.{Changed}
 use Rattle.demands.specs.Touches.{Touches}
 use Rattle.demands.specs.Formatting.{EmptyVolume}
 
--- a change: what it leaves of the catalogue, and of the sectors
+-- a change: what it leaves of the catalogue, and of the sectors, and their order
 abbrev pub Does : Layout → Change → Type 0
 Does layout change = (image : List ℕ) (directory : ℕ) (name : List ℕ) → outcome layout change image directory name .number ≡ 0 →
     let after = written image (outcome layout change image directory name .writes) in
-    Changed (changeRule layout change) change image after directory name × Touches (changeRule layout change) change image after directory name
+    Changed (changeRule layout change) change image after directory name × Touches (changeRule layout change) change image after directory name (sectorsIn (outcome layout change image directory name .writes))
 
 -- the bytes that formatting writes
 unfoldable pub Formatting : Layout → Type 0

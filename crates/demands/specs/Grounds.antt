@@ -65,6 +65,19 @@ faults layout image =
     ∷ (ground 5 (HeldTwice layout image)
     ∷ (ground 6 (HasMap layout image → ⊥) ∷ [])))))
 
+-- 1 to 5 as repair has them: distinct names may stand in any order
+pub record HasNames (layout : Layout) (image : List ℕ) : Type 0 where
+  pub descriptors : (i : ℕ) → IsIndexed layout image i → (p : ℕ) → p < length (filesIn image i) → IsDescriptor layout (sectorCount image) (sectorOf image (fileAt image i p))
+  pub distinct : (i : ℕ) → IsIndexed layout image i → (p q : ℕ) → p < q → q < length (filesIn image i) → nameIn image (fileAt image i p) ≡ nameIn image (fileAt image i q) → ⊥
+
+unfoldable pub mendingFaults : Layout → List ℕ → List {1} Ground
+mendingFaults layout image =
+    ground 1 (IsSize image → ⊥)
+    ∷ (ground 2 (IsLabel (sectorCount image) (sectorOf image 0) → ⊥)
+    ∷ (ground 3 (HasIndexes layout image → ⊥)
+    ∷ (ground 4 (HasNames layout image → ⊥)
+    ∷ (ground 5 (HeldTwice layout image) ∷ []))))
+
 -- 8: there is no directory of that number
 abbrev pub nowhere : Layout → List ℕ → ℕ → Ground
 nowhere layout image directory = ground 8 (indexAt layout image directory ≡ 0)
@@ -165,5 +178,6 @@ unfoldable pub grounds : Layout → Call → List ℕ → List {1} Ground
 grounds layout (call.look look buffer) image = faults layout image ++ lookGrounds layout look buffer image
 grounds layout (call.change directory name change) image =
     faults layout image ++ nameGrounds (namesOf name change) (nowhere layout image directory ∷ changeGrounds change image (indexAt layout image directory) name)
+grounds layout call.repair image = mendingFaults layout image
 grounds layout (call.format n name geometry) image =
     ground 1 (IsSize image → ⊥) ∷ (ground 1 (n ≡ sectorCount image → ⊥) ∷ (ground 7 (IsName name → ⊥) ∷ []))

@@ -8,6 +8,7 @@ pub mod Taking
 pub mod Lines
 pub mod Grounds
 pub mod Touches
+pub mod Repairing
 pub mod CaseM
 pub mod Bench
 pub mod Formatting

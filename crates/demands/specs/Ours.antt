@@ -3,7 +3,7 @@ use mathlib.Core.List.{List, []}
 use Prim.Native.Nat.{ℕ}
 use lib.ListN.{length}
 use Rattle.rules.specs.Bytes.{splice}
-use Rattle.rules.specs.Sectors.{written}
+use Rattle.rules.specs.Sectors.{sectorsIn, written}
 use Rattle.rules.specs.Verdict.{verdict}
 use Rattle.rules.specs.Name.{wrongPlace}
 use Rattle.rules.specs.Outcome.{Outcome, answerOf, amountOf, namedAnswerOf, namedAmountOf, renameAnswerOf}
@@ -20,6 +20,7 @@ use Rattle.rules.specs.Calls.Protect.{protectOf, unprotectOf, clearOf}
 use Rattle.rules.specs.Calls.Store.{storeOf}
 use Rattle.rules.specs.Calls.Delete.{deleteOf}
 use Rattle.rules.specs.Calls.Rename.{renameOf}
+use Rattle.rules.specs.Calls.Repair.{repairOf}
 use Rattle.rules.specs.Calls.Pack.{packNumber, afterPack}
 use Rattle.rules.specs.declared.Layout.{Layout}
 use Rattle.demands.specs.Call as call
@@ -64,6 +65,9 @@ outcome layout call.delete image directory name = deleteOf layout image director
 outcome layout (call.rename new) image directory name = renameOf layout image directory name new
 
 unfoldable pub ours : Layout → Version
-ours layout (call.look look buffer) image = record { answer = seen layout look buffer image .answer; buffer = seen layout look buffer image .buffer; image = image }
-ours layout (call.change directory name change) image = record { answer = answered (namesOf name change) (outcome layout change image directory name .number); buffer = []; image = written image (outcome layout change image directory name .writes) }
-ours layout (call.format n name geometry) image = record { answer = answered (call.one name) (formatNumber image n name); buffer = []; image = afterFormat image n name geometry }
+ours layout (call.look look buffer) image = record { answer = seen layout look buffer image .answer; buffer = seen layout look buffer image .buffer; image = image; order = [] }
+ours layout (call.change directory name change) image =
+    let writes = outcome layout change image directory name .writes in
+    record { answer = answered (namesOf name change) (outcome layout change image directory name .number); buffer = []; image = written image writes; order = sectorsIn writes }
+ours layout call.repair image = record { answer = answerOf (repairOf layout image .number); buffer = []; image = written image (repairOf layout image .writes); order = sectorsIn (repairOf layout image .writes) }
+ours layout (call.format n name geometry) image = record { answer = answered (call.one name) (formatNumber image n name); buffer = []; image = afterFormat image n name geometry; order = [] }

@@ -1,5 +1,5 @@
--- Which sectors a change touches, and what it leaves there; every other sector stands as it stood. In the words of the choices where the layout is free. What a file then holds, header
--- and contents, the catalogue says (Effects).
+-- Which sectors a change touches, in which order they are to be written, and what it leaves there; every other sector stands as it stood. In the words of the choices where the layout is free.
+-- What a file then holds, header and contents, the catalogue says (Effects).
 use mathlib.Core.Path.{_≡_}
 use mathlib.Core.Bool.{cond}
 use mathlib.Core.List.{List, [], _∷_, _++_}
@@ -48,12 +48,18 @@ pub record Gains (image after : List ℕ) (i : ℕ) (name : List ℕ) (k : ℕ) 
   pub map : sectorOf after 0 ≡ markedAll 1 (sectorOf image 0) (first ++ taken .ks)
   pub others : Others image after (system ++ (k ∷ taken .ks))
 
--- a new file: its descriptor is chosen before its data
-pub record Enters (image after : List ℕ) (i : ℕ) (name : List ℕ) (many : ℕ) : Type 0 where
+-- a new file: its descriptor is chosen before its data. The writes: data in file order, descriptor, sector 0, index
+pub record Enters (image after : List ℕ) (i : ℕ) (name : List ℕ) (many : ℕ) (order : List ℕ) : Type 0 where
   pub k : ℕ
   pub chosen : ForDescriptor image k
   pub gains : Gains image after i name k (k ∷ []) [] [] many (0 ∷ (i ∷ []))
   pub numbers : Numbers image after i [] (k ∷ [])
+  pub writes : order ≡ gains .taken .ks ++ (k ∷ (0 ∷ (i ∷ [])))
+
+-- a file that takes one sector more: data, sector 0, descriptor
+pub record Grows (image after : List ℕ) (i : ℕ) (name : List ℕ) (order : List ℕ) (k : ℕ) : Type 0 where
+  pub gains : Gains image after i name k [] (placesIn image k) (blocks (chainOf (sectorOf image k))) 1 (0 ∷ [])
+  pub writes : order ≡ gains .taken .ks ++ (0 ∷ (k ∷ []))
 
 -- a file that goes: its number leaves the index, and the map bits of its descriptor and its data are zero now; those sectors keep their bytes
 pub record Leaves (image after : List ℕ) (i k : ℕ) : Type 0 where
@@ -65,20 +71,22 @@ pub record Leaves (image after : List ℕ) (i k : ℕ) : Type 0 where
 abbrev pub overwriteTouches : Layout → (k place : ℕ) → List ℕ
 overwriteTouches layout k place = cond (layout .marks) (k ∷ (place ∷ [])) (place ∷ [])
 
--- change by change: i is the sector of the index, k that of the descriptor of the file of that name
-unfoldable pub TouchesIn : Layout → Change → (image after : List ℕ) (i : ℕ) (name : List ℕ) → Type 0
-TouchesIn layout (call.create status recordLength recordsPerSector) image after i name = Enters image after i name 0
-TouchesIn layout (call.store bytes) image after i name = Enters image after i name (sectorsFor (length bytes))
-TouchesIn layout (call.append bytes) image after i name =
-    Has image i name (λ k. Gains image after i name k [] (placesIn image k) (blocks (chainOf (sectorOf image k))) 1 (0 ∷ []))
-TouchesIn layout (call.overwrite offset bytes) image after i name =
-    Has image i name (λ k. (offset < length (placesIn image k)) × Stays image after i name k (overwriteTouches layout k (getD (placesIn image k) offset 0)))
-TouchesIn layout call.protect image after i name = Has image i name (λ k. Stays image after i name k (k ∷ []))
-TouchesIn layout call.unprotect image after i name = Has image i name (λ k. Stays image after i name k (k ∷ []))
-TouchesIn layout call.clear image after i name = Has image i name (λ k. Stays image after i name k (k ∷ []))
-TouchesIn layout call.delete image after i name = Has image i name (Leaves image after i)
-TouchesIn layout (call.rename new) image after i name = Has image i name (λ k. Stays image after i new k (i ∷ (k ∷ [])) × Numbers image after i [] [])
+-- change by change: i is the sector of the index, k that of the descriptor of the file of that name. The writes of delete: index, sector 0; of rename: descriptor, index; of the others what they touch
+unfoldable pub TouchesIn : Layout → Change → (image after : List ℕ) (i : ℕ) (name order : List ℕ) → Type 0
+TouchesIn layout (call.create status recordLength recordsPerSector) image after i name order = Enters image after i name 0 order
+TouchesIn layout (call.store bytes) image after i name order = Enters image after i name (sectorsFor (length bytes)) order
+TouchesIn layout (call.append bytes) image after i name order = Has image i name (Grows image after i name order)
+TouchesIn layout (call.overwrite offset bytes) image after i name order =
+    Has image i name
+    (λ k.
+    let touched = overwriteTouches layout k (getD (placesIn image k) offset 0) in
+    (offset < length (placesIn image k)) × Stays image after i name k touched × (order ≡ touched))
+TouchesIn layout call.protect image after i name order = Has image i name (λ k. Stays image after i name k (k ∷ []) × (order ≡ k ∷ []))
+TouchesIn layout call.unprotect image after i name order = Has image i name (λ k. Stays image after i name k (k ∷ []) × (order ≡ k ∷ []))
+TouchesIn layout call.clear image after i name order = Has image i name (λ k. Stays image after i name k (k ∷ []) × (order ≡ k ∷ []))
+TouchesIn layout call.delete image after i name order = Has image i name (λ k. Leaves image after i k × (order ≡ i ∷ (0 ∷ [])))
+TouchesIn layout (call.rename new) image after i name order = Has image i name (λ k. Stays image after i new k (k ∷ (i ∷ [])) × Numbers image after i [] [] × (order ≡ k ∷ (i ∷ [])))
 
 -- in the directory of that number
-abbrev pub Touches : Layout → Change → (image after : List ℕ) (directory : ℕ) (name : List ℕ) → Type 0
-Touches layout change image after directory name = TouchesIn layout change image after (indexAt layout image directory) name
+abbrev pub Touches : Layout → Change → (image after : List ℕ) (directory : ℕ) (name order : List ℕ) → Type 0
+Touches layout change image after directory name order = TouchesIn layout change image after (indexAt layout image directory) name order

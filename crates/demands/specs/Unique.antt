@@ -1,9 +1,10 @@
--- What the code promises of a call fixes all that can be seen of it: its answer, the buffer lent and the image. So what keeps the promise is what our version does, and two
+-- What the code promises of a call fixes all that can be seen of it: its answer, the buffer lent, the image and the order of the writes. So what keeps the promise is what our version does, and two
 -- results that keep it are equal. And demand 2 alone fixes it too: it shuts out every version but one.
 use mathlib.Core.Path.{_≡_}
 use mathlib.Core.List.{List, []}
 use Prim.Native.Nat.{ℕ}
 use lib.ListN.{length}
+use Rattle.rules.specs.Sectors.{sectorsIn}
 use Rattle.rules.specs.Name.{wrongPlace}
 use Rattle.rules.specs.Verdict.{verdict}
 use Rattle.rules.specs.Outcome.{AnswerSays, AmountSays, NamedSays, NamedAmountSays, RenameSays, ReadSays, Meets, Gives}
@@ -13,6 +14,7 @@ use Rattle.rules.specs.Calls.Entry.{entryOf, entryRow, EntrySays}
 use Rattle.rules.specs.Calls.Read.{readOf}
 use Rattle.rules.specs.Calls.Load.{loadOf}
 use Rattle.rules.specs.Calls.Listing.{listingOf}
+use Rattle.rules.specs.Calls.Repair.{repairOf}
 use Rattle.rules.specs.Calls.Pack.{packNumber, afterPack}
 use Rattle.rules.specs.declared.Layout.{Layout}
 use Rattle.demands.specs.Call as call
@@ -39,10 +41,13 @@ Says (call.both old new) given number = RenameSays (wrongPlace old) (wrongPlace 
 
 -- and of a call
 unfoldable pub Promised : Layout → (c : Call) → List ℕ → Result (formOf c) → Type 0
-Promised layout (call.look look buffer) image r = LookPromised layout look buffer image (r .answer) (r .buffer) × (r .image ≡ image)
-Promised layout (call.change directory name change) image r = Meets (Says (namesOf name change)) (outcome layout change image directory name) (r .answer) image (r .image) × (r .buffer ≡ [])
+Promised layout (call.look look buffer) image r = LookPromised layout look buffer image (r .answer) (r .buffer) × (r .image ≡ image) × (r .order ≡ [])
+Promised layout (call.change directory name change) image r =
+    let outcome = outcome layout change image directory name in
+    Meets (Says (namesOf name change)) outcome (r .answer) image (r .image) × (r .buffer ≡ []) × (r .order ≡ sectorsIn (outcome .writes))
+Promised layout call.repair image r = Meets AnswerSays (repairOf layout image) (r .answer) image (r .image) × (r .buffer ≡ []) × (r .order ≡ sectorsIn (repairOf layout image .writes))
 Promised layout (call.format n name geometry) image r =
-    Says (call.one name) (r .answer) (formatNumber image n name) × (r .image ≡ afterFormat image n name geometry) × (r .buffer ≡ [])
+    Says (call.one name) (r .answer) (formatNumber image n name) × (r .image ≡ afterFormat image n name geometry) × (r .buffer ≡ []) × (r .order ≡ [])
 
 unfoldable pub IsOurs : Layout → Type 0
 IsOurs layout = (c : Call) (image : List ℕ) (r : Result (formOf c)) → Promised layout c image r → r ≡ ours layout c image
@@ -50,7 +55,7 @@ IsOurs layout = (c : Call) (image : List ℕ) (r : Result (formOf c)) → Promis
 unfoldable pub Unique : Layout → Type 0
 Unique layout = (c : Call) (image : List ℕ) (r r′ : Result (formOf c)) → Promised layout c image r → Promised layout c image r′ → r ≡ r′
 
--- two versions that meet demand 2 give the same answer, the same buffer and the same image, at every call with any arguments and on every image; so one that meets it is ours
+-- two versions that meet demand 2 give the same answer, the same buffer, the same image and the same order, at every call with any arguments and on every image; so one that meets it is ours
 unfoldable pub OneVersion : Layout → Type 0
 OneVersion layout = (v w : Version) → Demand2 layout v → Demand2 layout w → (c : Call) (image : List ℕ) → v c image ≡ w c image
 

@@ -1,16 +1,17 @@
 // An index anew: with a number taken out, with one put in its place by name, and with all of them in the order of their names. Each answers for any bytes with what the
 // rules' definitions say; numbers that do not fit into the sector are left out.
 ghost use mathlib.Core.Path.{_≡_};
-ghost use mathlib.Core.Bool.{true};
-ghost use mathlib.Core.List.{[], _∷_};
-ghost use Prim.Native.Nat.{_+_, _*_, _≤_, _<_};
+ghost use mathlib.Core.Bool.{true, not};
+ghost use mathlib.Core.List.{List, [], _∷_, _++_};
+ghost use Prim.Native.Nat.{ℕ, _+_, _*_, _%_, _≤_, _<_};
 ghost use lib.ListN.{length, drop, replicate};
 ghost use Rattle.rules.specs.Bytes.{splice};
 ghost use Rattle.rules.specs.Index.{numbers, numbersBytes, indexOf, without, IsIndex};
 ghost use Rattle.rules.specs.Sectors.{sectorCount, written};
-ghost use Rattle.rules.specs.Volume.{filesIn, placed};
+ghost use Rattle.rules.specs.Volume.{filesIn, nameIn, placed};
 ghost use Rattle.rules.specs.Outcome.{write};
-ghost use Rattle.rules.specs.Calls.Repair.{distinctRule, ordered};
+ghost use Rattle.rules.specs.Calls.Repair.{namedIn, distinctRule, ordered};
+ghost use Rattle.index.specs.Front.{InFront};
 use descriptor::name::precedes;
 use sector::buffer::write_sector;
 use sector::bytes::part;
@@ -81,10 +82,12 @@ pub fn index_with(index: &mut [u8; 256], image: &[u8], old: &[u8], name: &[u8], 
     copy_numbers(index, next, old, at);
 }
 
-// The number at byte `at` goes to its place by name among those before it, which are in order: those that come after it move up by one place. False where one
+// The number k goes to its place by name among those in the first `at` bytes, which are in order: those that come after it move up by one place. False where one
 // of them has its name; then the index is of no more use.
-fn settle(index: &mut [u8; 256], image: &[u8], at: usize) -> bool {
-    let k = word(index, at);
+fn settle(index: &mut [u8; 256], image: &[u8], at: usize, k: usize) -> bool
+    requires { ⌜ (at % 2 ≡ 0) × (at + 2 ≤ length (now index)) × (k < 65536) × (length (nameIn (now image) k) ≡ 10) ⌝ }
+    ensures { λ r. ⌜ ((front : List ℕ) → InFront (now (image .entry)) (now (index .entry)) at front → (r ≡ not (namedIn (now (image .entry)) (nameIn (now (image .entry)) k) front)) × (r ≡ true → now (index .exit) ≡ numbersBytes (placed (now (image .entry)) (nameIn (now (image .entry)) k) k front) ++ drop (at + 2) (now (index .entry)))) ⌝ }
+{
     let name = part(sector_of(image, k), 0, 10);
     let mut to = at;
     while to > 0 {
@@ -112,10 +115,11 @@ pub fn order_numbers(index: &mut [u8; 256], image: &[u8]) -> bool
 {
     let mut at = 0;
     loop {
-        if number_at(index, at) == 0 {
+        let k = number_at(index, at);
+        if k == 0 {
             return true;
         }
-        if !settle(index, image, at) {
+        if !settle(index, image, at, k) {
             return false;
         }
         at += 2;

@@ -14,10 +14,12 @@ use Rattle.rules.specs.Bytes.{byteAt, part, same}
 use Rattle.rules.specs.Sectors.{sectorOf, sectorCount}
 use Rattle.rules.specs.Chain.{run}
 use Rattle.rules.specs.Map.{mapBit, count, taken, mapRule, mapOf, byteOf, marked, markedAll}
+use Rattle.rules.specs.Descriptor.{IsDescriptor}
 use Rattle.rules.specs.Index.{indexRule}
 use Rattle.rules.specs.Directory.{entries}
 use Rattle.rules.specs.Volume.{indexes, filesIn, filesOf, fileHolders, holders}
 use Rattle.rules.specs.Verdict.{sizeRule, descriptorsRule, heldTwice}
+use Rattle.rules.specs.Sound.{fileAt, IsIndexed}
 use Rattle.rules.specs.declared.Layout.{Layout}
 use Rattle.rules.proofs.Tests.{absurd-test}
 use Rattle.rules.proofs.Bytes.{part-length, part-behind}
@@ -27,12 +29,12 @@ use Rattle.rules.proofs.Sectors.{sector-length, sector-below}
 use Rattle.rules.proofs.Index.{index-is}
 use Rattle.rules.proofs.Volume.{file-holders-inside}
 use Rattle.rules.proofs.Directory.{entries-are}
-use Rattle.rules.proofs.Indexes.{every-is, index-inside, held-append, files-range}
-use Rattle.rules.proofs.Verdict.{size-is, descriptors-are, ascend, held-once, once-held}
+use Rattle.rules.proofs.Indexes.{every-is, index-inside, held-append, files-ruled}
+use Rattle.rules.proofs.Verdict.{size-is, descriptors-are, held-once, once-held}
 use Rattle.rules.proofs.Formatted.{map-length}
 use Rattle.judge.specs.Claim.{asMap, clashes, Below, claims}
 use Rattle.judge.proofs.MarkLaws.{as-map-length, as-map-byte}
-use Rattle.judge.proofs.VerdictSteps.{Entered, FourPassed}
+use Rattle.judge.proofs.VerdictSteps.{Entered, Indexed, FourPassed}
 
 -- Where none clashes, no sector gets a second mark.
 clash-once : (sector0 hs : List ℕ) → length sector0 ≡ 256 → clashes sector0 hs ≡ false → (k : ℕ) → k < 1600 → mapBit sector0 k + count k hs ≤ 1
@@ -163,30 +165,31 @@ indexes-below layout image sized entered k some =
     let size = size-is image sized in
     index-inside layout image (omega (arith, size .1)) (entries-are (sectorCount image) (entries layout (sectorOf image 0)) entered) k some .1
 
-pub claims-below : (layout : Layout) (image : List ℕ) → FourPassed layout image → Below (sectorCount image) (claims image (indexes layout image))
-claims-below layout image passed k some =
+pub claims-ruled : (layout : Layout) (image : List ℕ) → sizeRule image ≡ true → Entered layout image true → Indexed layout image true
+    → ((i : ℕ) → IsIndexed layout image i → (p : ℕ) → p < length (filesIn image i) → IsDescriptor layout (sectorCount image) (sectorOf image (fileAt image i p)))
+    → Below (sectorCount image) (claims image (indexes layout image))
+claims-ruled layout image sized entered indexed descriptors k some =
     let n = sectorCount image in
     let is = indexes layout image in
     let ks = filesOf image is in
-    let rules =
-    files-range layout image is
-    (λ i among.
-    let descriptors = every-is (λ j. descriptorsRule layout n image [] (filesIn image j)) is (passed .described) i among in
-    record {
-      index = index-is n (sectorOf image i) (every-is (λ j. indexRule n (sectorOf image j)) is (passed .indexed) i among);
-      descriptors = descriptors-are layout n image [] (filesIn image i) descriptors;
-      ascending = ascend layout n image [] (filesIn image i) descriptors;
-    })
-    in
+    let rules = files-ruled layout image is (λ i among. index-is n (sectorOf image i) (every-is (λ j. indexRule n (sectorOf image j)) is indexed i among)) descriptors in
     elim (decLt 0 (count k is)) [
-      | yes index ↦ indexes-below layout image (passed .sized) (passed .entered) k index
+      | yes index ↦ indexes-below layout image sized entered k index
       | no none ↦
           file-holders-inside layout n image ks k (λ q h. let r = rules (getD ks q 0) (count-at ks q h) in (r .0, r .1)) (λ q h. rules (getD ks q 0) (count-at ks q h) .2)
           (omega (arith, some, none, claims-count image is k)) .1
     ]
 
--- The judge's marks on such an image, first the map with sector 0 held.
-module _ (layout : Layout) (image marks : List ℕ) (first : marks ≡ mapOf (sectorCount image) (run 0 1)) (passed : FourPassed layout image) where
+pub claims-below : (layout : Layout) (image : List ℕ) → FourPassed layout image → Below (sectorCount image) (claims image (indexes layout image))
+claims-below layout image passed =
+    claims-ruled layout image (passed .sized) (passed .entered) (passed .indexed)
+    (λ i among.
+    let n = sectorCount image in
+    descriptors-are layout n image [] (filesIn image i) (every-is (λ j. descriptorsRule layout n image [] (filesIn image j)) (indexes layout image) (passed .described) i among))
+
+-- The marks, first the map with sector 0 held, on an image of which all that is claimed lies below the end.
+module _ (layout : Layout) (image marks : List ℕ) (first : marks ≡ mapOf (sectorCount image) (run 0 1)) (sized : sizeRule image ≡ true)
+    (below : Below (sectorCount image) (claims image (indexes layout image))) where
   abbrev hs : List ℕ
   hs = claims image (indexes layout image)
 
@@ -199,31 +202,34 @@ module _ (layout : Layout) (image marks : List ℕ) (first : marks ≡ mapOf (se
 
   -- whether a sector was claimed twice
   module _ (twice : Bool) (is : twice ≡ clashes (asMap marks) hs) where
-    pub judged-twice : heldTwice (holders layout image) ≡ twice
-    judged-twice =
+    pub claimed-twice : heldTwice (holders layout image) ≡ twice
+    claimed-twice =
+        let size = size-is image sized in
+        clash-is (sectorCount image) hs (holders layout image) (asMap marks) (size .2) long bits below (holders-count layout image) ∙ sym is
+
+    -- where none was, the marks are the map of the holders
+    pub claimed-map : twice ≡ false → (after : List ℕ) → asMap after ≡ markedAll 1 (asMap marks) hs → length after ≡ 200 → after ≡ mapOf (sectorCount image) (holders layout image)
+    unfolding run
+    claimed-map once after left kept =
+        let size = size-is image sized in
+        let whole = markedAll 1 (asMap marks) hs in
+        let as-long = all-length 1 (asMap marks) hs ∙ long in
+        sym (as-map-part after kept) ∙ ap (λ (s : List ℕ). part s 56 200) left
+        ∙ map-of-bytes (sectorCount image) (holders layout image) whole (part-length whole 56 200 (omega (arith, as-long)))
+        (all-below 1 (omega arith) (asMap marks) hs (as-map-below marks (rw first (map-below (sectorCount image) (0 ∷ []) (one-once 0)))))
+        (map-left (sectorCount image) hs (holders layout image) (asMap marks) (size .2) long bits below (holders-count layout image) (claimed-twice ∙ once))
+
+-- The judge's, on an image that has passed its tests 1 to 4: what the claims say of test 5, and where none was claimed twice, of a map that is compared with the marks.
+module _ (layout : Layout) (image marks : List ℕ) (first : marks ≡ mapOf (sectorCount image) (run 0 1)) (passed : FourPassed layout image)
+    (twice : Bool) (is : twice ≡ clashes (asMap marks) (claims image (indexes layout image))) where
+  pub judged-twice : heldTwice (holders layout image) ≡ twice
+  judged-twice = claimed-twice layout image marks first (passed .sized) (claims-below layout image passed) twice is
+
+  module _ (once : twice ≡ false) (after : List ℕ) (left : asMap after ≡ markedAll 1 (asMap marks) (claims image (indexes layout image))) (kept : length after ≡ 200) where
+    pub judged-map : (map sector0 : List ℕ) → map ≡ part sector0 56 200 → sector0 ≡ sectorOf image 0 → ((i : ℕ) → byteAt image i < 256)
+        → same map after ≡ mapRule (sectorCount image) (holders layout image) (sectorOf image 0)
+    judged-map map sector0 cut read small =
         let size = size-is image (passed .sized) in
-        clash-is (sectorCount image) hs (holders layout image) (asMap marks) (size .2) long bits (claims-below layout image passed) (holders-count layout image) ∙ sym is
-
-    -- where none was, a map that is compared with the marks is compared with the holders
-    module _ (once : twice ≡ false) (after : List ℕ) (left : asMap after ≡ markedAll 1 (asMap marks) hs) (kept : length after ≡ 200) where
-      single : (k : ℕ) → count k (holders layout image) ≤ 1
-      single = held-once (holders layout image) (judged-twice ∙ once)
-
-      after-is : after ≡ mapOf (sectorCount image) (holders layout image)
-      unfolding run
-      after-is =
-          let size = size-is image (passed .sized) in
-          let whole = markedAll 1 (asMap marks) hs in
-          let as-long = all-length 1 (asMap marks) hs ∙ long in
-          sym (as-map-part after kept) ∙ ap (λ (s : List ℕ). part s 56 200) left
-          ∙ map-of-bytes (sectorCount image) (holders layout image) whole (part-length whole 56 200 (omega (arith, as-long)))
-          (all-below 1 (omega arith) (asMap marks) hs (as-map-below marks (rw first (map-below (sectorCount image) (0 ∷ []) (one-once 0)))))
-          (map-left (sectorCount image) hs (holders layout image) (asMap marks) (size .2) long bits (claims-below layout image passed) (holders-count layout image) (judged-twice ∙ once))
-
-      pub judged-map : (map sector0 : List ℕ) → map ≡ part sector0 56 200 → sector0 ≡ sectorOf image 0 → ((i : ℕ) → byteAt image i < 256)
-          → same map after ≡ mapRule (sectorCount image) (holders layout image) (sectorOf image 0)
-      judged-map map sector0 cut read small =
-          let size = size-is image (passed .sized) in
-          rw (cut, read, after-is)
-          (map-compared (sectorCount image) (holders layout image) (sectorOf image 0) (sector-length image 0 (omega (arith, size .0, size .1)))
-          (sector-below image 0 256 (omega arith) small) single)
+        rw (cut, read, claimed-map layout image marks first (passed .sized) (claims-below layout image passed) twice is once after left kept)
+        (map-compared (sectorCount image) (holders layout image) (sectorOf image 0) (sector-length image 0 (omega (arith, size .0, size .1)))
+        (sector-below image 0 256 (omega arith) small) (held-once (holders layout image) (judged-twice ∙ once)))

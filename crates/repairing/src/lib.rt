@@ -3,7 +3,7 @@
 ghost use mathlib.Core.Path.{_≡_};
 ghost use mathlib.Core.Bool.{true, _&&_};
 ghost use mathlib.Core.List.{[], map};
-ghost use Prim.Native.Nat.{_*_, _<_};
+ghost use Prim.Native.Nat.{_*_, _≤_, _<_};
 ghost use lib.ListN.{length};
 ghost use Rattle.rules.specs.Bytes.{splice};
 ghost use Rattle.rules.specs.Sectors.{sectorOf, sectorCount, written};
@@ -129,7 +129,7 @@ fn examine(layout: Layout, image: &[u8], map: &mut [u8; 200]) -> u32
 
 // The index in sector i written in name order.
 fn order_index(image: &mut [u8], i: usize)
-    requires { ⌜ (length (now image) ≡ 256 * sectorCount (now image)) × (i < sectorCount (now image)) × IsIndex (sectorCount (now image)) (sectorOf (now image) i) × (distinctRule (now image) [] (filesIn (now image) i) ≡ true) ⌝ }
+    requires { ⌜ (length (now image) ≡ 256 * sectorCount (now image)) × (i < sectorCount (now image)) × (i < 65536) × IsIndex (sectorCount (now image)) (sectorOf (now image) i) × (distinctRule (now image) [] (filesIn (now image) i) ≡ true) ⌝ }
     ensures { λ _. ⌜ now (image .exit) ≡ splice (now (image .entry)) (256 * i) (indexOf (ordered (now (image .entry)) (filesIn (now (image .entry)) i))) ⌝ }
 {
     let mut index = [0u8; 256];
@@ -141,7 +141,7 @@ fn order_index(image: &mut [u8], i: usize)
 fn order_indexes(layout: Layout, image: &mut [u8], changes: &mut [u32; 133]) -> usize
     requires { ⌜ Mendable layout (now image) ⌝ }
     ensures { λ _. ⌜ now (image .exit) ≡ written (now (image .entry)) (map (orderedIndex (now (image .entry))) (indexes layout (now (image .entry)))) ⌝ }
-    ensures order { λ r. ⌜ (now (changes .exit) ≡ splice (now (changes .entry)) 2 (indexes layout (now (image .entry)))) × (r ≡ length (indexes layout (now (image .entry)))) ⌝ }
+    ensures order { λ r. ⌜ (now (changes .exit) ≡ splice (now (changes .entry)) 2 (indexes layout (now (image .entry)))) × (r ≡ length (indexes layout (now (image .entry)))) × (r ≤ 4) ⌝ }
 {
     let count = directory_count(layout);
     let mut many = 0;

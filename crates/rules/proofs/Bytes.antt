@@ -78,7 +78,7 @@ part-and-rest a b i many here behind =
     sym (take-append-drop many (drop i a)) ∙ rw (here, drop-drop many i a, behind, ← drop-drop many i b) (take-append-drop many (drop i b))
 
 -- two lists that are equal and begin with parts of one length: so are the parts
-pub append-parts : (a b c d : List ℕ) → length a ≡ length c → a ++ b ≡ c ++ d → (a ≡ c) × (b ≡ d)
+pub append-parts : {A : Type 0} (a b c d : List A) → length a ≡ length c → a ++ b ≡ c ++ d → (a ≡ c) × (b ≡ d)
 append-parts a b c d long e = (
   sym (take-at a b (length c) long) ∙ ap (take (length c)) e ∙ take-at c d (length c) refl,
   sym (drop-at a b (length c) long) ∙ ap (drop (length c)) e ∙ drop-at c d (length c) refl,

@@ -15,10 +15,10 @@ use Rattle.rules.specs.Sectors.{sectorOf, sectorCount}
 use Rattle.rules.specs.Map.{count}
 use Rattle.rules.specs.Kind.{withMarks}
 use Rattle.rules.specs.Descriptor.{IsDescriptor}
-use Rattle.rules.specs.Index.{without}
+use Rattle.rules.specs.Index.{without, IsIndex}
 use Rattle.rules.specs.Directory.{entries, entryIndex, IsEntry, IsAbsent, AreEntries}
 use Rattle.rules.specs.Volume.{directories, indexAt, present, indexes, every, filesIn, filesOf, placesIn, fileHolders, holders}
-use Rattle.rules.specs.Sound.{IsIndexed, SoundIndex, Sound}
+use Rattle.rules.specs.Sound.{fileAt, IsIndexed, SoundIndex, Sound}
 use Rattle.rules.specs.declared.Layout.{Layout}
 use Rattle.rules.proofs.Tests.{both}
 use Rattle.rules.proofs.Bytes.{part-at}
@@ -253,16 +253,20 @@ files-of-one image (h ∷ hs) k some then =
       | no there ↦ files-of-one image hs k (omega (arith, some, there, count-append k (filesIn image h) (filesOf image hs))) (λ i among. then i (omega (arith, among, count-more i h hs)))
     ]
 
--- so what holds of all files of sound indexes holds of each of several
-pub files-range : (layout : Layout) (image is : List ℕ) → ((i : ℕ) → 1 ≤ count i is → SoundIndex layout image i)
+-- so what holds of all files of indexes that keep their rules, and lead to descriptors that do, holds of each of several
+pub files-ruled : (layout : Layout) (image is : List ℕ) → ((i : ℕ) → 1 ≤ count i is → IsIndex (sectorCount image) (sectorOf image i))
+    → ((i : ℕ) → 1 ≤ count i is → (p : ℕ) → p < length (filesIn image i) → IsDescriptor layout (sectorCount image) (sectorOf image (fileAt image i p)))
     → (k : ℕ) → 1 ≤ count k (filesOf image is) → (2 ≤ k) × (k < sectorCount image) × IsDescriptor layout (sectorCount image) (sectorOf image k)
 unfolding filesIn
-files-range layout image is each k some =
+files-ruled layout image is index descriptors k some =
     files-of-one image is k some
     (λ i among there.
-    let s = each i among in
-    let range = counted-all (λ (j : ℕ). (2 ≤ j) × (j < sectorCount image)) (filesIn image i) (s .index .range) k there in
-    (range .0, range .1, counted-all (λ (j : ℕ). IsDescriptor layout (sectorCount image) (sectorOf image j)) (filesIn image i) (s .descriptors) k there))
+    let range = counted-all (λ (j : ℕ). (2 ≤ j) × (j < sectorCount image)) (filesIn image i) (index i among .range) k there in
+    (range .0, range .1, counted-all (λ (j : ℕ). IsDescriptor layout (sectorCount image) (sectorOf image j)) (filesIn image i) (descriptors i among) k there))
+
+pub files-range : (layout : Layout) (image is : List ℕ) → ((i : ℕ) → 1 ≤ count i is → SoundIndex layout image i)
+    → (k : ℕ) → 1 ≤ count k (filesOf image is) → (2 ≤ k) × (k < sectorCount image) × IsDescriptor layout (sectorCount image) (sectorOf image k)
+files-range layout image is each = files-ruled layout image is (λ i among. each i among .index) (λ i among. each i among .descriptors)
 
 -- all holders of a sound volume are sectors of it
 pub holders-inside : (layout : Layout) (image : List ℕ) → Sound layout image → (p : ℕ) → 1 ≤ count p (holders layout image) → p < sectorCount image

@@ -20,9 +20,12 @@ pub mod Volume
 pub mod Indexed
 pub mod Indexes
 pub mod Written
+pub mod Through
 pub mod Staying
+pub mod Ordered
 pub mod Listed
 pub mod Verdict
+pub mod Repair
 pub mod Free
 pub mod Extended
 pub mod Longer
@@ -35,5 +38,6 @@ pub mod Outcome
 pub mod Opening
 pub mod Formatted
 pub mod MapMade
+pub mod Mended
 pub mod Listing
 pub mod Pack

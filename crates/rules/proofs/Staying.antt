@@ -73,7 +73,7 @@ pub files-kept : (image after ks : List ℕ) → ((k : ℕ) → 1 ≤ count k ks
 files-kept image after ks kept = map-agree (fileIn after) (fileIn image) ks kept
 
 -- a number put in among files whose names stand, and so among those of an image in which the index and all its descriptors stand
-placed-agree : (image after name : List ℕ) (k : ℕ) (ks : List ℕ) → ((j : ℕ) → 1 ≤ count j ks → nameIn after j ≡ nameIn image j) → placed after name k ks ≡ placed image name k ks
+pub placed-agree : (image after name : List ℕ) (k : ℕ) (ks : List ℕ) → ((j : ℕ) → 1 ≤ count j ks → nameIn after j ≡ nameIn image j) → placed after name k ks ≡ placed image name k ks
 unfolding placed
 placed-agree image after name k [] same = refl
 placed-agree image after name k (j ∷ js) same =

@@ -117,7 +117,7 @@ pub record Rebuilt (layout : Layout) (image after : List ℕ) (i : ℕ) (ks : Li
   pub single : (k : ℕ) → count k (0 ∷ (i ∷ (fileHolders after ks ++ others layout image i))) ≤ 1
   pub map : (k : ℕ) → k < 1600 → mapBit (sectorOf after 0) k ≡ taken (sectorCount image) (0 ∷ (i ∷ (fileHolders after ks ++ others layout image i))) k
 
-label-kept : (n : ℕ) (before after : List ℕ) → length before ≡ 256 → length after ≡ 256 → ((i : ℕ) → i < 56 → byteAt after i ≡ byteAt before i) → IsLabel n before → IsLabel n after
+pub label-kept : (n : ℕ) (before after : List ℕ) → length before ≡ 256 → length after ≡ 256 → ((i : ℕ) → i < 56 → byteAt after i ≡ byteAt before i) → IsLabel n before → IsLabel n after
 label-kept n before after long long′ same is =
     let name = part-same after before 0 10 (long′ ∙ sym long) (λ i low high. same i (omega arith)) in
     record {

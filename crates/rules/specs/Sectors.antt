@@ -26,6 +26,11 @@ unfoldable pub sectorsIn : List Write → List ℕ
 sectorsIn [] = []
 sectorsIn (write ∷ writes) = write .sector ∷ sectorsIn writes
 
+-- sectors of an image as writes, in that order: so a host writes them through
+unfoldable pub through : List ℕ → List ℕ → List Write
+through image [] = []
+through image (k ∷ ks) = record { sector = k; bytes = sectorOf image k } ∷ through image ks
+
 -- the writes laid over an image, one after the other
 unfoldable pub written : List ℕ → List Write → List ℕ
 written image [] = image

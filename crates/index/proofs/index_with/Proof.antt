@@ -2,17 +2,16 @@
 -- The measure is what is left of the old index. Assumes nothing.
 use mathlib.Core.Path.{_≡_, sym, ap, _∙_}
 use mathlib.Core.Logic.{inl, inr}
-use mathlib.Core.List.{List, _∷_}
-use Prim.Native.Nat.{ℕ, _+_, _-_, _≤_}
+use mathlib.Core.List.{_∷_}
+use Prim.Native.Nat.{_+_, _-_, _≤_}
 use native.Mathlib.Omega.{arith}
 use lib.ListN.{length, drop}
-use Rattle.rules.specs.Bytes.{part, splice}
-use Rattle.rules.specs.Sectors.{sectorOf}
+use Rattle.rules.specs.Bytes.{splice}
 use Rattle.rules.specs.Name.{precedes}
-use Rattle.rules.specs.Descriptor.{nameOf}
 use Rattle.rules.specs.Index.{numbers, numbersBytes, indexOf}
-use Rattle.rules.specs.Volume.{nameIn, placed}
+use Rattle.rules.specs.Volume.{placed}
 use Rattle.rules.proofs.Indexed.{laid-number, laid-index, placed-last, placed-here, placed-later}
+use Rattle.index.proofs.Named.{named}
 use borrow.Author.Needs.{needs}
 use Rattle.index.proofs.index_with.Statement.{statement}
 use Rattle.index.proofs.index_with.Tie as tie
@@ -46,11 +45,6 @@ add-at c = omega (arith, inside (number (c .before .before)))
 
 loop-less : tie.Need-loop-less Inv-loop μ-loop
 loop-less c = omega (arith, inside (number (c .before .before)))
-
--- the name that was read is that of the file whose number stands there
-named : (image sector there : List ℕ) (j : ℕ) → sector ≡ sectorOf image j → there ≡ part sector 0 10 → there ≡ nameIn image j
-unfolding nameIn nameOf
-named image sector there j e f = rw (f, e)
 
 loop-again : tie.Need-loop-again Inv-loop μ-loop
 loop-again c =

@@ -1,0 +1,1 @@
+-- Repair: ours mends what it accepts, a sound volume keeps its catalogues, and there is one image that an image is mended to.

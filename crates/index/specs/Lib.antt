@@ -1,0 +1,2 @@
+-- What the loops of an index made anew go by.
+pub mod Front
