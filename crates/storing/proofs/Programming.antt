@@ -6,7 +6,7 @@ use mathlib.Core.List.{List, [], _∷_, _++_}
 use Prim.Native.Nat.{ℕ, suc, _+_, _*_, _%_, _≤_, _<_}
 use native.Mathlib.Omega.{arith}
 use lib.Dec.{leb}
-use lib.ListN.{length, drop, replicate, length-append}
+use lib.ListN.{length, replicate, length-append}
 use borrow.Rule.Slice.PartMut.{putMid}
 use Rattle.rules.specs.Bytes.{wordBytes, splice}
 use Rattle.rules.specs.Sectors.{Write, sectorsIn, sectorOf, sectorCount, written}
@@ -30,6 +30,7 @@ use Rattle.rules.proofs.Choice.{choices-length, sound-fenced, new-free}
 use Rattle.rules.proofs.Listed.{label-long}
 use Rattle.rules.proofs.Outcome.{order-laid}
 use Rattle.rules.proofs.Written.{written-both}
+use Rattle.rules.proofs.Through.{data-order}
 use Rattle.index.proofs.Entered.{written-entered}
 use Rattle.storing.specs.Spread.{IsSpread, Taken, Spread}
 use Rattle.storing.specs.Program.{programDescriptor, programMap, programWrites}
@@ -88,23 +89,18 @@ module _ (image name bytes : List ℕ) (k many : ℕ) (chosen : k ≡ descriptor
     program-written layout one two descriptor one-is two-is descriptor-is =
         rw (two-is, one-is, descriptor-is, is .places-are, is .blocks-are, is .map, chosen, so-many) (written-both image (dataWrites bytes (newSectors image (sectorsFor (length bytes)))) _)
 
--- the sectors of writes, as many as they are; those of the data are the ones that it goes to
+-- the sectors of writes, as many as they are
 sectors-length : (writes : List Write) → length (sectorsIn writes) ≡ length writes
 unfolding sectorsIn
 sectors-length [] = refl
 sectors-length (write ∷ writes) = ap suc (sectors-length writes)
-
-data-sectors : (bytes ks : List ℕ) (more : List Write) → sectorsIn (dataWrites bytes ks ++ more) ≡ ks ++ sectorsIn more
-unfolding dataWrites sectorsIn
-data-sectors bytes [] more = refl
-data-sectors bytes (k ∷ ks) more = ap (λ (l : List ℕ). k ∷ l) (data-sectors (drop 256 bytes) ks more)
 
 -- listed behind those of the data, with the number of all of them
 order-behind : (changes bytes ks : List ℕ) (more : List Write) → 0 < length more
     → splice (splice (splice changes 2 ks) (2 + length ks) (sectorsIn more)) 1 ((length ks + length more) ∷ []) ≡ splice changes 1 (orderOf (dataWrites bytes ks ++ more))
 order-behind changes bytes ks more some =
     let writes = dataWrites bytes ks ++ more in
-    let sectors = data-sectors bytes ks more in
+    let sectors = data-order bytes ks more in
     let number : length writes ≡ length ks + length more = sym (sectors-length writes) ∙ ap length sectors ∙ length-append ks (sectorsIn more) ∙ ap (λ (n : ℕ). length ks + n) (sectors-length more) in
     rw (splice-append changes 2 ks (sectorsIn more), ← sectors, ← number) (order-laid changes writes (omega (arith, number)))
 

@@ -198,12 +198,6 @@ tested c = c .before .before
 abbrev tip : tie.Else5 → tie.After-tip-with
 tip c = c .before .before
 
-cast-t32 : tie.Need-cast-t32
-cast-t32 c = omega (arith, new-range (chosen (tip (tested (longer c)) .before)))
-
-cast-t33 : tie.Need-cast-t33
-cast-t33 c = omega (arith, small (start₆ (tip (tested (longer c)) .before)))
-
 returns-6 : tie.Need-returns-6
 unfolding appending appendTests firstOf unlessMet appendWrites sectorsIn
 returns-6 c =
@@ -243,8 +237,8 @@ append-at-spec =
     (λ c. search needs)
     returns-5
     write-longer-requires
-    cast-t32
-    cast-t33
+    (λ c. omega (arith, new-range (chosen (tip (tested (longer c)) .before))))
+    (λ c. omega (arith, small (start₆ (tip (tested (longer c)) .before))))
     (λ c. search needs)
     (λ c κs. search needs)
     (λ c. search needs)

@@ -170,12 +170,6 @@ entering c = c .before .before
 abbrev mapped : tie.After-enter → tie.After-mark
 mapped c = c .before .before .before .before
 
-cast-t32 : tie.Need-cast-t32
-cast-t32 c = omega (arith, is-free (chosen (described (mapped (entering c)))) .low)
-
-cast-t33 : tie.Need-cast-t33
-cast-t33 c = omega (arith, small (start₃ (chosen (described (mapped (entering c))))))
-
 returns-4 : tie.Need-returns-4
 unfolding written dataWrites entered sectorsIn
 returns-4 c =
@@ -228,8 +222,8 @@ create-new-spec =
     part-mark-end
     (λ c κs. search needs)
     enter-requires
-    cast-t32
-    cast-t33
+    (λ c. omega (arith, is-free (chosen (described (mapped (entering c)))) .low))
+    (λ c. omega (arith, small (start₃ (chosen (described (mapped (entering c)))))))
     (λ c. search needs)
     (λ c κs. search needs)
     (λ c. search needs)

@@ -77,9 +77,6 @@ both-written c = c .before .before
 abbrev index-written : tie.After-write-sector2 → tie.After-write-sector
 index-written c = c .before .before .before .before .before
 
-cast-t33 : tie.Need-cast-t33
-cast-t33 c = omega (arith, small (start (free (index (map (index-written (both-written c))) .before) .before)))
-
 returns-2 : tie.Need-returns-2
 unfolding deleting deleteTests firstOf unlessMet sectorsIn
 returns-2 c =
@@ -113,7 +110,7 @@ delete-at-spec =
     write-sector-requires
     (λ c. search needs)
     (λ c κs. search needs)
-    cast-t33
+    (λ c. omega (arith, small (start (free (index (map (index-written (both-written c))) .before) .before))))
     (λ c. search needs)
     (λ c κs. search needs)
     (λ c. search needs)

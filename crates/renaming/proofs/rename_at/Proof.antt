@@ -119,12 +119,6 @@ written-index c = c .before .before
 abbrev named : tie.After-write-sector → tie.After-lay
 named c = c .before .before .before .before .before
 
-cast-t31 : tie.Need-cast-t31
-cast-t31 c = omega (arith, small (start₄ (moving (marking (named (written-index c))))))
-
-cast-t32 : tie.Need-cast-t32
-cast-t32 c = omega (arith, small (start₄ (moving (marking (named (written-index c))))))
-
 returns-3 : tie.Need-returns-3
 unfolding renaming renamingIn renameTests firstOf unlessMet RenameSays sectorsIn
 returns-3 c =
@@ -166,8 +160,8 @@ rename-at-spec =
     (λ c κs. search needs)
     slice-aggregate-write-sector
     write-sector-requires
-    cast-t31
-    cast-t32
+    (λ c. omega (arith, small (start₄ (moving (marking (named (written-index c)))))))
+    (λ c. omega (arith, small (start₄ (moving (marking (named (written-index c)))))))
     (λ c. search needs)
     (λ c κs. search needs)
     (λ c. search needs)

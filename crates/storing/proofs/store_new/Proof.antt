@@ -144,12 +144,6 @@ passed c = c .before .before
 abbrev programmed : tie.Else4 → tie.After-write-program
 programmed c = c .before .before .before
 
-cast-t29 : tie.Need-cast-t29
-cast-t29 c = omega (arith, choosing (programmed (passed (entering c))) .descriptor-choice .ensures .1)
-
-cast-t30 : tie.Need-cast-t30
-cast-t30 c = omega (arith, small (at-start (choosing (programmed (passed (entering c))))))
-
 list-requires : tie.Need-list-requires
 list-requires c κs = omega (arith, at-length (choosing (programmed (passed (entering (c .before .before))))))
 
@@ -189,8 +183,8 @@ store-new-spec =
     (λ c. search needs)
     returns-4
     enter-requires
-    cast-t29
-    cast-t30
+    (λ c. omega (arith, choosing (programmed (passed (entering c))) .descriptor-choice .ensures .1))
+    (λ c. omega (arith, small (at-start (choosing (programmed (passed (entering c)))))))
     (λ c. search needs)
     list-requires
     (λ c. search needs)
