@@ -8,7 +8,7 @@ use native.Mathlib.Omega.{arith}
 use lib.ListN.{length, take, length-map}
 use borrow.Author.Tests.{not-false, eqb-true, ltb-false}
 use Rattle.rules.specs.Bytes.{wordBytes, splice}
-use Rattle.rules.specs.Sectors.{Write, sectorOf, sectorCount, written, sectorsIn}
+use Rattle.rules.specs.Sectors.{Write, sectorOf, sectorCount, written, sectorsIn, Whole}
 use Rattle.rules.specs.Map.{count, freeCount, marked, markedAll}
 use Rattle.rules.specs.Chain.{blocks, places, extended, chainWith}
 use Rattle.rules.specs.Kind.{isProgram}
@@ -30,7 +30,7 @@ use Rattle.rules.proofs.Longer.{longer-blocks, longer-descriptor, longer-name, 
 use Rattle.rules.proofs.Choice.{Chosen, sound-fenced, data-choice-free}
 use Rattle.rules.proofs.Tests.{all-passed, unless-passed}
 use Rattle.rules.proofs.Opening.{IsOpened, opened-at, open-refused, changed-done}
-use Rattle.rules.proofs.Written.{Whole, written-length, Apart, written-apart, written-at}
+use Rattle.rules.proofs.Written.{written-length, Apart, written-apart, written-at}
 use Rattle.rules.proofs.Listed.{label-long, sector-inside, index-low, rest-apart, opened-listed}
 use Rattle.rules.proofs.Replaced.{at, besides, all-parted}
 use Rattle.rules.proofs.Altered.{Altered, own-inside, own-other, place-other}
@@ -178,7 +178,7 @@ module _ (layout : Layout) (image name : List ℕ) (i p k : ℕ) (o : IsOpened l
 appending-done : (layout : Layout) (image name bytes : List ℕ) (i p k : ℕ) → IsOpened layout image name i p k → Passed (appendTests image bytes k) →
     let after = written image (appendWrites layout image bytes k) in
     Done layout image after i name (effect (changed name (λ file. longer bytes (markedFile layout file)) (catalogue image i)) 1 0)
-    × Has image i name (Grows image after i name (sectorsIn (appendWrites layout image bytes k)))
+    × Has image i name (Grows image after i name (sectorsIn (appendWrites layout image bytes k))) × Whole (length image) (appendWrites layout image bytes k)
 unfolding nameIn placesIn appendTests appendWrites longerBlocks Passed sectorsIn
 appending-done layout image name bytes i p k o passed =
     let n = sectorCount image in
@@ -193,19 +193,20 @@ appending-done layout image name bytes i p k o passed =
     let small = o .whole .size .1 in
     let few : length (longer-blocks marked new) ≤ 76 = rw same-chain (ltb-false 76 (length (longer-blocks d new)) (passed .1 .1 .1 .1 .0)) in
     let long = eqb-true (length bytes) 256 (not-false _ (passed .1 .1 .0)) in
-    let whole = mark-length layout d ∙ o .long in
+    let marked-long = mark-length layout d ∙ o .long in
     let kept = mark-rules layout d (o .long) n (o .descriptor) in
     let records : isProgram (statusOf marked) ≡ false = rw (mark-status layout d (omega (arith, o .long)), marking-bit layout (statusOf d) 0 (λ e. omega (arith, e))) (passed .1 .0) in
-    let size = with-chain-length marked (sectorsOf marked + 1) (longer-blocks marked new) ∙ whole in
-    let rules = longer-rules layout n marked new whole kept small short (chosen .from) (chosen .inside) records few in
+    let size = with-chain-length marked (sectorsOf marked + 1) (longer-blocks marked new) ∙ marked-long in
+    let rules = longer-rules layout n marked new marked-long kept small short (chosen .from) (chosen .inside) records few in
     let named = longer-name marked new ∙ mark-name layout d in
-    let places = longer-places layout n marked new whole kept small short (chosen .from) (chosen .inside) records few ∙ ap (λ (chain : List ℕ). places chain ++ (new ∷ [])) same-chain in
-    let chain = longer-chain layout n marked new whole kept small short (chosen .from) (chosen .inside) records few ∙ ap (λ (chain : List ℕ). chainWith (extended 0 (blocks chain) new)) same-chain in
+    let places = longer-places layout n marked new marked-long kept small short (chosen .from) (chosen .inside) records few ∙ ap (λ (chain : List ℕ). places chain ++ (new ∷ [])) same-chain in
+    let chain = longer-chain layout n marked new marked-long kept small short (chosen .from) (chosen .inside) records few ∙ ap (λ (chain : List ℕ). chainWith (extended 0 (blocks chain) new)) same-chain in
     let header = longer-header marked new ∙ ap (λ (c : ℕ). splice (take 28 marked) 14 (wordBytes (c + 1))) same-sectors in
     rw (← same-sectors, ← same-chain) (
       appended-done layout image name i p k o bytes long new chosen (longer-descriptor marked new) size rules named places header,
       appended-gains layout image name i p k o bytes long new chosen (longer-descriptor marked new) size rules named places (longer-blocks d new)
           (append-takes layout image i k (o .whole) (o .indexed) (opened-listed layout image name i p k o) room) chain,
+      whole layout image name i p k o bytes long new chosen (longer-descriptor marked new) size,
     )
 
 pub appends : (layout : Layout) (bytes : List ℕ) → Does layout (append bytes)

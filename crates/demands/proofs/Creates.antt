@@ -8,7 +8,7 @@ use native.Mathlib.Omega.{arith}
 use lib.Dec.{eqb}
 use lib.ListN.{length}
 use borrow.Author.Tests.{not-false, eqb-true, ltb-false, leb-false}
-use Rattle.rules.specs.Sectors.{Write, sectorOf, sectorCount, written, sectorsIn}
+use Rattle.rules.specs.Sectors.{Write, sectorOf, sectorCount, written, sectorsIn, Whole}
 use Rattle.rules.specs.Map.{freeCount, marked, markedAll}
 use Rattle.rules.specs.Chain.{extendedAll}
 use Rattle.rules.specs.Kind.{allowedBits, marking, kindOf, IsStatus, IsKind}
@@ -86,7 +86,7 @@ module _ (layout : Layout) (image : List ℕ) (i : ℕ) (name : List ℕ) (statu
 
     created-done :
         let after = written image writes in
-        Done layout image after i name (effect (putIn (record { header = newHeader name (marking layout status) recordsPerSector 0 0 recordLength; contents = [] }) (catalogue image i)) 1 0) × Enters image after i name 0 (sectorsIn writes)
+        Done layout image after i name (effect (putIn (record { header = newHeader name (marking layout status) recordsPerSector 0 0 recordLength; contents = [] }) (catalogue image i)) 1 0) × Enters image after i name 0 (sectorsIn writes) × Whole (length image) writes
     unfolding markedAll dataWrites pieces extendedAll Takes
     created-done =
         new-file-done layout image i name [] k [] (marking layout status) recordsPerSector 0 recordLength absent place (one-once k) (λ j some. rw (← only-one k j some) chosen) (omega arith) (omega arith)

@@ -4,7 +4,7 @@ use mathlib.Core.List.{List, [], _∷_}
 use Prim.Native.Nat.{ℕ, _≤_, _<_}
 use native.Mathlib.Omega.{arith}
 use lib.ListN.{length, length-map}
-use Rattle.rules.specs.Sectors.{sectorOf, sectorCount, Write, sectorsIn, written}
+use Rattle.rules.specs.Sectors.{sectorOf, sectorCount, Write, sectorsIn, written, Whole}
 use Rattle.rules.specs.Map.{count, markedAll}
 use Rattle.rules.specs.Index.{indexOf, without}
 use Rattle.rules.specs.Volume.{filesIn, nameIn, placesIn, contentsIn, fileIn, catalogue}
@@ -18,7 +18,7 @@ use Rattle.rules.proofs.Map.{count-apart}
 use Rattle.rules.proofs.Marking.{all-length}
 use Rattle.rules.proofs.Indexed.{without-length, index-length}
 use Rattle.rules.proofs.Opening.{opened-at, open-refused, changed-done, place-many}
-use Rattle.rules.proofs.Written.{Whole, written-length, Apart, written-apart, written-at}
+use Rattle.rules.proofs.Written.{written-length, Apart, written-apart, written-at}
 use Rattle.rules.proofs.Listed.{label-long, sector-inside, rest-apart, opened-listed, index-low}
 use Rattle.rules.proofs.Replaced.{none, at, Replaced, index-anew, given-mapped}
 use Rattle.demands.specs.Catalogue.{takenOut, named, held}
@@ -118,4 +118,5 @@ deletes layout image directory name e =
       deleted layout image i name k (opened .whole) (opened .indexed) there (opened .named),
       found-has layout image name i (was .place) k opened {holds = λ h. Leaves image (after layout image i name k (opened .whole) (opened .indexed) there (opened .named)) i h × _}
           (leaves-so layout image i name k (opened .whole) (opened .indexed) there (opened .named)),
+      whole layout image i name k (opened .whole) (opened .indexed) there (opened .named),
     )

@@ -6,7 +6,7 @@ use Prim.Native.Nat.{ℕ, _+_, _≤_, _<_, _*_}
 use native.Mathlib.Omega.{arith}
 use lib.ListN.{length, drop, replicate}
 use Rattle.rules.specs.Bytes.{part, over, splice}
-use Rattle.rules.specs.Sectors.{sectorOf, sectorCount, written, Write, sectorsIn}
+use Rattle.rules.specs.Sectors.{sectorOf, sectorCount, written, Write, sectorsIn, Whole}
 use Rattle.rules.specs.Map.{count, markedAll}
 use Rattle.rules.specs.Chain.{placesFrom, places, extendedAll, Linked, chainWith}
 use Rattle.rules.specs.Kind.{allowedBits, kindOf, IsStatus, IsKind}
@@ -29,7 +29,7 @@ use Rattle.rules.proofs.Indexed.{placed-length, index-length}
 use Rattle.rules.proofs.Listed.{label-long, sector-inside, index-low, besides-apart}
 use Rattle.rules.proofs.Replaced.{none, at, besides, all-parted, Replaced, taken-once, index-anew, taken-mapped}
 use Rattle.rules.proofs.Splice.{splice-length}
-use Rattle.rules.proofs.Written.{sector-same, Whole, Apart, written-length, written-both, written-apart, written-at, piece-length, data-whole, data-apart}
+use Rattle.rules.proofs.Written.{sector-same, Apart, written-length, written-both, written-apart, written-at, piece-length, data-whole, data-apart, whole-both}
 use Rattle.rules.proofs.Through.{data-order}
 use Rattle.demands.specs.Catalogue.{putIn}
 use Rattle.demands.specs.Effects.{effect, Done, newHeader, pieces}
@@ -122,6 +122,9 @@ module _ (layout : Layout) (image : List ℕ) (i : ℕ) (name bytes : List ℕ) 
           (index-length (placed image name k (filesIn image i)), omega (arith, sector-inside layout image is i (index-inside .1), size), tt),
         ),
       )
+
+  all-whole : Whole (length image) (dataWrites bytes ks ++ (first ∷ (second ∷ (third ∷ []))))
+  all-whole = whole-both (length image) (dataWrites bytes ks) (first ∷ (second ∷ (third ∷ []))) (data-whole (length image) bytes ks (λ j h. data-inside j h .1)) (rw size at whole)
 
   descriptor-now : sectorOf after k ≡ descriptor
   unfolding Apart
@@ -236,6 +239,7 @@ module _ (layout : Layout) (image : List ℕ) (i : ℕ) (name bytes : List ℕ) 
       let after = written image (dataWrites bytes ks ++ entered image i name k descriptor (markedAll 1 (sectorOf image 0) (k ∷ ks))) in
       Done layout image after i name (effect (putIn (record { header = header; contents = pieces (length ks) bytes }) (catalogue image i)) (1 + length ks) 0)
       × Enters image after i name (length ks) (sectorsIn (dataWrites bytes ks ++ entered image i name k descriptor (markedAll 1 (sectorOf image 0) (k ∷ ks))))
+      × Whole (length image) (dataWrites bytes ks ++ entered image i name k descriptor (markedAll 1 (sectorOf image 0) (k ∷ ks)))
   unfolding entered sectorsIn
   new-file-done descriptor e chosen takes =
       let c = length ks in
@@ -249,4 +253,5 @@ module _ (layout : Layout) (image : List ℕ) (i : ℕ) (name bytes : List ℕ) 
       rw (e, data-order bytes ks _, ← written-both image (dataWrites bytes ks) _) (
         rw (made-header name status recordsPerSector endOffset recordLength ten c bs) at done,
         enters layout image i name bytes k ks made absent few once free long rules named places-are chosen bs takes (made-chain name status recordsPerSector endOffset recordLength ten c bs),
+        all-whole layout image i name bytes k ks made absent few once free long rules named places-are,
       )

@@ -209,7 +209,9 @@ does layout (call.rename new) = renames layout new
 pub means : (layout : Layout) (c : Call) (image : List ℕ) → Sound (ruleOf layout c) image → numberOf (ours layout) c image ≡ 0 → Means (ruleOf layout c) c image (ours layout c image)
 unfolding ours Means
 means layout (call.look look buffer) image is e = shows layout look buffer image is e
-means layout (call.change directory name change) image is e = does layout change image directory name (sym (named-number (namesOf name change) (outcome layout change image directory name .number)) ∙ e)
+means layout (call.change directory name change) image is e =
+    let done = does layout change image directory name (sym (named-number (namesOf name change) (outcome layout change image directory name .number)) ∙ e) in
+    (done .0, done .1)
 means layout call.repair image is e = mends layout image e
 means layout (call.format n name geometry) image is e = formats layout n name geometry image e
 

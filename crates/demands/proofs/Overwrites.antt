@@ -2,13 +2,13 @@
 use mathlib.Core.Path.{_≡_, refl, sym, ap, _∙_}
 use mathlib.Core.Bool.{Bool, true, false, cond}
 use mathlib.Core.List.{List, [], _∷_, map, append-nil}
-use Prim.Native.Nat.{ℕ, _*_, _≤_, _<_}
+use Prim.Native.Nat.{ℕ, _+_, _*_, _≤_, _<_}
 use native.Mathlib.Omega.{arith}
 use native.Mathlib.Decide.{ℕ-discrete}
 use lib.ListN.{length, getD, set}
 use borrow.Author.Tests.{not-false, eqb-true, leb-false}
 use Rattle.rules.specs.Bytes.{splice}
-use Rattle.rules.specs.Sectors.{sectorOf, sectorCount, sectorsIn}
+use Rattle.rules.specs.Sectors.{sectorOf, sectorCount, sectorsIn, Whole}
 use Rattle.rules.specs.Map.{count, markedAll}
 use Rattle.rules.specs.Chain.{places}
 use Rattle.rules.specs.Descriptor.{nameOf, sectorsOf, chainOf, markedBy}
@@ -144,6 +144,17 @@ module _ (layout : Layout) (image name : List ℕ) (i p k : ℕ) (o : IsOpened l
       go true = refl
       go false = refl
 
+  whole-writes : Whole (length image) (overwriteWrites layout image offset bytes k)
+  unfolding overwriteWrites Whole
+  whole-writes = go (layout .marks)
+    where
+      fits : (j : ℕ) → j < sectorCount image → 256 * j + 256 ≤ length image
+      fits = sector-inside layout image (o .whole)
+
+      go : (t : Bool) → Whole (length image) (cond t (write k marked ∷ (write at bytes ∷ [])) (write at bytes ∷ []))
+      go true = (long-marked, fits k (own-descriptor .1), (long, fits at (own-data .1), tt))
+      go false = (long, fits at (own-data .1), tt)
+
   overwritten-stays : Has image i name
       (λ j.
       let touched = overwriteTouches layout j (getD (placesIn image j) offset 0) in
@@ -176,4 +187,5 @@ overwrites layout offset bytes image directory name e =
       altered-done layout (changed-there layout image name i (c .place) k o offset bytes inside long) name (o .named) (λ file. overwritten offset bytes (markedFile layout file))
           (file-now layout image name i (c .place) k o offset bytes inside long),
       overwritten-stays layout image name i (c .place) k o offset bytes inside long,
+      whole-writes layout image name i (c .place) k o offset bytes inside long,
     )

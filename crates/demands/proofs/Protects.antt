@@ -1,11 +1,12 @@
 -- Protect, unprotect and clear, one law over the bit: the descriptor with it changed keeps its rules, since the other bits of the status, the name and the chain stay.
-use mathlib.Core.Path.{_≡_, refl}
+use mathlib.Core.Path.{_≡_, refl, _∙_}
 use mathlib.Core.List.{List, [], _∷_}
 use Prim.Native.Nat.{ℕ, _≤_}
 use native.Mathlib.Omega.{arith}
+use lib.ListN.{length, length-set}
 use lib.Seq.{getD-take}
 use Rattle.rules.specs.Bytes.{bitOf, withBit}
-use Rattle.rules.specs.Sectors.{sectorOf, sectorCount, sectorsIn, written}
+use Rattle.rules.specs.Sectors.{sectorOf, sectorCount, sectorsIn, written, Whole}
 use Rattle.rules.specs.Kind.{allowedBits, withMarks}
 use Rattle.rules.specs.Descriptor.{statusOf}
 use Rattle.rules.specs.Volume.{indexAt, headerIn, fileIn, catalogue}
@@ -15,7 +16,7 @@ use Rattle.rules.specs.Calls.Protect.{settingBit, setBitOf, clearOf}
 use Rattle.rules.specs.declared.Layout.{Layout}
 use Rattle.rules.proofs.Indexes.{marks-indexes}
 use Rattle.rules.proofs.Marks.{allowed-four, bit-rules}
-use Rattle.rules.proofs.Listed.{listed-descriptor, opened-listed}
+use Rattle.rules.proofs.Listed.{sector-inside, listed-range, listed-descriptor, opened-listed}
 use Rattle.rules.proofs.Opening.{IsOpened, opened-at, opened-is, open-refused, changed-done}
 use Rattle.demands.specs.Catalogue.{changed}
 use Rattle.demands.specs.Call.{protect, unprotect, clear}
@@ -31,21 +32,22 @@ module _ (layout : Layout) (j bit : ℕ) (small : bit ≤ 1) (low : 3 ≤ j) (hi
   bit-there : (image name : List ℕ) (i p k : ℕ) → IsOpened layout image name i p k →
       let after = written image (settingBit j bit image k .writes) in
       Done layout image after i name (effect (changed name (withStatus j bit) (catalogue image i)) 0 0)
-      × Has image i name (λ h. Stays image after i name h (h ∷ []) × (sectorsIn (settingBit j bit image k .writes) ≡ h ∷ []))
-  unfolding settingBit sectorsIn written withStatus fileIn headerIn
+      × Has image i name (λ h. Stays image after i name h (h ∷ []) × (sectorsIn (settingBit j bit image k .writes) ≡ h ∷ [])) × Whole (length image) (settingBit j bit image k .writes)
+  unfolding settingBit sectorsIn Whole written withStatus fileIn headerIn
   bit-there image name i p k o =
       let d = sectorOf image k in
       let value = withBit (statusOf d) j bit in
       let rules = bit-rules layout j bit small low high fits d (o .long) (sectorCount image) (o .descriptor) in (
         byte-done layout image name i p k o 12 value (omega arith) (omega arith) rules (withStatus j bit) (rw (getD-take 28 d 12 0 (omega arith))),
         found-has layout image name i p k o (byte-stays layout image name i p k o 12 value (omega arith) (omega arith) rules, refl),
+        (length-set d 12 value ∙ o .long, sector-inside layout image (o .whole) k (listed-range layout image (o .whole) i (o .indexed) k (opened-listed layout image name i p k o) .1), tt),
       )
 
   bit-done : (image : List ℕ) (directory : ℕ) (name : List ℕ) → setBitOf layout j bit image directory name .number ≡ 0 →
       let after = written image (setBitOf layout j bit image directory name .writes) in
       let i = indexAt layout image directory in
       Done layout image after i name (effect (changed name (withStatus j bit) (catalogue image i)) 0 0)
-      × Has image i name (λ h. Stays image after i name h (h ∷ []) × (sectorsIn (setBitOf layout j bit image directory name .writes) ≡ h ∷ []))
+      × Has image i name (λ h. Stays image after i name h (h ∷ []) × (sectorsIn (setBitOf layout j bit image directory name .writes) ≡ h ∷ [])) × Whole (length image) (setBitOf layout j bit image directory name .writes)
   unfolding setBitOf
   bit-done image directory name e =
       let c = changed-done (openOf layout image directory name) (λ i k. settingBit j bit image k) (open-refused layout image directory name) e in

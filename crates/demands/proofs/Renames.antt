@@ -7,7 +7,7 @@ use Prim.Native.Nat.{ℕ, _≤_, _<_}
 use native.Mathlib.Omega.{arith}
 use lib.ListN.{length}
 use Rattle.rules.specs.Bytes.{byteAt, splice}
-use Rattle.rules.specs.Sectors.{Write, sectorOf, sectorCount, written, sectorsIn}
+use Rattle.rules.specs.Sectors.{Write, sectorOf, sectorCount, written, sectorsIn, Whole}
 use Rattle.rules.specs.Name.{nameRule, IsName}
 use Rattle.rules.specs.Map.{count}
 use Rattle.rules.specs.Chain.{places}
@@ -31,7 +31,7 @@ use Rattle.rules.proofs.Indexed.{without-length, placed-length, index-length}
 use Rattle.rules.proofs.Staying.{map-agree}
 use Rattle.rules.proofs.Misnamed.{none-rule}
 use Rattle.rules.proofs.Opening.{IsOpened, wasLooked, sound-passed, name-passed, find-refused, under-refused, refused-bare, directory-found, directory-refused, absent-index, unfound, changed-done, added-done, place-many}
-use Rattle.rules.proofs.Written.{Whole, written-length, Apart, written-apart, written-at}
+use Rattle.rules.proofs.Written.{written-length, Apart, written-apart, written-at}
 use Rattle.rules.proofs.Listed.{sector-inside, index-low, listed-range, listed-descriptor, rest-apart, opened-listed}
 use Rattle.rules.proofs.Replaced.{at, Replaced, stayed, index-anew, same-mapped}
 use Rattle.rules.proofs.Altered.{own-other, place-other}
@@ -206,4 +206,5 @@ renames layout new image directory old e =
             (numbers-after layout (replaced layout image i old new k (opened .whole) (opened .indexed) there (opened .named) is-name absent) (index-now layout image i old new k (opened .whole) (opened .indexed) there (opened .named) is-name absent)),
         refl,
       ),
+      whole layout image i old new k (opened .whole) (opened .indexed) there (opened .named) is-name absent,
     )

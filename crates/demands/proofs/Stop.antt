@@ -9,26 +9,30 @@ use native.Mathlib.Omega.{arith}
 use native.Mathlib.Decide.{decLt, ℕ-discrete}
 use lib.ListN.{length, getD, take}
 use lib.Seq.{take-all}
-use Rattle.rules.specs.Sectors.{sectorCount, through, written}
+use Rattle.rules.specs.Sectors.{sectorCount, Write, sectorsIn, through, written}
 use Rattle.rules.specs.Map.{count}
 use Rattle.rules.specs.Volume.{indexAt, indexes, filesIn, filesOf, placesIn, fileHolders, holders, catalogues}
 use Rattle.rules.specs.Sound.{IsIndexed, Sound}
 use Rattle.rules.specs.Tests.{firstOf}
 use Rattle.rules.specs.Kind.{withMarks}
-use Rattle.rules.specs.Calls.Repair.{repairTests, repairOf, Mendable}
+use Rattle.rules.specs.Calls.Repair.{repairTests, mending, repairOf, Mendable}
 use Rattle.rules.specs.declared.Layout.{Layout}
 use Rattle.rules.specs.declared.Block.{Block}
 use Rattle.rules.proofs.Map.{count-none, count-here, count-other, count-more, only-one, one-once, count-apart, count-at, count-append}
 use Rattle.rules.proofs.Indexes.{held-of-has}
 use Rattle.rules.proofs.Staying.{free-unheld, indexes-kept}
 use Rattle.rules.proofs.Written.{sector-back, entries-stand}
+use Rattle.rules.proofs.Through.{through-writes}
+use Rattle.rules.proofs.Tests.{unless-passed, unless-met}
 use Rattle.rules.proofs.Repair.{mendable}
+use Rattle.rules.proofs.Mended.{mending-whole, mending-once}
 use Rattle.rules.proofs.Listed.{index-low}
 use Rattle.rules.proofs.Altered.{own-other, own-inside, place-other}
 use Rattle.demands.specs.Effects.{Changed}
 use Rattle.demands.specs.Call as call
 use Rattle.demands.specs.Call.{Change, Call, Version, changeRule, numberOf}
-use Rattle.demands.specs.Ours.{ours}
+use Rattle.demands.specs.Ours.{outcome, ours}
+use Rattle.demands.specs.Does.{HostWrites}
 use Rattle.demands.specs.Rules.{ClearsNothing}
 use Rattle.demands.specs.Grounds.{mendingFaults, grounds}
 use Rattle.demands.specs.Taking.{Free, ForData, Takes}
@@ -41,6 +45,8 @@ use Rattle.demands.proofs.Cutting.{restored, take-count, all-written, a
 use Rattle.demands.proofs.Mending.{mends-once, mends-others, mends-one}
 use Rattle.demands.proofs.Resuming.{resumed-agrees, resumed-mends}
 use Rattle.demands.proofs.Carried.{answer-number}
+use Rattle.demands.proofs.Refusals.{change-writes}
+use Rattle.demands.proofs.Ours.{does}
 use Rattle.demands.proofs.Demand2.{demand2}
 use Rattle.demands.proofs.Rules.{clears-nothing}
 use Rattle.demands.proofs.Between.{between-sound, between-catalogues}
@@ -498,3 +504,27 @@ emergency-stop layout version meets =
 pub stop : (layout : Layout) → Stop layout (ours layout)
 unfolding EmergencyStop
 stop layout = emergency-stop layout (ours layout) (demand2 layout)
+
+-- and a host that writes through what it is given makes the writes of the definitions
+none-through : (image : List ℕ) (writes : List Write) → writes ≡ [] → through (written image writes) (sectorsIn writes) ≡ writes
+unfolding through sectorsIn
+none-through image writes none = rw none
+
+pub host-writes : (layout : Layout) → HostWrites layout
+unfolding ours repairOf
+host-writes layout =
+    record {
+      changes = λ change directory name image.
+          let result = outcome layout change image directory name in
+          elim (ℕ-discrete (result .number) 0) [
+            | yes number ↦ through-writes image (result .writes) (does layout change image directory name number .2) (stop layout .once (call.change directory name change) image)
+            | no some ↦ none-through image (result .writes) (change-writes layout change image directory name .none some)
+          ];
+      repairs = λ image.
+          elim (ℕ-discrete (firstOf (repairTests layout image)) 0) [
+            | yes number ↦
+                let is = mendable layout image number in
+                rw (unless-passed (repairTests layout image) (mending layout image) [] number) (through-writes image (mending layout image) (mending-whole layout image is) (mending-once layout image is))
+            | no some ↦ none-through image _ (unless-met (repairTests layout image) (mending layout image) [] some)
+          ];
+    }

@@ -5,7 +5,7 @@ use Prim.Native.Nat.{ℕ, _+_, _%_, _≤_, _<_}
 use native.Mathlib.Omega.{arith}
 use lib.ListN.{length}
 use borrow.Author.Tests.{ltb-false, leb-false}
-use Rattle.rules.specs.Sectors.{Write, sectorOf, sectorCount, written, sectorsIn}
+use Rattle.rules.specs.Sectors.{Write, sectorOf, sectorCount, written, sectorsIn, Whole}
 use Rattle.rules.specs.Kind.{allowedBits, marking, kindOf, sectorsFor, IsKind}
 use Rattle.rules.specs.Map.{count, freeCount, marked, markedAll}
 use Rattle.rules.specs.Chain.{extendedAll}
@@ -47,6 +47,7 @@ program-done : (layout : Layout) (image : List ℕ) (i : ℕ) (name bytes : List
     let after = written image (dataWrites bytes ks ++ entered image i name k descriptor (markedAll 1 (sectorOf image 0) (k ∷ ks))) in
     Done layout image after i name (effect (putIn (record { header = newHeader name (marking layout 0x01) 0 c endOffset 0; contents = pieces c bytes }) (catalogue image i)) (1 + c) 0)
     × Enters image after i name c (sectorsIn (dataWrites bytes ks ++ entered image i name k descriptor (markedAll 1 (sectorOf image 0) (k ∷ ks))))
+    × Whole (length image) (dataWrites bytes ks ++ entered image i name k descriptor (markedAll 1 (sectorOf image 0) (k ∷ ks)))
 program-done layout image i name bytes k ks c many empty small absent few once free short chosen takes =
     let endOffset = length bytes % 256 in
     let made = with-chain-made name (marking layout 0x01) 0 endOffset 0 (name-is name (absent .rule) .ten) c (extendedAll [] ks) in
@@ -73,6 +74,7 @@ module _ (layout : Layout) (image : List ℕ) (i : ℕ) (name bytes : List ℕ) 
 
   stored-done : IsAbsent layout image name i → Passed (storeTests image bytes i)
       → Done layout image (written image writes) i name (effect (putIn (newProgram layout name bytes) (catalogue image i)) (1 + c) 0) × Enters image (written image writes) i name c (sectorsIn writes)
+      × Whole (length image) writes
   unfolding storeTests newBlocks newSectors Passed
   stored-done absent passed =
       let fence = sound-fenced layout image (absent .whole) in

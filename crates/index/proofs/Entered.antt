@@ -6,7 +6,7 @@ use Prim.Native.Nat.{ℕ, _+_, _*_, _≤_}
 use native.Mathlib.Omega.{arith}
 use native.Mathlib.Decide.{decLt}
 use lib.ListN.{length}
-use Rattle.rules.specs.Sectors.{sectorOf, sectorCount, Write, written}
+use Rattle.rules.specs.Sectors.{sectorOf, sectorCount, Write, written, Whole}
 use Rattle.rules.specs.Map.{count}
 use Rattle.rules.specs.Index.{indexOf}
 use Rattle.rules.specs.Volume.{filesIn, placesIn, fileHolders, holders, placed}
@@ -20,7 +20,7 @@ use Rattle.rules.proofs.Choice.{Chosen}
 use Rattle.rules.proofs.Indexes.{index-some, others, holders-seen}
 use Rattle.rules.proofs.Staying.{placed-kept, file-holds, free-unheld}
 use Rattle.rules.proofs.Listed.{system-and, sector-inside, listed-range}
-use Rattle.rules.proofs.Written.{Whole, Apart, written-length, written-both, written-apart, data-whole, data-apart}
+use Rattle.rules.proofs.Written.{Apart, written-length, written-both, written-apart, data-whole, data-apart}
 
 -- an index and the descriptors of its files are among the holders
 module _ (layout : Layout) (image : List ℕ) (i : ℕ) (indexed : IsIndexed layout image i) where

@@ -7,7 +7,7 @@ use native.Mathlib.Decide.{ℕ-discrete}
 use lib.ListN.{length, getD}
 use lib.Seq.{ext-getD}
 use Rattle.rules.specs.Bytes.{byteAt, part, splice}
-use Rattle.rules.specs.Sectors.{sectorOf, sectorCount, Write, sectorsIn, through, written}
+use Rattle.rules.specs.Sectors.{sectorOf, sectorCount, Write, sectorsIn, through, written, Whole}
 use Rattle.rules.specs.Map.{mapBit, count, taken, mapOf}
 use Rattle.rules.specs.Descriptor.{nameOf, IsDescriptor}
 use Rattle.rules.specs.Index.{numbers, indexOf}
@@ -25,7 +25,7 @@ use Rattle.rules.proofs.Indexed.{Ascending, index-length, numbers-index
 use Rattle.rules.proofs.Indexes.{index-inside, held-append, held-of-has}
 use Rattle.rules.proofs.Directory.{entries-kept}
 use Rattle.rules.proofs.Formatted.{map-length}
-use Rattle.rules.proofs.Written.{Whole, written-length, written-apart, label-kept}
+use Rattle.rules.proofs.Written.{written-length, written-apart, label-kept}
 use Rattle.rules.proofs.Through.{none-named, through-writes}
 use Rattle.rules.proofs.Staying.{holders-kept, file-holds, indexes-kept}
 use Rattle.rules.proofs.Ordered.{ordered-count, ordered-length, ordered-all, ordered-holders, ordered-ascending}

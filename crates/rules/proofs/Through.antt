@@ -6,13 +6,13 @@ use native.Mathlib.Omega.{arith}
 use native.Mathlib.Decide.{decLt, ℕ-discrete}
 use lib.ListN.{length, drop}
 use Rattle.rules.specs.Bytes.{splice}
-use Rattle.rules.specs.Sectors.{sectorOf, sectorCount, Write, sectorsIn, through, written}
+use Rattle.rules.specs.Sectors.{sectorOf, sectorCount, Write, sectorsIn, through, written, Whole}
 use Rattle.rules.specs.Map.{count}
 use Rattle.rules.specs.Calls.Store.{dataWrites}
 use Rattle.rules.proofs.Splice.{splice-length, splice-past}
 use Rattle.rules.proofs.Sectors.{sector-length}
 use Rattle.rules.proofs.Map.{count-none, count-here, count-other, count-more, count-apart}
-use Rattle.rules.proofs.Written.{sector-same, sector-other, Whole, Apart, written-apart}
+use Rattle.rules.proofs.Written.{sector-same, sector-other, Apart, written-apart}
 
 -- a sector that no write names
 pub none-named : (j : ℕ) (writes : List Write) → count j (sectorsIn writes) ≡ 0 → Apart j writes

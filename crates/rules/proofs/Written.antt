@@ -7,7 +7,7 @@ use native.Mathlib.Decide.{decLt, ℕ-discrete}
 use lib.ListN.{length, getD, drop, replicate, length-replicate}
 use lib.Seq.{ext-getD}
 use Rattle.rules.specs.Bytes.{byteAt, part, over, splice}
-use Rattle.rules.specs.Sectors.{sectorOf, sectorCount, Write, written}
+use Rattle.rules.specs.Sectors.{sectorOf, sectorCount, Write, written, Whole}
 use Rattle.rules.specs.Label.{IsLabel}
 use Rattle.rules.specs.Map.{mapBit, count, taken}
 use Rattle.rules.specs.Descriptor.{IsDescriptor}
@@ -50,10 +50,11 @@ pub sector-back : (image : List ℕ) (k : ℕ) → splice image (256 * k) (secto
 unfolding sectorOf
 sector-back image k = ap (splice image (256 * k)) (sym (splice-none (sectorOf image k) 0)) ∙ splice-part image (256 * k) 256 0 [] (omega arith) ∙ splice-none image (256 * k + 0)
 
--- several, one after the other: all whole sectors of the image
-unfoldable pub Whole : ℕ → List Write → Type 0
-Whole size [] = Unit {0}
-Whole size (write ∷ writes) = (length (write .bytes) ≡ 256) × (256 * write .sector + 256 ≤ size) × Whole size writes
+-- several, one after the other
+pub whole-both : (size : ℕ) (first second : List Write) → Whole size first → Whole size second → Whole size (first ++ second)
+unfolding Whole
+whole-both size [] second whole more = more
+whole-both size (write ∷ first) second whole more = (whole .0, whole .1, whole-both size first second (whole .2) more)
 
 pub written-length : (image : List ℕ) (writes : List Write) → length (written image writes) ≡ length image
 unfolding written

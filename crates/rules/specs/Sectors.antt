@@ -1,6 +1,7 @@
 -- An image is its bytes; a sector of it is a reading, a write of a whole sector is laid over it.
+use mathlib.Core.Path.{_≡_}
 use mathlib.Core.List.{List, [], _∷_, _++_}
-use Prim.Native.Nat.{ℕ, _*_, _/_}
+use Prim.Native.Nat.{ℕ, _+_, _*_, _/_, _≤_}
 use lib.ListN.{length}
 use Rattle.rules.specs.Bytes.{part, splice}
 
@@ -20,6 +21,11 @@ joined (sector ∷ sectors) = sector ++ joined sectors
 pub record Write : Type 0 where
   pub sector : ℕ
   pub bytes : List ℕ
+
+-- they are whole sectors of an image of that size
+unfoldable pub Whole : ℕ → List Write → Type 0
+Whole size [] = Unit {0}
+Whole size (write ∷ writes) = (length (write .bytes) ≡ 256) × (256 * write .sector + 256 ≤ size) × Whole size writes
 
 -- the sectors that they go to, in their order
 unfoldable pub sectorsIn : List Write → List ℕ
