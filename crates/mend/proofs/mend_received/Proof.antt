@@ -10,10 +10,14 @@ use Rattle.rules.specs.Bytes.{part}
 use Rattle.rules.specs.Verdict.{verdict}
 use Rattle.rules.specs.Outcome.{AnswerSays}
 use Rattle.rules.specs.Calls.Repair.{repairOf}
+use Rattle.rules.specs.declared.Layout.{Layout}
 use Rattle.rules.specs.declared.Answer.{Answer}
+use Rattle.rules.specs.declared.Answer.the-variants as answer
 use Rattle.input.specs.Mark.{markOf}
+use Rattle.input.specs.declared.Received.the-variants.{Bytes}
 use Rattle.input.proofs.Receiving.{counted}
 use Rattle.mend.specs.Mending.{fateOf, mendedOver, SoundNow}
+use Rattle.mend.specs.declared.Fate.the-variants.{Mended}
 use Rattle.mend.proofs.MendingLaws.{marked, sound-fate, sound-stays, mended-fate, refused-fate, mended-over, mended-now}
 use borrow.Author.Needs.{needs}
 use Rattle.mend.proofs.mend_received.Statement.{statement}
@@ -62,11 +66,17 @@ module _ (c : tie.After-repair) where
   abbrev many : ℕ
   many = count (read c)
 
+  abbrev layout : Layout
+  layout = start (read c) .args .layout
+
   abbrev buffer : List ℕ
   buffer = start (read c) .args .buffer .now
 
-  abbrev said : ℕ
-  said = repairOf (start (read c) .args .layout) (part buffer 0 many) .number
+  abbrev refusal : ℕ
+  refusal = repairOf layout (part buffer 0 many) .number
+
+  gave : start (read c) .args .received ≡ Bytes many
+  gave = read c .received .given .1
 
   lent : many - 0 ≡ many
   lent = omega arith
@@ -74,24 +84,32 @@ module _ (c : tie.After-repair) where
   some : number (read c) ≡ 0 → ⊥
   some z = c .before .before .before .if1 .left (omega (arith, mark-is (read c), z))
 
-  says : (answer : Answer) → c .repair .result ≡ answer → AnswerSays answer said
-  says answer is = subst (λ (a : Answer). AnswerSays a said) is (rw lent at (c .repair .ensures .0 .said))
+  says : (answer : Answer) → c .repair .result ≡ answer → AnswerSays answer refusal
+  says answer is = subst (λ (a : Answer). AnswerSays a refusal) is (rw lent at (c .repair .ensures .0 .said))
 
-  left : putMid 0 (many - 0) buffer (c .repair .last .1 .0) ≡ mendedOver (start (read c) .args .layout) (start (read c) .args .received) buffer
+  left : putMid 0 (many - 0) buffer (c .repair .last .1 .0) ≡ mendedOver layout (start (read c) .args .received) buffer
   left =
       rw lent
-      (mended-over (start (read c) .args .layout) buffer many (read c .received .given .1) some (inside (read c)) (c .repair .last .1 .0) (rw lent at (c .repair .ensures .0 .left))
-      (rw lent at (c .repair .kept .1 .0)))
+      (mended-over layout buffer many gave some (inside (read c)) (c .repair .last .1 .0) (rw lent at (c .repair .ensures .0 .left)) (rw lent at (c .repair .kept .1 .0)))
+
+  now-sound : refusal ≡ 0 → SoundNow layout (Mended many) (putMid 0 (many - 0) buffer (c .repair .last .1 .0))
+  now-sound done =
+      rw lent
+      (mended-now layout buffer many gave some (inside (read c)) (c .repair .last .1 .0) (rw lent at (c .repair .ensures .0 .left)) (rw lent at (c .repair .kept .1 .0)) done)
 
 returns-3 : tie.Need-returns-3
+unfolding AnswerSays
 returns-3 c =
     let p = c .before .before .before .before in
-    let r = read p in
-    let a = start r .args in
-    ?
+    let done = says p answer.Done (c .enum-told2 .given .1) in
+    (judged (read p) .mark-of .ensures, (mended-fate (layout p) (buffer p) (many p) (gave p) (some p) done, (left p, now-sound p done)))
 
 returns-4 : tie.Need-returns-4
-returns-4 c = ?
+unfolding AnswerSays SoundNow
+returns-4 c =
+    let p = c .before .before .before .before in
+    let refused = says p (answer.Refused (c .enum-told3 .given .0 .0)) (c .enum-told3 .given .1) .1 in
+    (judged (read p) .mark-of .ensures, (refused-fate (layout p) (buffer p) (many p) (gave p) (some p) refused, (left p, tt)))
 
 pub mend-received-spec : {M : Type 1} → statement M
 mend-received-spec =
