@@ -3,8 +3,9 @@
 // no. `stdout` has the lines that the document wants, and case M's catalogue; then cases for requests of
 // document 02, named by them.
 //
-// A case is a function that makes its volume in an array of its own, so no case leans on another. Its
-// answer is whether its lines could be written.
+// A case is a function that makes its volume in an array of its own, so no case leans on another; the
+// order of the writes goes to another one, and is not looked at. Its answer is whether its lines could be
+// written.
 use appending::append;
 use console::options::ARGUMENT_ROOM;
 use console::options::read_options;
@@ -124,9 +125,17 @@ fn place_in_file(image: &[u8], offset: usize) -> u32 {
 
 fn case_11() -> bool {
     let mut image = [0u8; 8960];
+    let mut changes = [0u32; 133];
     let formatted = format(&mut image, 35, b"BENCH     ", one_side(5, 7));
     let bytes = [0x41u8; 300];
-    let stored = store(OLD_RULE, &mut image, ROOT, b"TWO       ", &bytes);
+    let stored = store(
+        OLD_RULE,
+        &mut image,
+        ROOT,
+        b"TWO       ",
+        &bytes,
+        &mut changes,
+    );
     write_number(b"11 35 sectors, formatted", number_of(formatted))
         && write_number(
             b"11 two sectors stored",
@@ -141,7 +150,7 @@ fn digit(i: usize) -> u8 {
 }
 
 // The first number other than 0 that creating 127 files gives.
-fn create_files(image: &mut [u8]) -> u32 {
+fn create_files(image: &mut [u8], changes: &mut [u32; 133]) -> u32 {
     let mut i = 0;
     while i < 127 {
         let name = [
@@ -156,7 +165,7 @@ fn create_files(image: &mut [u8]) -> u32 {
             b' ',
             b' ',
         ];
-        let number = number_of(create(OLD_RULE, image, ROOT, &name, 0x80, 80, 3));
+        let number = number_of(create(OLD_RULE, image, ROOT, &name, 0x80, 80, 3, changes));
         if number != 0 {
             return number;
         }
@@ -166,12 +175,12 @@ fn create_files(image: &mut [u8]) -> u32 {
 }
 
 // With 127 files and one free sector: the next create, that sector appended, another one, and the next create on the full disk.
-fn full_disk(image: &mut [u8; 33280]) -> bool {
-    let next = create(OLD_RULE, image, ROOT, b"NEXT      ", 0x80, 80, 3);
+fn full_disk(image: &mut [u8; 33280], changes: &mut [u32; 133]) -> bool {
+    let next = create(OLD_RULE, image, ROOT, b"NEXT      ", 0x80, 80, 3, changes);
     let bytes = [0x42u8; 256];
-    let last = append(OLD_RULE, image, ROOT, b"F000      ", &bytes);
-    let full = append(OLD_RULE, image, ROOT, b"F001      ", &bytes);
-    let after = create(OLD_RULE, image, ROOT, b"NEXT      ", 0x80, 80, 3);
+    let last = append(OLD_RULE, image, ROOT, b"F000      ", &bytes, changes);
+    let full = append(OLD_RULE, image, ROOT, b"F001      ", &bytes, changes);
+    let after = create(OLD_RULE, image, ROOT, b"NEXT      ", 0x80, 80, 3, changes);
     write_number(b"12 the next create", number_of(next))
         && write_number(b"12 the last free sector appended", number_of(last))
         && write_number(b"12 another one", number_of(full))
@@ -181,19 +190,35 @@ fn full_disk(image: &mut [u8; 33280]) -> bool {
 // 130 sectors: two of the system, 127 descriptors, and one that is free until it is appended.
 fn case_12() -> bool {
     let mut image = [0u8; 33280];
+    let mut changes = [0u32; 133];
     let formatted = format(&mut image, 130, b"BENCH     ", one_side(10, 13));
-    let made = create_files(&mut image);
+    let made = create_files(&mut image, &mut changes);
     write_number(b"12 130 sectors, formatted", number_of(formatted))
         && write_number(b"12 127 files created", made)
-        && full_disk(&mut image)
+        && full_disk(&mut image, &mut changes)
 }
 
 fn case_13() -> bool {
     let mut image = [0u8; 51200];
+    let mut changes = [0u32; 133];
     let formatted = format(&mut image, 200, b"BENCH     ", one_side(10, 20));
     let bytes = [0x43u8; 32769];
-    let stored = store(OLD_RULE, &mut image, ROOT, b"LONG      ", &bytes[0..32768]);
-    let refused = store(OLD_RULE, &mut image, ROOT, b"LONGER    ", &bytes);
+    let stored = store(
+        OLD_RULE,
+        &mut image,
+        ROOT,
+        b"LONG      ",
+        &bytes[0..32768],
+        &mut changes,
+    );
+    let refused = store(
+        OLD_RULE,
+        &mut image,
+        ROOT,
+        b"LONGER    ",
+        &bytes,
+        &mut changes,
+    );
     write_number(b"13 200 sectors, formatted", number_of(formatted))
         && write_number(
             b"13 32768 bytes stored",
@@ -204,10 +229,18 @@ fn case_13() -> bool {
 
 fn case_14() -> bool {
     let mut image = [0u8; 8960];
+    let mut changes = [0u32; 133];
     let formatted = format(&mut image, 35, b"BENCH     ", one_side(5, 7));
     let bytes = [0x44u8; 300];
-    let stored = store(OLD_RULE, &mut image, ROOT, b"GONE      ", &bytes);
-    let deleted = delete(OLD_RULE, &mut image, ROOT, b"GONE      ");
+    let stored = store(
+        OLD_RULE,
+        &mut image,
+        ROOT,
+        b"GONE      ",
+        &bytes,
+        &mut changes,
+    );
+    let deleted = delete(OLD_RULE, &mut image, ROOT, b"GONE      ", &mut changes);
     let mut target = [0u8; 8960];
     let packed = pack(OLD_RULE, &image, &mut target);
     write_number(b"14 35 sectors, formatted", number_of(formatted))
@@ -233,12 +266,36 @@ fn write_listing(layout: Layout, image: &[u8]) -> bool {
 
 fn case_m() -> bool {
     let mut image = [0u8; 16384];
+    let mut changes = [0u32; 133];
     let formatted = format(&mut image, 64, b"SHELF     ", one_side(8, 8));
     let program = [0x41u8; 300];
-    let stored = store(OLD_RULE, &mut image, ROOT, b"ALPHA     ", &program);
-    let created = create(OLD_RULE, &mut image, ROOT, b"NOTES     ", 0x80, 80, 3);
+    let stored = store(
+        OLD_RULE,
+        &mut image,
+        ROOT,
+        b"ALPHA     ",
+        &program,
+        &mut changes,
+    );
+    let created = create(
+        OLD_RULE,
+        &mut image,
+        ROOT,
+        b"NOTES     ",
+        0x80,
+        80,
+        3,
+        &mut changes,
+    );
     let bytes = [0x42u8; 256];
-    let appended = append(OLD_RULE, &mut image, ROOT, b"NOTES     ", &bytes);
+    let appended = append(
+        OLD_RULE,
+        &mut image,
+        ROOT,
+        b"NOTES     ",
+        &bytes,
+        &mut changes,
+    );
     write_number(b"M formatted", number_of(formatted))
         && write_number(b"M ALPHA stored", number_of(stored))
         && write_number(b"M NOTES created", number_of(created))
@@ -252,11 +309,33 @@ fn case_m() -> bool {
 // Programs that end on a full sector, and one of no bytes; their sectors and lengths are in the listing of the volume packed.
 fn ask_2() -> bool {
     let mut image = [0u8; 51200];
+    let mut changes = [0u32; 133];
     let formatted = format(&mut image, 200, b"BENCH     ", one_side(10, 20));
     let bytes = [0x45u8; 32768];
-    let full = store(OLD_RULE, &mut image, ROOT, b"FULL      ", &bytes[0..512]);
-    let none = store(OLD_RULE, &mut image, ROOT, b"NONE      ", &bytes[0..0]);
-    let long = store(OLD_RULE, &mut image, ROOT, b"LONG      ", &bytes);
+    let full = store(
+        OLD_RULE,
+        &mut image,
+        ROOT,
+        b"FULL      ",
+        &bytes[0..512],
+        &mut changes,
+    );
+    let none = store(
+        OLD_RULE,
+        &mut image,
+        ROOT,
+        b"NONE      ",
+        &bytes[0..0],
+        &mut changes,
+    );
+    let long = store(
+        OLD_RULE,
+        &mut image,
+        ROOT,
+        b"LONG      ",
+        &bytes,
+        &mut changes,
+    );
     let mut target = [0u8; 51200];
     let packed = pack(OLD_RULE, &image, &mut target);
     write_number(b"Ask 2 200 sectors, formatted", number_of(formatted))
@@ -295,14 +374,36 @@ fn write_renamed(words: &[u8], answer: RenameAnswer) -> bool {
 // Names that break the rule, by formatting, and by a rename, which tests its old name wholly before the new one.
 fn ask_4() -> bool {
     let mut image = [0u8; 768];
+    let mut changes = [0u32; 133];
     let led = format(&mut image, 3, b" A        ", one_side(3, 1));
     let dotted = format(&mut image, 3, b"A .       ", one_side(3, 1));
     let blank = format(&mut image, 3, b"          ", one_side(3, 1));
     let short = format(&mut image, 3, b"BENCH", one_side(3, 1));
     let formatted = format(&mut image, 3, b"BENCH     ", one_side(3, 1));
-    let both = rename(OLD_RULE, &mut image, ROOT, b"OLD.      ", b"NEW NAME  ");
-    let new = rename(OLD_RULE, &mut image, ROOT, b"OLD       ", b"NEW NAME  ");
-    let absent = rename(OLD_RULE, &mut image, ROOT, b"OLD       ", b"NEW       ");
+    let both = rename(
+        OLD_RULE,
+        &mut image,
+        ROOT,
+        b"OLD.      ",
+        b"NEW NAME  ",
+        &mut changes,
+    );
+    let new = rename(
+        OLD_RULE,
+        &mut image,
+        ROOT,
+        b"OLD       ",
+        b"NEW NAME  ",
+        &mut changes,
+    );
+    let absent = rename(
+        OLD_RULE,
+        &mut image,
+        ROOT,
+        b"OLD       ",
+        b"NEW       ",
+        &mut changes,
+    );
     write_named(b"Ask 4 a space and A", led)
         && write_named(b"Ask 4 A, a space and a dot", dotted)
         && write_named(b"Ask 4 ten spaces", blank)
@@ -317,11 +418,28 @@ fn ask_4() -> bool {
 // refuses what the other allows.
 fn ask_11() -> bool {
     let mut image = [0u8; 16384];
+    let mut changes = [0u32; 133];
     let formatted = format(&mut image, 64, b"SHELF     ", one_side(8, 8));
     let program = [0x41u8; 300];
-    let stored = store(WITH_MARKS, &mut image, ROOT, b"ALPHA     ", &program);
-    let created = create(WITH_MARKS, &mut image, ROOT, b"NOTES     ", 0x80, 80, 3);
-    let cleared = clear_mark(OLD_RULE, &mut image, ROOT, b"ALPHA     ");
+    let stored = store(
+        WITH_MARKS,
+        &mut image,
+        ROOT,
+        b"ALPHA     ",
+        &program,
+        &mut changes,
+    );
+    let created = create(
+        WITH_MARKS,
+        &mut image,
+        ROOT,
+        b"NOTES     ",
+        0x80,
+        80,
+        3,
+        &mut changes,
+    );
+    let cleared = clear_mark(OLD_RULE, &mut image, ROOT, b"ALPHA     ", &mut changes);
     write_number(b"Ask 11 formatted", number_of(formatted))
         && write_number(b"Ask 11 ALPHA stored", number_of(stored))
         && write_number(b"Ask 11 NOTES created", number_of(created))

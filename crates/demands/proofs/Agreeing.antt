@@ -1,6 +1,6 @@
 -- An image that agrees with a sound volume: in the label, in the numbers of every index, and in all sectors that a file holds. It can be mended, and what repair makes of it has that volume's catalogues.
 use mathlib.Core.Path.{_≡_, refl, sym, ap, _∙_}
-use mathlib.Core.List.{List, [], _∷_, _++_, map}
+use mathlib.Core.List.{List, [], _∷_, _++_}
 use Prim.Native.Nat.{ℕ, zero, suc, _+_, _*_, _/_, _≤_, _<_}
 use native.Mathlib.Omega.{arith}
 use lib.ListN.{length, getD}
@@ -15,9 +15,8 @@ use Rattle.rules.specs.Sound.{fileAt, IsIndexed, Sound}
 use Rattle.rules.specs.Calls.Repair.{ordered, Mendable}
 use Rattle.rules.specs.declared.Layout.{Layout}
 use Rattle.rules.proofs.Sectors.{sector-length}
-use Rattle.rules.proofs.Map.{count-none, count-here, count-other, count-more, count-at, counted-all, count-append}
+use Rattle.rules.proofs.Map.{count-here, count-more, count-at, count-append}
 use Rattle.rules.proofs.Directory.{entries-kept}
-use Rattle.rules.proofs.Indexed.{Ascending}
 use Rattle.rules.proofs.Indexes.{held-of-has, holders-inside}
 use Rattle.rules.proofs.Staying.{map-agree, holders-kept, file-kept, files-kept, file-holds, indexes-kept}
 use Rattle.rules.proofs.Written.{label-kept}
@@ -44,7 +43,7 @@ counts-twice (k ∷ ks) zero (suc q) h l e = rw (← e) (omega (arith, count-her
 counts-twice (k ∷ ks) (suc p) (suc q) h l e = omega (arith, counts-twice ks p q (omega arith) (omega arith) e, count-more (getD ks q 0) k ks)
 
 -- each file's descriptor is a holder
-descriptors-held : (image : List ℕ) (j : ℕ) (ks : List ℕ) → count j ks ≤ count j (fileHolders image ks)
+pub descriptors-held : (image : List ℕ) (j : ℕ) (ks : List ℕ) → count j ks ≤ count j (fileHolders image ks)
 unfolding fileHolders
 descriptors-held image j [] = omega arith
 descriptors-held image j (k ∷ ks) =

@@ -162,15 +162,18 @@ module _ (layout : Layout) (image name : List ℕ) (i p k : ℕ) (o : IsOpened l
     unfolding markedAll
     appended-gains blocks-now takes chain =
         found-has layout image name i p k o
-        (record { gains = record {
-          taken = record { ks = new ∷ []; so-many = refl; chain = blocks-now; takes = takes };
-          lies = altered-lies layout altered name (o .named) (chainWith blocks-now) (ap chainOf descriptor-now ∙ chain);
-          map = map-now;
-          others = λ j inside apart.
-              let some = count-apart j 0 (k ∷ (new ∷ [])) apart in
-              let own = count-apart j k (new ∷ []) (some .1) in
-              else-same j (omega (arith, some .0)) (count-apart j new [] (own .1) .0) (own .0);
-        }; writes = refl })
+        (record {
+          gains = record {
+            taken = record { ks = new ∷ []; so-many = refl; chain = blocks-now; takes = takes };
+            lies = altered-lies layout altered name (o .named) (chainWith blocks-now) (ap chainOf descriptor-now ∙ chain);
+            map = map-now;
+            others = λ j inside apart.
+                let some = count-apart j 0 (k ∷ (new ∷ [])) apart in
+                let own = count-apart j k (new ∷ []) (some .1) in
+                else-same j (omega (arith, some .0)) (count-apart j new [] (own .1) .0) (own .0);
+          };
+          writes = refl;
+        })
 
 appending-done : (layout : Layout) (image name bytes : List ℕ) (i p k : ℕ) → IsOpened layout image name i p k → Passed (appendTests image bytes k) →
     let after = written image (appendWrites layout image bytes k) in

@@ -42,7 +42,7 @@ use Rattle.demands.proofs.Mending.{mends-one}
 use Rattle.demands.proofs.Unique.{same-result}
 
 -- the first ground fixes the number
-first-one : (n m : ℕ) (gs : List {1} Ground) → First n gs → First m gs → n ≡ m
+pub first-one : (n m : ℕ) (gs : List {1} Ground) → First n gs → First m gs → n ≡ m
 unfolding First
 first-one n m [] one two = one ∙ sym two
 first-one n m (g ∷ gs) (inl one) (inl two) = one .1 ∙ sym (two .1)
@@ -58,7 +58,7 @@ first-more n (g ∷ gs) more some (inl here) = inl here
 first-more n (g ∷ gs) more some (inr past) = inr (past .0, first-more n gs more some (past .1))
 
 -- so a call that tests the image and was done was made on a sound one
-done-sound : (layout : Layout) (image : List ℕ) (n : ℕ) (more : List {1} Ground) → n ≡ 0 → First n (faults layout image ++ more) → Sound layout image
+pub done-sound : (layout : Layout) (image : List ℕ) (n : ℕ) (more : List {1} Ground) → n ≡ 0 → First n (faults layout image ++ more) → Sound layout image
 unfolding ours seen grounds lookGrounds
 done-sound layout image n more zero first =
     elim (ℕ-discrete (verdict layout image) 0) [

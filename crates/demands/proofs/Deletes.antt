@@ -96,8 +96,13 @@ module _ (layout : Layout) (image : List ℕ) (i : ℕ) (name : List ℕ) (k : �
             others j (some .0) (count-apart j i [] (some .1) .0);
       }
 
+  -- and its writes are the index and sector 0
+  leaves-so : Leaves image after i k × (sectorsIn (first ∷ (second ∷ [])) ≡ i ∷ (0 ∷ []))
+  unfolding sectorsIn
+  leaves-so = (leaves, refl)
+
 pub deletes : (layout : Layout) → Does layout delete
-unfolding outcome deleteOf deleting TouchesIn sectorsIn
+unfolding outcome deleteOf deleting TouchesIn
 deletes layout image directory name e =
     let was = changed-done (openOf layout image directory name) (deleting image) (open-refused layout image directory name) e in
     let i = was .index in
@@ -111,5 +116,6 @@ deletes layout image directory name e =
       opened-there .0,
     ) (
       deleted layout image i name k (opened .whole) (opened .indexed) there (opened .named),
-      found-has layout image name i (was .place) k opened (leaves layout image i name k (opened .whole) (opened .indexed) there (opened .named), refl),
+      found-has layout image name i (was .place) k opened {holds = λ h. Leaves image (after layout image i name k (opened .whole) (opened .indexed) there (opened .named)) i h × _}
+          (leaves-so layout image i name k (opened .whole) (opened .indexed) there (opened .named)),
     )

@@ -96,6 +96,21 @@ module _ (image name : List ℕ) (k : ℕ) (is : name ≡ nameIn image k) where
             (changed-files after change e js (omega (arith, count-other k j js there)) (λ i h. only i (omega (arith, count-more i j js))) (λ i h. others i (rw left (omega (arith, h, count-more i j (without k js)))))))
       ]
 
+  -- and where the catalogue has one changed, that is k
+  pub changed-at : (after : List ℕ) (change : File → File) (ks : List ℕ) → 1 ≤ count k ks → ((j : ℕ) → 1 ≤ count j ks → nameIn image j ≡ nameIn image k → j ≡ k)
+      → map (fileIn after) ks ≡ changed name change (map (fileIn image) ks) → fileIn after k ≡ change (fileIn image k)
+  unfolding changed
+  changed-at after change [] some only e = absurd (omega (arith, some, count-none k))
+  changed-at after change (j ∷ js) some only e =
+      elim (ℕ-discrete j k) [
+        | yes here ↦
+            let one : fileIn after k ∷ map (fileIn after) js ≡ change (fileIn image k) ∷ map (fileIn image) js = rw (here, same-here) at e in
+            cc one
+        | no there ↦
+            let later : fileIn after j ∷ map (fileIn after) js ≡ fileIn image j ∷ changed name change (map (fileIn image) js) = rw (same-other j (only j (omega (arith, count-here j js))) there) at e in
+            changed-at after change js (omega (arith, some, count-other k j js there)) (λ i h. only i (omega (arith, h, count-more i j js))) (cc later)
+      ]
+
 -- the file of that name in the catalogue of a sound volume
 pub named-file : (layout : Layout) (image : List ℕ) (i : ℕ) (name : List ℕ) (k : ℕ) → Sound layout image → IsIndexed layout image i → 1 ≤ count k (filesIn image i) → name ≡ nameIn image k → named name (catalogue image i) ≡ fileIn image k
 unfolding catalogue

@@ -38,6 +38,11 @@ pub mod Complete
 pub mod Rules
 pub mod Editions
 pub mod Lengths
+mod Cutting
+mod Between
+mod Resuming
+pub mod Stop
+pub mod WrongStop
 pub mod StoredLoads
 pub mod Wrong
 pub mod WrongPacking

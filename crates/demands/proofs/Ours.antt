@@ -7,13 +7,13 @@ use native.Mathlib.Omega.{arith}
 use native.Mathlib.Decide.{ℕ-discrete}
 use lib.ListN.{length}
 use Rattle.rules.specs.Bytes.{part, splice}
-use Rattle.rules.specs.Sectors.{sectorOf, written}
+use Rattle.rules.specs.Sectors.{sectorOf, sectorsIn, written}
 use Rattle.rules.specs.Name.{wrongPlace}
 use Rattle.rules.specs.Map.{freeCount}
 use Rattle.rules.specs.Verdict.{volumeTests, verdict}
 use Rattle.rules.specs.Sound.{Sound}
 use Rattle.rules.specs.Outcome.{Outcome, Report, amountOf, byNumber, namedAmountOf}
-use Rattle.rules.specs.Volume.{indexAt}
+use Rattle.rules.specs.Volume.{indexAt, catalogues}
 use Rattle.rules.specs.Opening.{openOf}
 use Rattle.rules.specs.Calls.Format.{Geometry, formatted, formatTests, formatNumber, afterFormat}
 use Rattle.rules.specs.Calls.Summary.{freeCountOf, summaryOf, summaryAnswer}
@@ -21,6 +21,7 @@ use Rattle.rules.specs.Calls.Entry.{entryOf}
 use Rattle.rules.specs.Calls.Read.{reading, readOf}
 use Rattle.rules.specs.Calls.Load.{loading, loadOf}
 use Rattle.rules.specs.Calls.Listing.{listingText, listingOf}
+use Rattle.rules.specs.Calls.Repair.{repairTests, mending, repairOf}
 use Rattle.rules.specs.Calls.Pack.{packNumber}
 use Rattle.rules.specs.declared.Layout.{Layout}
 use Rattle.rules.proofs.Tests.{unless-passed, unless-met}
@@ -35,11 +36,11 @@ use Rattle.rules.proofs.Indexes.{directory-indexed}
 use Rattle.demands.specs.Effects.{Kept}
 use Rattle.demands.specs.Does.{Does, FormatCall}
 use Rattle.demands.specs.Call as call
-use Rattle.demands.specs.Call.{Names, Form, namedNumber, numberIn, Look, Change, Call, namesOf, ruleOf, lent, numberOf, run}
+use Rattle.demands.specs.Call.{Form, namedNumber, numberIn, Look, Change, Call, namesOf, ruleOf, lent, numberOf, run}
 use Rattle.demands.specs.Ours.{answered, seen, outcome, ours}
 use Rattle.demands.specs.Demand3.{packs}
 use Rattle.demands.specs.Grounds.{First, grounds}
-use Rattle.demands.specs.Demand2.{FreeIs, FreeGiven, Summarized, Shows, Means, Frame, Demand2}
+use Rattle.demands.specs.Demand2.{FreeIs, FreeGiven, Summarized, Shows, Means, Unlisted, Frame, Demand2}
 use Rattle.demands.proofs.Formatting.{format-passed, format-size, format-call, format-bytes}
 use Rattle.demands.proofs.Creates.{creates}
 use Rattle.demands.proofs.Stores.{stores}
@@ -48,16 +49,18 @@ use Rattle.demands.proofs.Overwrites.{overwrites}
 use Rattle.demands.proofs.Protects.{protects, unprotects, clears, cleared-sound}
 use Rattle.demands.proofs.Deletes.{deletes}
 use Rattle.demands.proofs.Renames.{renames}
-use Rattle.demands.proofs.Refusals.{Writes, Puts, reported-puts, on-file-puts, change-writes}
+use Rattle.demands.proofs.Agreeing.{agrees-itself, agreed-catalogues}
+use Rattle.demands.proofs.Mending.{repair-mends}
+use Rattle.demands.proofs.Refusals.{Writes, Puts, tested-writes, reported-puts, on-file-puts, change-writes}
 use Rattle.demands.proofs.Demand3.{packing-demand}
 use Rattle.demands.proofs.Carried.{answer-number, amount-number, summary-number, named-number, loaded-number, carried}
 use Rattle.demands.proofs.Lines.{listing-lists}
 use Rattle.demands.proofs.Shown.{together-length, entry-bytes, entry-answers, read-is, load-is, listing-is}
 
--- what a refusal leaves: of the image, and of the buffer lent
-refused-image : (names : Names) (image : List ℕ) (outcome : Outcome) → Writes outcome → (namedNumber names (answered names (outcome .number)) ≡ 0 → ⊥) → written image (outcome .writes) ≡ image
-unfolding written
-refused-image names image outcome writes some = rw (writes .none (λ z. some (named-number names (outcome .number) ∙ z)))
+-- what a refusal leaves: of the image and of the order, and of the buffer lent
+refused-image : (image : List ℕ) (outcome : Outcome) → Writes outcome → (outcome .number ≡ 0 → ⊥) → (written image (outcome .writes) ≡ image) × (sectorsIn (outcome .writes) ≡ [])
+unfolding written sectorsIn
+refused-image image outcome writes some = let none = writes .none some in (rw none, rw none)
 
 refused-buffer : (buffer : List ℕ) (report : Report) → Puts report → (report .number ≡ 0 → ⊥) → splice buffer 0 (report .bytes) ≡ buffer
 refused-buffer buffer report puts some = rw (puts .none some) (splice-none buffer 0)
@@ -81,11 +84,24 @@ look-refuses layout (call.load directory name) buffer image some =
 look-refuses layout (call.list directory) buffer image some = refused-buffer buffer (listingOf layout image directory (length buffer)) (reported-puts _ _ _) (λ z. some (amount-number _ ∙ z))
 look-refuses layout call.pack buffer image some = packing-demand layout .refuses image buffer (λ z. some (answer-number (packNumber layout image buffer) ∙ z))
 
-pub refuses : (layout : Layout) (c : Call) (image : List ℕ) → (numberOf (ours layout) c image ≡ 0 → ⊥) → (ours layout c image .image ≡ image) × (ours layout c image .buffer ≡ lent c)
-unfolding ours
-refuses layout (call.look look buffer) image some = (refl, look-refuses layout look buffer image some)
-refuses layout (call.change directory name change) image some = (refused-image (namesOf name change) image (outcome layout change image directory name) (change-writes layout change image directory name) some, refl)
-refuses layout (call.format n name geometry) image some = (refused-format image n name geometry some, refl)
+pub refuses : (layout : Layout) (c : Call) (image : List ℕ) → (numberOf (ours layout) c image ≡ 0 → ⊥) → (ours layout c image .image ≡ image) × (ours layout c image .buffer ≡ lent c) × (ours layout c image .order ≡ [])
+unfolding ours repairOf
+refuses layout (call.look look buffer) image some = (refl, look-refuses layout look buffer image some, refl)
+refuses layout (call.change directory name change) image some =
+    let outcome = outcome layout change image directory name in
+    let left = refused-image image outcome (change-writes layout change image directory name) (λ z. some (named-number (namesOf name change) (outcome .number) ∙ z)) in
+    (left .0, refl, left .1)
+refuses layout call.repair image some =
+    let left = refused-image image (repairOf layout image) (tested-writes (repairTests layout image) (mending layout image)) (λ z. some (answer-number (repairOf layout image .number) ∙ z)) in
+    (left .0, refl, left .1)
+refuses layout (call.format n name geometry) image some = (refused-format image n name geometry some, refl, refl)
+
+pub unlisted : (layout : Layout) (c : Call) (image : List ℕ) → Unlisted c (ours layout c image .order)
+unfolding ours Unlisted
+unlisted layout (call.look look buffer) image = refl
+unlisted layout (call.change directory name change) image = tt
+unlisted layout call.repair image = tt
+unlisted layout (call.format n name geometry) image = refl
 
 -- the lengths of what is lent
 look-length : (layout : Layout) {form : Form} (look : Look form) (buffer image : List ℕ) → length (seen layout look buffer image .buffer) ≡ length buffer
@@ -117,6 +133,7 @@ pub lengths : (layout : Layout) (c : Call) (image : List ℕ) → (length (ours 
 unfolding ours
 lengths layout (call.look look buffer) image = (refl, look-length layout look buffer image)
 lengths layout (call.change directory name change) image = (written-length image (outcome layout change image directory name .writes), refl)
+lengths layout call.repair image = (written-length image (repairOf layout image .writes), refl)
 lengths layout (call.format n name geometry) image = (format-length image n name geometry, refl)
 
 -- what a call that was done means: formatting, whatever the image was
@@ -127,6 +144,11 @@ unfolding ours Means FormatCall
 formats layout n name geometry image e =
     let zero = sym (named-number (call.one name) (formatNumber image n name)) ∙ e in
     (format-call layout image n name geometry zero, format-bytes image n name geometry zero)
+
+-- and repair
+pub mends : (layout : Layout) (image : List ℕ) → numberOf (ours layout) call.repair image ≡ 0 → Means layout call.repair image (ours layout call.repair image)
+unfolding ours Means
+mends layout image e = repair-mends layout image (sym (answer-number (repairOf layout image .number)) ∙ e)
 
 -- the reading calls
 free-is : (layout : Layout) (image : List ℕ) → Sound layout image → FreeIs layout image (freeCount (sectorOf image 0))
@@ -146,7 +168,7 @@ summary-means layout image buffer is = (
 )
 
 shows : (layout : Layout) {form : Form} (look : Look form) (buffer image : List ℕ) → Sound layout image → numberIn form (seen layout look buffer image .answer) ≡ 0
-    → Shows layout look buffer image (record { answer = seen layout look buffer image .answer; buffer = seen layout look buffer image .buffer; image = image })
+    → Shows layout look buffer image (record { answer = seen layout look buffer image .answer; buffer = seen layout look buffer image .buffer; image = image; order = [] })
 unfolding seen Shows packs amountOf namedAmountOf byNumber
 shows layout call.judge buffer image is e = splice-none buffer 0
 shows layout call.freeCount buffer image is e = (free-means layout image is, splice-none buffer 0)
@@ -188,6 +210,7 @@ pub means : (layout : Layout) (c : Call) (image : List ℕ) → Sound (ruleOf la
 unfolding ours Means
 means layout (call.look look buffer) image is e = shows layout look buffer image is e
 means layout (call.change directory name change) image is e = does layout change image directory name (sym (named-number (namesOf name change) (outcome layout change image directory name .number)) ∙ e)
+means layout call.repair image is e = mends layout image e
 means layout (call.format n name geometry) image is e = formats layout n name geometry image e
 
 -- the frame: of a call that was done, and of a refusal
@@ -202,22 +225,24 @@ kept-same layout image after i name e =
       contents = λ j k p another placed. refl;
     })
 
-frame-done : (layout : Layout) (c : Call) (image : List ℕ) → Means (ruleOf layout c) c image (ours layout c image) → Frame (ruleOf layout c) c image (ours layout c image .image)
+frame-done : (layout : Layout) (c : Call) (image : List ℕ) → Sound (ruleOf layout c) image → Means (ruleOf layout c) c image (ours layout c image) → Frame (ruleOf layout c) c image (ours layout c image .image)
 unfolding ours Means Frame
-frame-done layout (call.look look buffer) image m = refl
-frame-done layout (call.change directory name change) image m = m .0 .kept
-frame-done layout (call.format n name geometry) image m = tt
+frame-done layout (call.look look buffer) image is m = refl
+frame-done layout (call.change directory name change) image is m = m .0 .kept
+frame-done layout call.repair image is m = agreed-catalogues layout image image is (agrees-itself layout image is) _ _ m
+frame-done layout (call.format n name geometry) image is m = tt
 
 frame-same : (layout : Layout) (c : Call) (image after : List ℕ) → after ≡ image → Frame layout c image after
 unfolding Frame
 frame-same layout (call.look look buffer) image after same = same
 frame-same layout (call.change directory name change) image after same = kept-same layout image after (indexAt layout image directory) name same
+frame-same layout call.repair image after same = ap (catalogues layout) same
 frame-same layout (call.format n name geometry) image after same = tt
 
 pub frame : (layout : Layout) (c : Call) (image : List ℕ) → Sound (ruleOf layout c) image → Frame (ruleOf layout c) c image (ours layout c image .image)
 frame layout c image is =
     elim (ℕ-discrete (numberOf (ours layout) c image) 0) [
-      | yes zero ↦ frame-done layout c image (means layout c image is zero)
+      | yes zero ↦ frame-done layout c image is (means layout c image is zero)
       | no some ↦ frame-same (ruleOf layout c) c image (ours layout c image .image) (refuses layout c image some .0)
     ]
 
@@ -238,6 +263,7 @@ sound-done : (layout : Layout) (c : Call) (image : List ℕ) → Sound layout im
 unfolding ours Means
 sound-done layout (call.look look buffer) image is e = is
 sound-done layout (call.change directory name change) image is e = change-sound layout change image directory name is (sym (named-number (namesOf name change) (outcome layout change image directory name .number)) ∙ e)
+sound-done layout call.repair image is e = mends layout image e .sound
 sound-done layout (call.format n name geometry) image is e = formats layout n name geometry image e .0 .sound
 
 sound-call : (layout : Layout) (c : Call) (image : List ℕ) → Sound layout image → Sound layout (ours layout c image .image)
@@ -254,4 +280,4 @@ sound-run layout (c ∷ calls) image is = sound-run layout calls (ours layout c 
 
 pub demand2-but-progress : (layout : Layout) → ((c : Call) (image : List ℕ) → First (numberOf (ours layout) c image) (grounds (ruleOf layout c) c image)) → Demand2 layout (ours layout)
 demand2-but-progress layout progress =
-    record { carries = λ c image. carried layout c image (progress c image); lengths = lengths layout; refuses = refuses layout; sound = sound-run layout; formats = formats layout; frame = frame layout; means = means layout; progress = progress }
+    record { carries = λ c image. carried layout c image (progress c image); lengths = lengths layout; refuses = refuses layout; unlisted = unlisted layout; sound = sound-run layout; formats = formats layout; mends = mends layout; frame = frame layout; means = means layout; progress = progress }

@@ -20,8 +20,8 @@ use Rattle.rules.specs.declared.Block.{Block}
 use Rattle.rules.specs.Kind.{withMarks}
 use Rattle.rules.specs.Tests.{Test, firstOf}
 use Rattle.rules.specs.Verdict.{volumeTests, verdict}
-use Rattle.rules.specs.Outcome.{Report, Outcome, tested}
-use Rattle.rules.specs.Opening.{findIn, inDirectory, openOf, onFile, changing, adding}
+use Rattle.rules.specs.Outcome.{Report, Outcome}
+use Rattle.rules.specs.Opening.{findIn, openOf, onFile, changing, adding}
 use Rattle.rules.specs.Calls.Summary.{freeCountOf}
 use Rattle.rules.specs.Calls.Entry.{entryTests, entryOf}
 use Rattle.rules.specs.Calls.Read.{readTests, reading, readOf}

@@ -29,7 +29,7 @@ pub record Puts (report : Report) : Type 0 where
   pub none : (report .number ≡ 0 → ⊥) → report .bytes ≡ []
 
 -- by their tests
-tested-writes : (tests : List Test) (writes : List Write) → Writes (tested tests writes)
+pub tested-writes : (tests : List Test) (writes : List Write) → Writes (tested tests writes)
 tested-writes tests writes = record { none = unless-met tests writes [] }
 
 pub reported-puts : (tests : List Test) (value : ℕ) (bytes : List ℕ) → Puts (reported tests value bytes)

@@ -18,6 +18,8 @@ pub mod Demand2
 pub mod Rules
 pub mod Editions
 pub mod Lengths
+pub mod Stop
+pub mod WrongStop
 pub mod Wrong
 pub mod Unique
 pub mod Demand3

@@ -216,7 +216,7 @@ module _ (layout : Layout) (image marks : List ℕ) (first : marks ≡ mapOf (se
         let as-long = all-length 1 (asMap marks) hs ∙ long in
         sym (as-map-part after kept) ∙ ap (λ (s : List ℕ). part s 56 200) left
         ∙ map-of-bytes (sectorCount image) (holders layout image) whole (part-length whole 56 200 (omega (arith, as-long)))
-        (all-below 1 (omega arith) (asMap marks) hs (as-map-below marks (rw first (map-below (sectorCount image) (0 ∷ []) (one-once 0)))))
+        (λ i low. all-below 1 (omega arith) (asMap marks) hs (as-map-below marks (rw first (map-below (sectorCount image) (0 ∷ []) (one-once 0)))) (56 + i))
         (map-left (sectorCount image) hs (holders layout image) (asMap marks) (size .2) long bits below (holders-count layout image) (claimed-twice ∙ once))
 
 -- The judge's, on an image that has passed its tests 1 to 4: what the claims say of test 5, and where none was claimed twice, of a map that is compared with the marks.

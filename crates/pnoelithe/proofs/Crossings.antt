@@ -1,20 +1,35 @@
 -- What a call answered, and what C is given of it: the number and the bytes; and what stands behind a pointer, case by case of the answer.
-use mathlib.Core.Path.{_≡_, refl, sym, _∙_}
-use mathlib.Core.List.{List}
+use mathlib.Core.Path.{_≡_, refl, sym, ap, _∙_}
+use mathlib.Core.List.{List, [], _∷_}
 use Prim.Native.Nat.{ℕ}
+use native.Mathlib.Omega.{arith}
+use lib.ListN.{length}
 use borrow.Author.Tests.{ne-eqb}
-use Rattle.rules.specs.Outcome.{Report, Outcome, Bare, Meets, Gives, behind}
+use Rattle.rules.specs.Bytes.{splice}
+use Rattle.rules.specs.Sectors.{Write, sectorsIn}
+use Rattle.rules.specs.Outcome.{Report, Outcome, orderOf, listed, Bare, Gives, behind}
 use Rattle.rules.specs.declared.WrongPlace.{WrongPlace}
 use Rattle.rules.specs.declared.WrongPlace.the-variants.{At}
-use Rattle.rules.proofs.Outcome.{wrong-there, behind-given, behind-kept}
-use Rattle.pnoelithe.specs.Crossing.{behindSeven, placeBehind, Crosses, ReportCrosses, AmountCrosses}
+use Rattle.rules.proofs.Splice.{splice-none, splice-covered}
+use Rattle.rules.proofs.Outcome.{MeetsInOrder, wrong-there, behind-given, behind-kept}
+use Rattle.pnoelithe.specs.Crossing.{behindSeven, placeBehind, changesOf, Crosses, ReportCrosses, AmountCrosses}
+
+-- the order of a call's writes, put where it was said that there are none
+put-there : (writes : List Write) (changes : List ℕ) → splice (splice changes 1 (0 ∷ [])) 1 (orderOf writes) ≡ splice changes 1 (length writes ∷ sectorsIn writes)
+unfolding orderOf sectorsIn
+put-there [] changes = splice-none _ _
+put-there (first ∷ more) changes = splice-covered changes 1 (0 ∷ []) _ (omega arith)
+
+listed-crosses : (outcome : Outcome) (changes none order : List ℕ) → none ≡ splice changes 1 (0 ∷ []) → order ≡ listed outcome none → order ≡ changesOf outcome changes
+listed-crosses outcome changes none order none-is order-is = order-is ∙ ap (λ (l : List ℕ). splice l 1 (orderOf (outcome .writes))) none-is ∙ put-there (outcome .writes) changes
 
 -- where the answer crosses as the number that it says, the call does; and what stands behind the pointers afterwards is handed on
-pub writing-crosses : {Given : Type 0} (Says : Given → ℕ → Type 0) (Behind : Type 0) (outcome : Outcome) (given : Given) (r : ℕ) (before after : List ℕ)
-    → (Says given (outcome .number) → (r ≡ outcome .number) × Behind) → Meets Says outcome given before after → Crosses outcome r before after × Behind
-writing-crosses Says Behind outcome given r before after crossing meets =
-    let crossed = crossing (meets .said) in
-    (record { returned = crossed .0; left = meets .left }, crossed .1)
+pub writing-crosses : {Given : Type 0} (Says : Given → ℕ → Type 0) (Behind : Type 0) (outcome : Outcome) (given : Given) (r : ℕ) (before after changes none order : List ℕ)
+    → MeetsInOrder Says outcome given before after none order → none ≡ splice changes 1 (0 ∷ []) → (Says given (outcome .number) → (r ≡ outcome .number) × Behind)
+    → Crosses outcome r before after × (Behind × (order ≡ changesOf outcome changes))
+writing-crosses Says Behind outcome given r before after changes none order meets none-is crossing =
+    let crossed = crossing (meets .0 .said) in
+    (record { returned = crossed .0; left = meets .0 .left }, (crossed .1, listed-crosses outcome changes none order none-is (meets .1)))
 
 pub reading-crosses : {Given : Type 0} (Says : Given → Report → Type 0) (Behind : Type 0) (report : Report) (given : Given) (r : ℕ) (before after : List ℕ)
     → (Says given report → (r ≡ report .number) × Behind) → Gives Says report given before after → ReportCrosses report r before after × Behind

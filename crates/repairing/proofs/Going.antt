@@ -2,12 +2,12 @@
 use mathlib.Core.Path.{_≡_, refl, sym, ap, _∙_}
 use mathlib.Core.Bool.{true}
 use mathlib.Core.List.{List, [], _∷_, map}
-use Prim.Native.Nat.{ℕ, _+_, _*_, _/_, _≤_, _<_}
+use Prim.Native.Nat.{ℕ, _+_, _*_, _≤_, _<_}
 use native.Mathlib.Omega.{arith}
 use native.Mathlib.Decide.{decLt}
 use lib.ListN.{length, getD, set}
 use Rattle.rules.specs.Bytes.{splice}
-use Rattle.rules.specs.Sectors.{sectorOf, sectorCount, Write, written}
+use Rattle.rules.specs.Sectors.{sectorOf, sectorCount, written}
 use Rattle.rules.specs.Map.{count}
 use Rattle.rules.specs.Descriptor.{nameOf}
 use Rattle.rules.specs.Index.{indexOf, IsIndex}
@@ -19,7 +19,7 @@ use Rattle.rules.specs.declared.Layout.{Layout}
 use Rattle.rules.proofs.Splice.{splice-length, splice-none, splice-append, set-splice}
 use Rattle.rules.proofs.Map.{count-none, count-here, count-other, count-more, count-at}
 use Rattle.rules.proofs.Indexed.{index-length}
-use Rattle.rules.proofs.Indexes.{index-some, directory-indexed}
+use Rattle.rules.proofs.Indexes.{index-some}
 use Rattle.rules.proofs.Written.{sector-other}
 use Rattle.rules.proofs.Staying.{index-at-kept}
 use Rattle.rules.proofs.Ordered.{ordered-agree}

@@ -1,18 +1,18 @@
 -- What repair gives by its number; and that the indexes written, the map laid into sector 0 where it stands, and the list of both are its writes and their order.
 use mathlib.Core.Path.{_≡_, refl, sym, ap, _∙_}
-use mathlib.Core.List.{List, [], _∷_, _++_, map}
-use Prim.Native.Nat.{ℕ, _+_, _*_, _≤_, _<_}
+use mathlib.Core.List.{List, [], _∷_, map}
+use Prim.Native.Nat.{ℕ, _+_, _≤_}
 use native.Mathlib.Omega.{arith}
 use native.Mathlib.Decide.{decLt}
 use lib.ListN.{length, length-append, length-map}
 use borrow.Rule.Slice.PartMut.{putMid}
-use Rattle.rules.specs.Bytes.{part, splice}
-use Rattle.rules.specs.Sectors.{sectorOf, sectorCount, Write, sectorsIn, written}
+use Rattle.rules.specs.Bytes.{splice}
+use Rattle.rules.specs.Sectors.{sectorOf, sectorCount, written}
 use Rattle.rules.specs.Map.{count, mapOf}
 use Rattle.rules.specs.Volume.{indexes, filesIn, holders}
 use Rattle.rules.specs.Tests.{firstOf}
 use Rattle.rules.specs.Outcome.{write, done, refusal, orderOf}
-use Rattle.rules.specs.Calls.Repair.{repairTests, ordered, orderedIndex, mapAnew, mending, repairOf, Mendable}
+use Rattle.rules.specs.Calls.Repair.{repairTests, ordered, orderedIndex, mapAnew, mending, repairOf}
 use Rattle.rules.specs.declared.Layout.{Layout}
 use Rattle.rules.proofs.Tests.{unless-passed, unless-met}
 use Rattle.rules.proofs.Splice.{splice-append, splice-part, put-back}

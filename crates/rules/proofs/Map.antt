@@ -175,6 +175,11 @@ byte-of-bits bit b k h f =
     eight-bits b h
     ∙ rw (f 0 (omega arith) ∙ ap bit z, f 1 (omega arith), f 2 (omega arith), f 3 (omega arith), f 4 (omega arith), f 5 (omega arith), f 6 (omega arith), f 7 (omega arith))
 
+-- bits that are no more than one make a byte
+pub byte-small : (bit : ℕ → ℕ) (k : ℕ) → ((j : ℕ) → bit j ≤ 1) → byteOf bit k < 256
+unfolding byteOf
+byte-small bit k once = omega (arith, once k, once (k + 1), once (k + 2), once (k + 3), once (k + 4), once (k + 5), once (k + 6), once (k + 7))
+
 -- bit j of the map's byte i
 pub map-bit : (sector0 : List ℕ) (i j : ℕ) → j < 8 → mapBit sector0 (8 * i + j) ≡ bitOf (byteAt sector0 (56 + i)) j
 unfolding mapBit
@@ -212,7 +217,7 @@ unfolding mapOf
 map-same n old new counts = ap (λ (bit : ℕ → ℕ). bytesOf bit 200 0) (fun-ext (taken-same n old new counts))
 
 -- and bytes with the holders' bits are the map's
-pub map-of-bytes : (n : ℕ) (holders sector0 : List ℕ) → length (part sector0 56 200) ≡ 200 → ((i : ℕ) → byteAt sector0 i < 256)
+pub map-of-bytes : (n : ℕ) (holders sector0 : List ℕ) → length (part sector0 56 200) ≡ 200 → ((i : ℕ) → i < 200 → byteAt sector0 (56 + i) < 256)
     → ((k : ℕ) → k < 1600 → mapBit sector0 k ≡ taken n holders k) → part sector0 56 200 ≡ mapOf n holders
 unfolding mapOf
 map-of-bytes n holders sector0 long small f =
@@ -220,7 +225,7 @@ map-of-bytes n holders sector0 long small f =
     (λ i h.
     let i′ : i < 200 = omega arith in
     part-at sector0 56 200 i i′
-    ∙ byte-of-bits (taken n holders) (byteAt sector0 (56 + i)) (8 * i) (small (56 + i)) (λ j l. sym (map-bit sector0 i j l) ∙ f (8 * i + j) (omega arith))
+    ∙ byte-of-bits (taken n holders) (byteAt sector0 (56 + i)) (8 * i) (small i i′) (λ j l. sym (map-bit sector0 i j l) ∙ f (8 * i + j) (omega arith))
     ∙ sym (bytes-at (taken n holders) 200 0 i i′ ∙ ap (byteOf (taken n holders)) (omega arith)))
 
 -- the map's rule is the comparison of its 200 bytes with those of the holders
@@ -230,5 +235,5 @@ map-compared n hs sector0 long small once =
     same-test (same (part sector0 56 200) (mapOf n hs)) (mapRule n hs sector0)
     (λ e. at-map n hs sector0 (map-of-bits n hs sector0 once (same-is (part sector0 56 200) (mapOf n hs) e)))
     (λ e.
-    let bytes = map-of-bytes n hs sector0 (part-length sector0 56 200 (omega (arith, long))) small (map-at n hs sector0 e) in
+    let bytes = map-of-bytes n hs sector0 (part-length sector0 56 200 (omega (arith, long))) (λ i h. small (56 + i)) (map-at n hs sector0 e) in
     rw bytes (is-same (mapOf n hs)))

@@ -10,7 +10,7 @@ use Rattle.rules.specs.Bytes.{byteAt, part, splice}
 use Rattle.rules.specs.Sectors.{sectorOf, sectorCount, Write, sectorsIn, through, written}
 use Rattle.rules.specs.Map.{mapBit, count, taken, mapOf}
 use Rattle.rules.specs.Descriptor.{nameOf, IsDescriptor}
-use Rattle.rules.specs.Index.{numbers, indexOf, IsIndex}
+use Rattle.rules.specs.Index.{numbers, indexOf}
 use Rattle.rules.specs.Directory.{entries}
 use Rattle.rules.specs.Volume.{indexes, filesIn, filesOf, nameIn, placesIn, fileHolders, holders}
 use Rattle.rules.specs.Sound.{fileAt, IsIndexed, SoundIndex, Sound}
@@ -20,15 +20,14 @@ use Rattle.rules.specs.declared.Layout.{Layout}
 use Rattle.rules.proofs.Bytes.{part-length, part-at, append-parts}
 use Rattle.rules.proofs.Splice.{splice-length, splice-below, splice-inside}
 use Rattle.rules.proofs.Sectors.{sector-length}
-use Rattle.rules.proofs.Map.{count-none, count-here, count-other, count-more, count-apart, count-at, counted-all, count-append, map-of-bits, taken-same, taken-below, taken-past}
-use Rattle.rules.proofs.Volume.{file-holders-inside}
+use Rattle.rules.proofs.Map.{count-none, count-here, count-other, count-more, count-at, count-append, map-of-bits, taken-same, taken-below, taken-past}
 use Rattle.rules.proofs.Indexed.{Ascending, index-length, numbers-index, index-is-index}
-use Rattle.rules.proofs.Indexes.{index-inside, index-some, held-append, held-of-has, files-of-has}
+use Rattle.rules.proofs.Indexes.{index-inside, held-append, held-of-has}
 use Rattle.rules.proofs.Directory.{entries-kept}
 use Rattle.rules.proofs.Formatted.{map-length}
 use Rattle.rules.proofs.Written.{Whole, written-length, written-apart, label-kept}
 use Rattle.rules.proofs.Through.{none-named, through-writes}
-use Rattle.rules.proofs.Staying.{map-each, holders-kept, file-holds, indexes-kept}
+use Rattle.rules.proofs.Staying.{holders-kept, file-holds, indexes-kept}
 use Rattle.rules.proofs.Ordered.{ordered-count, ordered-length, ordered-all, ordered-holders, ordered-ascending}
 
 -- the order of repair's writes: the indexes, then sector 0

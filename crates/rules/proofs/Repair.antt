@@ -10,16 +10,15 @@ use lib.ListN.{length, getD}
 use borrow.Author.Tests.{not-true, not-false}
 use Rattle.rules.specs.Bytes.{same}
 use Rattle.rules.specs.Sectors.{sectorOf, sectorCount}
-use Rattle.rules.specs.Label.{labelRule}
 use Rattle.rules.specs.Map.{count}
 use Rattle.rules.specs.Descriptor.{descriptorRule, IsDescriptor}
 use Rattle.rules.specs.Index.{indexRule}
 use Rattle.rules.specs.Directory.{entries, entriesRule}
 use Rattle.rules.specs.Volume.{indexes, every, filesIn, nameIn, holders}
 use Rattle.rules.specs.Tests.{firstOf, Passed}
-use Rattle.rules.specs.Verdict.{sizeRule, heldTwice}
+use Rattle.rules.specs.Verdict.{sizeRule}
 use Rattle.rules.specs.Sound.{IsIndexed}
-use Rattle.rules.specs.Calls.Repair.{namedIn, eachRule, distinctRule, repairTests, MendableIndex, Mendable}
+use Rattle.rules.specs.Calls.Repair.{namedIn, eachRule, distinctRule, repairTests, Mendable}
 use Rattle.rules.specs.declared.Layout.{Layout}
 use Rattle.rules.proofs.Tests.{both, neither, absurd-test, all-passed}
 use Rattle.rules.proofs.Bytes.{same-is, is-same}

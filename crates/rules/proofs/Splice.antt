@@ -117,6 +117,20 @@ splice-over buffer zero first second h = over-over buffer first second h
 splice-over [] (suc at) first second h = refl
 splice-over (b ∷ buffer) (suc at) first second h = ap (λ (l : List ℕ). b ∷ l) (splice-over buffer at first second h)
 
+-- and over no more: as if those had not been laid
+over-covered : (buffer first second : List ℕ) → length first ≤ length second → over (over buffer first) second ≡ over buffer second
+unfolding over
+over-covered [] first second h = refl
+over-covered (b ∷ buffer) [] second h = refl
+over-covered (b ∷ buffer) (c ∷ first) [] h = absurd (omega arith)
+over-covered (b ∷ buffer) (c ∷ first) (d ∷ second) h = ap (λ (l : List ℕ). d ∷ l) (over-covered buffer first second (omega arith))
+
+pub splice-covered : (buffer : List ℕ) (at : ℕ) (first second : List ℕ) → length first ≤ length second → splice (splice buffer at first) at second ≡ splice buffer at second
+unfolding splice
+splice-covered buffer zero first second h = over-covered buffer first second h
+splice-covered [] (suc at) first second h = refl
+splice-covered (b ∷ buffer) (suc at) first second h = ap (λ (l : List ℕ). b ∷ l) (splice-covered buffer at first second h)
+
 -- bytes of the buffer's own length, and what is read of the front
 pub splice-whole : (buffer bytes : List ℕ) → length bytes ≡ length buffer → splice buffer 0 bytes ≡ bytes
 unfolding splice over

@@ -2,7 +2,7 @@
 use mathlib.Core.Path.{_≡_, refl, sym, ap, _∙_}
 use mathlib.Core.Bool.{Bool, true, false, cond, not, _&&_}
 use mathlib.Core.List.{List}
-use Prim.Native.Nat.{ℕ, _+_, _*_, _/_, _%_, _≤_, _<_}
+use Prim.Native.Nat.{ℕ, _+_, _*_, _/_, _%_, _≤_}
 use native.Mathlib.Nat.{div-one}
 use native.Mathlib.Omega.{arith}
 use native.Mathlib.Decide.{ℕ-discrete}
@@ -16,7 +16,7 @@ use Rattle.rules.specs.declared.Layout.{Layout}
 use Rattle.rules.specs.declared.Kind.{Kind}
 use Rattle.rules.specs.declared.Kind.the-variants.{Program, Fixed, Variable}
 use Rattle.rules.proofs.Tests.{absurd-test, both, by-rule}
-use Rattle.rules.proofs.Map.{byte-bit, byte-of-bits}
+use Rattle.rules.proofs.Map.{byte-bit, byte-of-bits, byte-small}
 
 bit-zero : (status j : ℕ) → not (eqb (bitOf status j) 1) ≡ true → bitOf status j ≡ 0
 bit-zero status j e =
@@ -48,10 +48,6 @@ module _ (bits status : ℕ) where
   kept-out : (j : ℕ) → bitOf bits j ≡ 0 → kept j ≡ 0
   kept-out j e = rw e
 
-byte-small : (bit : ℕ → ℕ) → ((k : ℕ) → bit k ≤ 1) → byteOf bit 0 < 256
-unfolding byteOf
-byte-small bit once = omega (arith, once 0, once 1, once 2, once 3, once 4, once 5, once 6, once 7)
-
 -- The rule over any set of bits, as a test and as facts.
 pub status-is : (bits status : ℕ) → statusRule bits status ≡ true → IsStatus bits status
 unfolding statusRule within
@@ -60,7 +56,7 @@ status-is bits status e =
     let parts = both (eqb status (byteOf (kept bits status) 0)) alone e in
     let is = eqb-true status (byteOf (kept bits status) 0) (parts .0) in
     record {
-      small = rw is (byte-small (kept bits status) (kept-once bits status));
+      small = rw is (byte-small (kept bits status) 0 (kept-once bits status));
       others = λ j h out. ap (λ (s : ℕ). bitOf s j) is ∙ byte-bit (kept bits status) (kept-once bits status) 0 j h ∙ ap (kept bits status) (omega arith) ∙ kept-out bits status j out;
       excludes = λ program. excluded program (parts .1);
     }

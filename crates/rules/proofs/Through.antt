@@ -1,7 +1,7 @@
 -- Writes as a host makes them, from the image that a call leaves: the order of a call's writes and that image are the writes; and what the medium holds when some of its sectors have been written through.
-use mathlib.Core.Path.{_≡_, refl, sym, ap, _∙_}
+use mathlib.Core.Path.{_≡_, refl, ap, _∙_}
 use mathlib.Core.List.{List, [], _∷_, _++_}
-use Prim.Native.Nat.{ℕ, _+_, _*_, _/_, _≤_, _<_}
+use Prim.Native.Nat.{ℕ, _+_, _*_, _≤_, _<_}
 use native.Mathlib.Omega.{arith}
 use native.Mathlib.Decide.{decLt, ℕ-discrete}
 use lib.ListN.{length, drop}
@@ -12,7 +12,7 @@ use Rattle.rules.specs.Calls.Store.{dataWrites}
 use Rattle.rules.proofs.Splice.{splice-length, splice-past}
 use Rattle.rules.proofs.Sectors.{sector-length}
 use Rattle.rules.proofs.Map.{count-none, count-here, count-other, count-more, count-apart}
-use Rattle.rules.proofs.Written.{sector-same, sector-other, Whole, Apart, written-apart, written-length}
+use Rattle.rules.proofs.Written.{sector-same, sector-other, Whole, Apart, written-apart}
 
 -- a sector that no write names
 pub none-named : (j : ℕ) (writes : List Write) → count j (sectorsIn writes) ≡ 0 → Apart j writes

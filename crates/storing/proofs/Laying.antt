@@ -1,14 +1,14 @@
 -- Bytes laid into sectors, and a chain into a new descriptor: what the writes of the data are, a sector at a time, and what the code's stores and lays amount to.
 use mathlib.Core.Path.{_≡_, refl, sym, ap, _∙_}
 use mathlib.Core.List.{List, [], _∷_, _++_}
-use Prim.Native.Nat.{ℕ, zero, suc, _+_, _-_, _*_, _≤_}
+use Prim.Native.Nat.{ℕ, zero, suc, _+_, _-_, _*_, _/_, _≤_}
 use native.Mathlib.Omega.{arith}
 use lib.ListN.{length, set, drop, replicate, length-replicate, replicate-append-replicate}
 use lib.Seq.{drop-drop, drop-at}
 use Rattle.rules.specs.Bytes.{part, over, splice}
 use Rattle.rules.specs.Sectors.{written}
 use Rattle.rules.specs.Calls.Store.{dataWrites}
-use Rattle.rules.proofs.Splice.{splice-none, splice-append, splice-cut}
+use Rattle.rules.proofs.Splice.{splice-none, splice-append, splice-cut, set-splice}
 use Rattle.rules.proofs.Formatted.{laid-front}
 
 -- a piece and zeros behind it are the piece laid over zeros
@@ -39,6 +39,12 @@ piece-written image bytes at ahead piece-is later-is =
 pub none-written : {image all : List ℕ} (bytes : List ℕ) → all ≡ [] → written image (dataWrites bytes all) ≡ image
 unfolding written dataWrites
 none-written bytes none = rw none
+
+-- and listed at the place of its number: those behind it follow
+pub place-listed : (changes : List ℕ) (at : ℕ) {all ks : List ℕ} {k : ℕ} → all ≡ k ∷ ks → splice (set changes (2 + at / 256) k) (2 + (at + 256) / 256) ks ≡ splice changes (2 + at / 256) all
+place-listed changes at {ks = ks} {k = k} ahead =
+    let further : 2 + (at + 256) / 256 ≡ 2 + at / 256 + 1 = omega arith in
+    rw (ahead, further, set-splice changes (2 + at / 256) k) (splice-append changes (2 + at / 256) (k ∷ []) ks)
 
 -- two bytes set one behind the other
 pub two-set : (buffer : List ℕ) (at a b : ℕ) → set (set buffer at a) (suc at) b ≡ splice buffer at (a ∷ (b ∷ []))

@@ -1,15 +1,15 @@
 -- A program's sectors made and written: its descriptor, whose chain the sectors are spread into, and the writes one after another, the last of which enters it. They are those of the
--- definition.
-use mathlib.Core.Path.{_≡_, sym, ap, _∙_}
+-- definition, and so is their order.
+use mathlib.Core.Path.{_≡_, refl, sym, ap, _∙_}
 use mathlib.Core.Bool.{Bool}
 use mathlib.Core.List.{List, [], _∷_, _++_}
-use Prim.Native.Nat.{ℕ, _+_, _*_, _%_, _≤_}
+use Prim.Native.Nat.{ℕ, suc, _+_, _*_, _%_, _≤_, _<_}
 use native.Mathlib.Omega.{arith}
 use lib.Dec.{leb}
-use lib.ListN.{length, replicate}
+use lib.ListN.{length, drop, replicate, length-append}
 use borrow.Rule.Slice.PartMut.{putMid}
 use Rattle.rules.specs.Bytes.{wordBytes, splice}
-use Rattle.rules.specs.Sectors.{sectorOf, sectorCount, written}
+use Rattle.rules.specs.Sectors.{Write, sectorsIn, sectorOf, sectorCount, written}
 use Rattle.rules.specs.Map.{freeCount, marked, markedAll}
 use Rattle.rules.specs.Chain.{blocks, places, blocksBytes}
 use Rattle.rules.specs.Kind.{sectorsFor, marking}
@@ -18,16 +18,17 @@ use Rattle.rules.specs.Index.{indexOf}
 use Rattle.rules.specs.Volume.{filesIn, placed}
 use Rattle.rules.specs.Sound.{IsIndexed, Sound}
 use Rattle.rules.specs.Choice.{descriptorChoice}
-use Rattle.rules.specs.Outcome.{write}
+use Rattle.rules.specs.Outcome.{write, orderOf}
 use Rattle.rules.specs.Calls.Create.{entered}
 use Rattle.rules.specs.Calls.Store.{dataWrites, newSectors, newBlocks}
 use Rattle.rules.specs.declared.Layout.{Layout}
-use Rattle.rules.proofs.Splice.{splice-length, put-back}
+use Rattle.rules.proofs.Splice.{splice-length, splice-append, put-back}
 use Rattle.rules.proofs.Descriptor.{numbered-chain, new-length, new-chain}
 use Rattle.rules.proofs.Extended.{with-chain-length, with-chain-chain, with-chain-laid}
 use Rattle.rules.proofs.Marking.{all-length}
-use Rattle.rules.proofs.Choice.{sound-fenced, new-free}
+use Rattle.rules.proofs.Choice.{choices-length, sound-fenced, new-free}
 use Rattle.rules.proofs.Listed.{label-long}
+use Rattle.rules.proofs.Outcome.{order-laid}
 use Rattle.rules.proofs.Written.{written-both}
 use Rattle.index.proofs.Entered.{written-entered}
 use Rattle.storing.specs.Spread.{IsSpread, Taken, Spread}
@@ -76,12 +77,36 @@ module _ (image name bytes : List ℕ) (k many : ℕ) (chosen : k ≡ descriptor
 
   -- written one after another
   module _ (is : Taken many (marked 1 (sectorOf image 0) k) after chain) where
+    pub places-new : places chain ≡ newSectors image many
+    unfolding newSectors
+    places-new = rw (← chosen) (is .places-are)
+
     pub program-written : (layout : Layout) (one two descriptor : List ℕ) → one ≡ written image (dataWrites bytes (places chain)) → two ≡ splice one (256 * k) descriptor
         → descriptor ≡ withChain (newDescriptor name (marking layout 0x01) 0 (length bytes % 256) 0) many (blocks chain)
         → splice two 0 after ≡ written image (programWrites layout image name bytes)
     unfolding programWrites programDescriptor programMap newBlocks newSectors markedAll written
     program-written layout one two descriptor one-is two-is descriptor-is =
         rw (two-is, one-is, descriptor-is, is .places-are, is .blocks-are, is .map, chosen, so-many) (written-both image (dataWrites bytes (newSectors image (sectorsFor (length bytes)))) _)
+
+-- the sectors of writes, as many as they are; those of the data are the ones that it goes to
+sectors-length : (writes : List Write) → length (sectorsIn writes) ≡ length writes
+unfolding sectorsIn
+sectors-length [] = refl
+sectors-length (write ∷ writes) = ap suc (sectors-length writes)
+
+data-sectors : (bytes ks : List ℕ) (more : List Write) → sectorsIn (dataWrites bytes ks ++ more) ≡ ks ++ sectorsIn more
+unfolding dataWrites sectorsIn
+data-sectors bytes [] more = refl
+data-sectors bytes (k ∷ ks) more = ap (λ (l : List ℕ). k ∷ l) (data-sectors (drop 256 bytes) ks more)
+
+-- listed behind those of the data, with the number of all of them
+order-behind : (changes bytes ks : List ℕ) (more : List Write) → 0 < length more
+    → splice (splice (splice changes 2 ks) (2 + length ks) (sectorsIn more)) 1 ((length ks + length more) ∷ []) ≡ splice changes 1 (orderOf (dataWrites bytes ks ++ more))
+order-behind changes bytes ks more some =
+    let writes = dataWrites bytes ks ++ more in
+    let sectors = data-sectors bytes ks more in
+    let number : length writes ≡ length ks + length more = sym (sectors-length writes) ∙ ap length sectors ∙ length-append ks (sectorsIn more) ∙ ap (λ (n : ℕ). length ks + n) (sectors-length more) in
+    rw (splice-append changes 2 ks (sectorsIn more), ← sectors, ← number) (order-laid changes writes (omega (arith, number)))
 
 -- and then entered into index i: all its sectors were free
 module _ (layout : Layout) (image : List ℕ) (i : ℕ) (name bytes : List ℕ) (whole : Sound layout image) (indexed : IsIndexed layout image i) (ten : length name ≡ 10) (room : 1 + sectorsFor (length bytes) ≤ freeCount (sectorOf image 0)) where
@@ -101,3 +126,17 @@ module _ (layout : Layout) (image : List ℕ) (i : ℕ) (name bytes : List ℕ) 
       written-entered layout image i name bytes (descriptorChoice (sectorOf image 0)) (newSectors image (sectorsFor (length bytes))) (programDescriptor layout image name bytes) (programMap image bytes) whole indexed
       (new-free (sectorCount image) (sectorOf image 0) (sectorsFor (length bytes)) (label-long layout image whole) (sound-fenced layout image whole) room) descriptor-long map-long there after there-is
       (after-is ∙ ap (λ (j : ℕ). written there (write i (indexOf (placed there name j (filesIn there i))) ∷ [])) chosen)
+
+  -- with its order
+  pub program-listed : (k : ℕ) → k ≡ descriptorChoice (sectorOf image 0) → (changes there order : List ℕ) → there ≡ splice changes 2 (newSectors image (sectorsFor (length bytes)))
+      → order ≡ splice (splice there (2 + sectorsFor (length bytes)) (k ∷ (0 ∷ (i ∷ [])))) 1 ((sectorsFor (length bytes) + 3) ∷ [])
+      → order ≡ splice changes 1 (orderOf (dataWrites bytes (newSectors image (sectorsFor (length bytes))) ++ entered image i name (descriptorChoice (sectorOf image 0)) (programDescriptor layout image name bytes) (programMap image bytes)))
+  unfolding newSectors entered sectorsIn
+  program-listed k chosen changes there order there-is order-is =
+      let ks = newSectors image (sectorsFor (length bytes)) in
+      let many : length ks ≡ sectorsFor (length bytes) = choices-length (sectorsFor (length bytes)) (marked 1 (sectorOf image 0) (descriptorChoice (sectorOf image 0))) in
+      order-is
+      ∙ ap (λ (l : List ℕ). splice (splice l (2 + sectorsFor (length bytes)) (k ∷ (0 ∷ (i ∷ [])))) 1 ((sectorsFor (length bytes) + 3) ∷ [])) there-is
+      ∙ ap (λ (n : ℕ). splice (splice (splice changes 2 ks) (2 + n) (k ∷ (0 ∷ (i ∷ [])))) 1 ((n + 3) ∷ [])) (sym many)
+      ∙ ap (λ (j : ℕ). splice (splice (splice changes 2 ks) (2 + length ks) (j ∷ (0 ∷ (i ∷ [])))) 1 ((length ks + 3) ∷ [])) chosen
+      ∙ order-behind changes bytes ks (entered image i name (descriptorChoice (sectorOf image 0)) (programDescriptor layout image name bytes) (programMap image bytes)) (omega arith)

@@ -17,33 +17,33 @@ found : (c : tie.After-opened3) →
 found c = sym (c .before .before .find .ensures) ∙ c .opened3 .given .1
 
 append-at-requires : tie.Need-append-at-requires
-append-at-requires c κs = (_, is-file _ _ _ _ _ _ _ (found (c .before .before)))
+append-at-requires c κs = (_, is-file _ _ _ _ _ _ _ (found (c .before .before .before)))
 
 returns : tie.Need-returns
 unfolding appendOf
 returns c =
     let o = c .before in
     let f = o .before .before in
-    change-refused _ (start f .args .image .now) _ _ _ _ (sym (f .find .ensures) ∙ o .opened .given .1)
+    change-refused _ (start f .args .image .now) _ _ _ _ _ (sym (f .find .ensures) ∙ o .opened .given .1)
 
 returns-2 : tie.Need-returns-2
 unfolding appendOf
 returns-2 c =
     let o = c .before in
     let f = o .before .before in
-    change-misnamed _ (start f .args .image .now) _ _ _ _ (sym (f .find .ensures) ∙ o .opened2 .given .1)
+    change-misnamed _ (start f .args .image .now) _ _ _ _ _ (sym (f .find .ensures) ∙ o .opened2 .given .1)
 
 returns-3 : tie.Need-returns-3
 unfolding appendOf
 returns-3 c =
     let f = c .before .before in
-    change-absent _ (start f .args .image .now) _ _ _ _ (sym (f .find .ensures) ∙ c .enum-told .given .1)
+    change-absent _ (start f .args .image .now) _ _ _ _ _ (sym (f .find .ensures) ∙ c .enum-told .given .1)
 
 returns-4 : tie.Need-returns-4
 unfolding appendOf
 returns-4 c =
     let done = c .before .before in
-    change-found _ _ _ _ _ _ _ _ (found (done .before .before .before)) _ _ (done .append-at .ensures)
+    change-found _ _ _ _ _ _ _ _ _ (found (done .before .before .before .before)) _ _ _ (done .append-at .ensures)
 
 pub append-spec : {M : Type 1} → statement M
 append-spec =

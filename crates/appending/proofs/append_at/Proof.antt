@@ -7,7 +7,7 @@ use native.Mathlib.Omega.{arith}
 use lib.ListN.{length}
 use borrow.Author.Tests.{eq-eqb, ne-eqb, lt-ltb, le-ltb}
 use Rattle.rules.specs.Bytes.{byteAt, part}
-use Rattle.rules.specs.Sectors.{sectorOf, sectorCount}
+use Rattle.rules.specs.Sectors.{sectorOf, sectorCount, sectorsIn}
 use Rattle.rules.specs.Map.{freeCount}
 use Rattle.rules.specs.Chain.{blocks, extended}
 use Rattle.rules.specs.Kind.{isProgram, isProtected}
@@ -19,7 +19,7 @@ use Rattle.rules.proofs.Bytes.{part-length, part-short}
 use Rattle.rules.proofs.Choice.{data-choice-range}
 use Rattle.rules.proofs.Extended.{sectors-few}
 use Rattle.rules.proofs.Status.{protected, unprotected, program, no-program}
-use Rattle.rules.proofs.Outcome.{refusal-meets, done-meets}
+use Rattle.rules.proofs.Outcome.{order-laid, refusal-meets, done-meets}
 use Rattle.rules.proofs.Opening.{in-volume, is-sector, has-rules}
 use Rattle.extension.specs.Tip.{IsTip}
 use Rattle.extension.specs.Built.{Extendable}
@@ -128,27 +128,27 @@ returns : tie.Need-returns
 unfolding appending appendTests firstOf unlessMet
 returns c =
     let a = start (c .before) .args in
-    rw (protected (sectorOf (a .image .now) (a .k)) _ (status-is (c .before)) (c .if1 .taken)) (refusal-meets (a .image .now) _ 10 refl refl)
+    rw (protected (sectorOf (a .image .now) (a .k)) _ (status-is (c .before)) (c .if1 .taken)) (refusal-meets (a .image .now) _ _ 10 refl refl)
 
 returns-2 : tie.Need-returns-2
 unfolding appending appendTests firstOf unlessMet
 returns-2 c =
     let e = c .before in
     let a = start (e .before) .args in
-    rw (open-file e, program (sectorOf (a .image .now) (a .k)) _ (status-is (e .before)) (c .if2 .taken)) (refusal-meets (a .image .now) _ 14 refl refl)
+    rw (open-file e, program (sectorOf (a .image .now) (a .k)) _ (status-is (e .before)) (c .if2 .taken)) (refusal-meets (a .image .now) _ _ 14 refl refl)
 
 returns-3 : tie.Need-returns-3
 unfolding appending appendTests firstOf unlessMet
 returns-3 c =
     let e = c .before in
-    rw (open-file (e .before), is-data e, ne-eqb _ _ (c .if3 .taken)) (refusal-meets (start (status e) .args .image .now) _ 15 refl refl)
+    rw (open-file (e .before), is-data e, ne-eqb _ _ (c .if3 .taken)) (refusal-meets (start (status e) .args .image .now) _ _ 15 refl refl)
 
 returns-4 : tie.Need-returns-4
 unfolding appending appendTests firstOf unlessMet
 returns-4 c =
     let l = c .before .before .before .before in
     let e = data-file l in
-    rw (open-file (e .before), is-data e, eq-eqb _ _ (l .if3 .left), lt-ltb (freeCount (sectorOf (start₃ l .args .image .now) 0)) 1 (omega (arith, free-is (c .before), c .if4 .taken))) (refusal-meets (start₃ l .args .image .now) _ 12 refl refl)
+    rw (open-file (e .before), is-data e, eq-eqb _ _ (l .if3 .left), lt-ltb (freeCount (sectorOf (start₃ l .args .image .now) 0)) 1 (omega (arith, free-is (c .before), c .if4 .taken))) (refusal-meets (start₃ l .args .image .now) _ _ 12 refl refl)
 
 next-requires : tie.Need-next-requires
 next-requires c κs = c .before .before .first .ensures .1 _
@@ -179,7 +179,7 @@ returns-5 c =
     let w = c .before .before in
     let p = passed (w .before) in
     let a = start₆ (w .before) .args in
-    rw (p .0, p .1, eq-eqb _ _ (p .2), le-ltb (freeCount _) 1 (p .3), lt-ltb 76 (length (longerBlocks (a .image .now) (a .k))) (omega (arith, used-is w, c .if5 .taken))) (refusal-meets (a .image .now) _ 13 refl refl)
+    rw (p .0, p .1, eq-eqb _ _ (p .2), le-ltb (freeCount _) 1 (p .3), lt-ltb 76 (length (longerBlocks (a .image .now) (a .k))) (omega (arith, used-is w, c .if5 .taken))) (refusal-meets (a .image .now) _ _ 13 refl refl)
 
 write-longer-requires : tie.Need-write-longer-requires
 write-longer-requires c κs =
@@ -188,16 +188,34 @@ write-longer-requires c κs =
     let b = extendable w (omega (arith, e .if5 .left)) in
     (start₆ (w .before) .pre, new-is (chosen (w .before)), b .0, b .1)
 
+-- the ways back from the order: past the writes, to the last test and the tip
+abbrev longer : tie.After-slice-known2 → tie.After-write-longer
+longer c = c .before .before
+
+abbrev tested : tie.After-write-longer → tie.Else5
+tested c = c .before .before
+
+abbrev tip : tie.Else5 → tie.After-tip-with
+tip c = c .before .before
+
+cast-t32 : tie.Need-cast-t32
+cast-t32 c = omega (arith, new-range (chosen (tip (tested (longer c)) .before)))
+
+cast-t33 : tie.Need-cast-t33
+cast-t33 c = omega (arith, small (start₆ (tip (tested (longer c)) .before)))
+
 returns-6 : tie.Need-returns-6
-unfolding appending appendTests firstOf unlessMet
+unfolding appending appendTests firstOf unlessMet appendWrites sectorsIn
 returns-6 c =
-    let done = c .before .before in
-    let e = done .before .before in
-    let w = e .before .before in
+    let done = longer (c .before .before .before) in
+    let e = tested done in
+    let w = tip e in
     let p = passed (w .before) in
     let a = start₆ (w .before) .args in
-    rw (p .0, p .1, eq-eqb _ _ (p .2), le-ltb (freeCount _) 1 (p .3), le-ltb 76 (length (longerBlocks (a .image .now) (a .k))) (omega (arith, used-is w, e .if5 .left)), done .write-longer .ensures)
-    (done-meets (a .image .now) _ (appendWrites _ (a .image .now) (a .bytes .now) (a .k)) refl)
+    let writes = appendWrites (a .layout) (a .image .now) (a .bytes .now) (a .k) in
+    let order = rw (new-is (chosen (w .before))) at (c .list .ensures) in
+    rw (p .0, p .1, eq-eqb _ _ (p .2), le-ltb (freeCount _) 1 (p .3), le-ltb 76 (length (longerBlocks (a .image .now) (a .k))) (omega (arith, used-is w, e .if5 .left)))
+    (done-meets (a .image .now) _ _ writes _ _ refl (done .write-longer .ensures) (order ∙ order-laid _ writes (search needs)))
 
 pub append-at-spec : {M : Type 1} → statement M
 append-at-spec =
@@ -225,5 +243,9 @@ append-at-spec =
     (λ c. search needs)
     returns-5
     write-longer-requires
+    cast-t32
+    cast-t33
+    (λ c. search needs)
+    (λ c κs. search needs)
     (λ c. search needs)
     returns-6)

@@ -7,14 +7,14 @@ use Rattle.bench.proofs.create_files.Statement.{statement}
 use Rattle.bench.proofs.create_files.Tie as tie
 
 abbrev Inv-loop : tie.InvT-loop
-Inv-loop image₀ i₀ image i = length image ≡ length image₀
+Inv-loop image₀ changes₀ i₀ image changes i = length image ≡ length image₀
 
 abbrev μ-loop : tie.MeasureT-loop
-μ-loop image₀ i₀ image i = 127 - i
+μ-loop image₀ changes₀ i₀ image changes i = 127 - i
 
 -- the turn of the loop, and that creating keeps the length
 abbrev turn : tie.After-create Inv-loop μ-loop → tie.At-loop Inv-loop μ-loop
-turn c = c .before .before .before .before .before .before .before
+turn c = c .before .before .before .before .before .before .before .before
 
 kept : (c : tie.After-create Inv-loop μ-loop) → length (c .create .last .1 .0) ≡ length (turn c .before .before .args .image .now)
 kept c = c .create .kept .1 .0 ∙ turn c .loop .inv

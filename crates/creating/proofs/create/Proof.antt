@@ -17,33 +17,33 @@ absent : (c : tie.After-opened3) →
 absent c = sym (c .before .before .find .ensures) ∙ c .opened3 .given .1
 
 create-new-requires : tie.Need-create-new-requires
-create-new-requires c κs = let is = absent-is _ _ _ _ _ (absent (c .before .before)) in (is .whole, is .indexed, is .rule)
+create-new-requires c κs = let is = absent-is _ _ _ _ _ (absent (c .before .before .before)) in (is .whole, is .indexed, is .rule)
 
 returns : tie.Need-returns
 unfolding createOf
 returns c =
     let o = c .before in
     let f = o .before .before in
-    add-refused _ (start f .args .image .now) _ _ _ _ (sym (f .find .ensures) ∙ o .opened .given .1)
+    add-refused _ (start f .args .image .now) _ _ _ _ _ (sym (f .find .ensures) ∙ o .opened .given .1)
 
 returns-2 : tie.Need-returns-2
 unfolding createOf
 returns-2 c =
     let o = c .before in
     let f = o .before .before in
-    add-misnamed _ (start f .args .image .now) _ _ _ _ (sym (f .find .ensures) ∙ o .opened2 .given .1)
+    add-misnamed _ (start f .args .image .now) _ _ _ _ _ (sym (f .find .ensures) ∙ o .opened2 .given .1)
 
 returns-3 : tie.Need-returns-3
 unfolding createOf
 returns-3 c =
     let f = c .before .before in
-    add-present _ (start f .args .image .now) _ _ _ _ _ _ (sym (f .find .ensures) ∙ c .enum-told .given .1)
+    add-present _ (start f .args .image .now) _ _ _ _ _ _ _ (sym (f .find .ensures) ∙ c .enum-told .given .1)
 
 returns-4 : tie.Need-returns-4
 unfolding createOf
 returns-4 c =
     let n = c .before .before in
-    add-absent _ _ _ _ _ _ (absent (n .before .before .before)) _ _ (n .create-new .ensures)
+    add-absent _ _ _ _ _ _ _ (absent (n .before .before .before .before)) _ _ _ (n .create-new .ensures)
 
 pub create-spec : {M : Type 1} → statement M
 create-spec =

@@ -9,7 +9,7 @@ use lib.ListN.{length}
 use borrow.Author.Tests.{le-ltb, lt-ltb, le-leb, lt-leb, not-true, not-false}
 use borrow.Rule.Slice.PartMut.{putMid}
 use Rattle.rules.specs.Bytes.{wordAt, part, splice}
-use Rattle.rules.specs.Sectors.{sectorOf, sectorCount, written}
+use Rattle.rules.specs.Sectors.{sectorOf, sectorCount, sectorsIn, written}
 use Rattle.rules.specs.Map.{freeCount, marked}
 use Rattle.rules.specs.Kind.{marking}
 use Rattle.rules.specs.Descriptor.{newDescriptor}
@@ -29,7 +29,7 @@ use Rattle.rules.proofs.Map.{only-one}
 use Rattle.rules.proofs.Listed.{label-long, index-low}
 use Rattle.rules.proofs.Marking.{marked-length}
 use Rattle.rules.proofs.Choice.{Chosen, sound-fenced, descriptor-choice-free}
-use Rattle.rules.proofs.Outcome.{refusal-meets, done-meets}
+use Rattle.rules.proofs.Outcome.{order-laid, refusal-meets, done-meets}
 use Rattle.rules.proofs.Opening.{place-none, place-some}
 use Rattle.index.proofs.Entered.{written-entered}
 use borrow.Author.Needs.{needs}
@@ -109,21 +109,21 @@ returns : tie.Need-returns
 returns c =
     let a = c .before .before .before .before .args in
     let s = c .before .create-status in
-    refusal-meets (a .image .now) (creating (a .layout) (a .image .now) (a .name .now) (a .status) (a .record-length) (a .records-per-sector) (a .i)) 15 refl
+    refusal-meets (a .image .now) _ (creating (a .layout) (a .image .now) (a .name .now) (a .status) (a .record-length) (a .records-per-sector) (a .i)) 15 refl
     (misasked _ _ _ _ _ _ _ (sym (s .ensures) ∙ not-true (s .result) (c .if1 .taken)))
 
 returns-2 : tie.Need-returns-2
 returns-2 c =
     let e = status (c .before) in
     let a = start e .args in
-    refusal-meets (a .image .now) (creating (a .layout) (a .image .now) (a .name .now) (a .status) (a .record-length) (a .records-per-sector) (a .i)) 11 refl
+    refusal-meets (a .image .now) _ (creating (a .layout) (a .image .now) (a .name .now) (a .status) (a .record-length) (a .records-per-sector) (a .i)) 11 refl
     (full _ _ _ _ _ _ _ (listed (start e)) (asked e) (λ z. c .if2 .taken (last-is (c .before) ∙ z)))
 
 returns-3 : tie.Need-returns-3
 returns-3 c =
     let room = place (c .before) in
     let a = start₂ room .args in
-    refusal-meets (a .image .now) (creating (a .layout) (a .image .now) (a .name .now) (a .status) (a .record-length) (a .records-per-sector) (a .i)) 12 refl
+    refusal-meets (a .image .now) _ (creating (a .layout) (a .image .now) (a .name .now) (a .status) (a .record-length) (a .records-per-sector) (a .i)) 12 refl
     (taken _ _ _ _ _ _ _ (listed (start₂ room)) (asked (status (room .before))) (sym (last-is (room .before)) ∙ room .if2 .left) (sym (free-is (c .before)) ∙ c .if3 .taken))
 
 -- the sector chosen, which was free
@@ -163,12 +163,25 @@ enter-requires c κs =
     let choice = chosen (described (c .before .before .before)) in
     (omega (arith, small (start₃ choice)), omega (arith, is-free choice .low))
 
+-- the way back from the order, past the writes
+abbrev entering : tie.After-slice-known4 → tie.After-enter
+entering c = c .before .before
+
+abbrev mapped : tie.After-enter → tie.After-mark
+mapped c = c .before .before .before .before
+
+cast-t32 : tie.Need-cast-t32
+cast-t32 c = omega (arith, is-free (chosen (described (mapped (entering c)))) .low)
+
+cast-t33 : tie.Need-cast-t33
+cast-t33 c = omega (arith, small (start₃ (chosen (described (mapped (entering c))))))
+
 returns-4 : tie.Need-returns-4
-unfolding written dataWrites
+unfolding written dataWrites entered sectorsIn
 returns-4 c =
-    let entering = c .before .before in
-    let mapped = entering .before .before .before .before in
-    let writing = described mapped in
+    let enters = entering (c .before .before .before) in
+    let marks = mapped enters in
+    let writing = described marks in
     let choice = chosen writing in
     let some = counted choice in
     let room = place (some .before) in
@@ -184,18 +197,13 @@ returns-4 c =
     writing .write-descriptor .ensures
     ∙ ap (λ (s : ℕ). splice image (256 * k) (newDescriptor name s (a .records-per-sector) 0 (a .record-length))) (writing .before .before .marking .ensures)
     in
-    let met =
-    done-meets image (creating (a .layout) image name (a .status) (a .record-length) (a .records-per-sector) (a .i)) _
+    let writes = entered image (a .i) name k descriptor (marked 1 (sectorOf image 0) k) in
+    done-meets image _ (creating (a .layout) image name (a .status) (a .record-length) (a .records-per-sector) (a .i)) writes _ _
     (passed _ _ _ _ _ _ _ (listed begin) (asked (status (room .before))) (sym (last-is (room .before)) ∙ room .if2 .left) (λ z. some .if3 .left (free-is (some .before) ∙ z)) k (chosen-is choice))
-    in
-    record {
-      said = met .said;
-      left =
-          written-entered _ image (a .i) name [] k [] descriptor (marked 1 (sectorOf image 0) k) (begin .pre .0) (begin .pre .1) (λ j one. subst (Chosen (sectorCount image) (sectorOf image 0)) (only-one k j one) (is-free choice)) long
-          (marked-length 1 (sectorOf image 0) k ∙ label-long _ image (begin .pre .0)) _ _
-          (marked-there _ image _ (mapped .mark .last .0) descriptor k (begin .pre .0) (is-free choice .from) long there (mapped .mark .ensures)) (entering .enter .ensures)
-          ∙ met .left;
-    }
+    (written-entered _ image (a .i) name [] k [] descriptor (marked 1 (sectorOf image 0) k) (begin .pre .0) (begin .pre .1) (λ j one. subst (Chosen (sectorCount image) (sectorOf image 0)) (only-one k j one) (is-free choice)) long
+    (marked-length 1 (sectorOf image 0) k ∙ label-long _ image (begin .pre .0)) _ _
+    (marked-there _ image _ (marks .mark .last .0) descriptor k (begin .pre .0) (is-free choice .from) long there (marks .mark .ensures)) (enters .enter .ensures))
+    (c .list .ensures ∙ order-laid _ writes (search needs))
 
 pub create-new-spec : {M : Type 1} → statement M
 create-new-spec =
@@ -220,5 +228,9 @@ create-new-spec =
     part-mark-end
     (λ c κs. search needs)
     enter-requires
+    cast-t32
+    cast-t33
+    (λ c. search needs)
+    (λ c κs. search needs)
     (λ c. search needs)
     returns-4)

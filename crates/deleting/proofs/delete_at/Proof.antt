@@ -5,7 +5,7 @@ use Prim.Native.Nat.{ℕ, _*_, _<_}
 use native.Mathlib.Omega.{arith}
 use lib.ListN.{length}
 use Rattle.rules.specs.Bytes.{byteAt, splice}
-use Rattle.rules.specs.Sectors.{Write, written, sectorOf}
+use Rattle.rules.specs.Sectors.{Write, sectorsIn, written, sectorOf}
 use Rattle.rules.specs.Map.{markedAll}
 use Rattle.rules.specs.Descriptor.{statusOf}
 use Rattle.rules.specs.Index.{numbers, indexOf, without}
@@ -15,7 +15,7 @@ use Rattle.rules.specs.Outcome.{write}
 use Rattle.rules.specs.Calls.Delete.{deleteTests, deleting}
 use Rattle.rules.proofs.Indexed.{index-length}
 use Rattle.rules.proofs.Status.{protected, unprotected}
-use Rattle.rules.proofs.Outcome.{refusal-meets, done-meets}
+use Rattle.rules.proofs.Outcome.{order-laid, refusal-meets, done-meets}
 use Rattle.rules.proofs.Listed.{index-low}
 use Rattle.rules.proofs.Opening.{in-volume}
 use borrow.Author.Needs.{needs}
@@ -59,7 +59,7 @@ returns : tie.Need-returns
 unfolding deleting deleteTests firstOf unlessMet
 returns c =
     let a = start (c .before) .args in
-    rw (protected (sectorOf (a .image .now) (a .k)) _ (status-is (c .before)) (c .if1 .taken)) (refusal-meets (a .image .now) _ 10 refl refl)
+    rw (protected (sectorOf (a .image .now) (a .k)) _ (status-is (c .before)) (c .if1 .taken)) (refusal-meets (a .image .now) _ _ 10 refl refl)
 
 sector-of-requires-2 : tie.Need-sector-of-requires-2
 sector-of-requires-2 c κs = omega (arith, small (start (c .before .before .before)))
@@ -70,23 +70,32 @@ slice-aggregate-write-sector c = sym (ap length (index (c .before .before .befor
 write-sector-requires : tie.Need-write-sector-requires
 write-sector-requires c κs = omega (arith, small (start (free (index (c .before .before .before) .before) .before)))
 
+-- the way back from the order, past both writes
+abbrev both-written : tie.After-slice-known3 → tie.After-write-sector2
+both-written c = c .before .before
+
+abbrev index-written : tie.After-write-sector2 → tie.After-write-sector
+index-written c = c .before .before .before .before .before
+
+cast-t33 : tie.Need-cast-t33
+cast-t33 c = omega (arith, small (start (free (index (map (index-written (both-written c))) .before) .before)))
+
 returns-2 : tie.Need-returns-2
-unfolding deleting deleteTests firstOf unlessMet
+unfolding deleting deleteTests firstOf unlessMet sectorsIn
 returns-2 c =
-    let second = c .before .before in
-    let first = second .before .before .before .before .before in
+    let second = both-written (c .before .before .before) in
+    let first = index-written second in
     let mapped = map first in
     let made = index mapped in
     let old = made .before in
     let unlocked = free old in
     let a = start (unlocked .before) .args in
     let image = a .image .now in
-    let met = done-meets image _ (writes image (a .i) (a .k)) refl in
+    let changed = writes image (a .i) (a .k) in
     rw (unprotected (sectorOf image (a .k)) _ (status-is (unlocked .before)) (unlocked .if1 .left))
-    (record {
-      said = met .said;
-      left = both _ _ _ _ _ _ _ _ (old .sector-of2 .ensures) (made .index-without .ensures) (mapped .map-without .ensures) (first .write-sector .ensures) (second .write-sector2 .ensures);
-    })
+    (done-meets image _ _ changed _ _ refl
+    (both _ _ _ _ _ _ _ _ (old .sector-of2 .ensures) (made .index-without .ensures) (mapped .map-without .ensures) (first .write-sector .ensures) (second .write-sector2 .ensures))
+    (c .list .ensures ∙ order-laid _ changed (search needs)))
 
 pub delete-at-spec : {M : Type 1} → statement M
 delete-at-spec =
@@ -102,6 +111,9 @@ delete-at-spec =
     (λ c κs. search needs)
     slice-aggregate-write-sector
     write-sector-requires
+    (λ c. search needs)
+    (λ c κs. search needs)
+    cast-t33
     (λ c. search needs)
     (λ c κs. search needs)
     (λ c. search needs)

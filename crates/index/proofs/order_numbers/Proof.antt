@@ -1,9 +1,9 @@
 -- `index::order_numbers` meets its contract. The loop's invariant: the numbers in the first `at` bytes are in order, and putting the others in among them gives all of them in order.
 -- The measure is what is left of the index. Assumes nothing.
-use mathlib.Core.Path.{_≡_, refl, sym, ap, _∙_}
-use mathlib.Core.Bool.{Bool, true, false, not}
+use mathlib.Core.Path.{_≡_, sym, _∙_}
+use mathlib.Core.Bool.{not}
 use mathlib.Core.List.{_∷_}
-use Prim.Native.Nat.{ℕ, _+_, _-_, _*_, _%_, _≤_}
+use Prim.Native.Nat.{_+_, _-_, _≤_}
 use native.Mathlib.Omega.{arith}
 use lib.ListN.{length, drop}
 use borrow.Author.Tests.{not-true, not-false}

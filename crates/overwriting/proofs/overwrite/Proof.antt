@@ -17,33 +17,33 @@ found : (c : tie.After-opened3) →
 found c = sym (c .before .before .find .ensures) ∙ c .opened3 .given .1
 
 overwrite-at-requires : tie.Need-overwrite-at-requires
-overwrite-at-requires c κs = (_, is-file _ _ _ _ _ _ _ (found (c .before .before)))
+overwrite-at-requires c κs = (_, is-file _ _ _ _ _ _ _ (found (c .before .before .before)))
 
 returns : tie.Need-returns
 unfolding overwriteOf
 returns c =
     let o = c .before in
     let f = o .before .before in
-    change-refused _ (start f .args .image .now) _ _ _ _ (sym (f .find .ensures) ∙ o .opened .given .1)
+    change-refused _ (start f .args .image .now) _ _ _ _ _ (sym (f .find .ensures) ∙ o .opened .given .1)
 
 returns-2 : tie.Need-returns-2
 unfolding overwriteOf
 returns-2 c =
     let o = c .before in
     let f = o .before .before in
-    change-misnamed _ (start f .args .image .now) _ _ _ _ (sym (f .find .ensures) ∙ o .opened2 .given .1)
+    change-misnamed _ (start f .args .image .now) _ _ _ _ _ (sym (f .find .ensures) ∙ o .opened2 .given .1)
 
 returns-3 : tie.Need-returns-3
 unfolding overwriteOf
 returns-3 c =
     let f = c .before .before in
-    change-absent _ (start f .args .image .now) _ _ _ _ (sym (f .find .ensures) ∙ c .enum-told .given .1)
+    change-absent _ (start f .args .image .now) _ _ _ _ _ (sym (f .find .ensures) ∙ c .enum-told .given .1)
 
 returns-4 : tie.Need-returns-4
 unfolding overwriteOf
 returns-4 c =
     let done = c .before .before in
-    change-found _ _ _ _ _ _ _ _ (found (done .before .before .before)) _ _ (done .overwrite-at .ensures)
+    change-found _ _ _ _ _ _ _ _ _ (found (done .before .before .before .before)) _ _ _ (done .overwrite-at .ensures)
 
 pub overwrite-spec : {M : Type 1} → statement M
 overwrite-spec =

@@ -1,20 +1,24 @@
 -- `overwriting::overwrite_at` meets its contract: each refusal gives the number of the first test that was met; a place of a sound file is inside the image; by the old rule a descriptor marked where it stands is what it was. Assumes nothing.
 use mathlib.Core.Path.{_≡_, refl, sym, ap, _∙_}
-use mathlib.Core.Bool.{false}
-use mathlib.Core.List.{List}
+use mathlib.Core.Bool.{false, cond}
+use mathlib.Core.List.{List, [], _∷_}
 use Prim.Native.Nat.{ℕ, _+_, _-_, _*_, _≤_, _<_}
 use native.Mathlib.Omega.{arith}
 use lib.ListN.{length, getD}
 use borrow.Author.Tests.{eq-eqb, ne-eqb, le-leb, lt-leb}
+use borrow.Rule.Slice.PartMut.{putMid}
 use Rattle.rules.specs.Bytes.{byteAt, wordAt, part, splice}
-use Rattle.rules.specs.Sectors.{sectorOf}
+use Rattle.rules.specs.Sectors.{sectorsIn, sectorOf, written}
 use Rattle.rules.specs.Kind.{isProgram, isProtected}
-use Rattle.rules.specs.Descriptor.{statusOf, sectorsOf, chainOf}
+use Rattle.rules.specs.Descriptor.{statusOf, sectorsOf, chainOf, markedBy}
 use Rattle.rules.specs.Chain.{places}
 use Rattle.rules.specs.Volume.{placesIn}
 use Rattle.rules.specs.Tests.{firstOf, unlessMet}
+use Rattle.rules.specs.Outcome.{orderOf}
 use Rattle.rules.specs.Calls.Overwrite.{overwriteTests, overwriteWrites, overwriting}
+use Rattle.rules.specs.declared.Layout.{Layout}
 use Rattle.rules.proofs.Bytes.{part-length}
+use Rattle.rules.proofs.Tests.{by-rule}
 use Rattle.rules.proofs.Marks.{overwrite-written}
 use Rattle.rules.proofs.Splice.{put-back}
 use Rattle.rules.proofs.Status.{protected, unprotected, program, no-program}
@@ -74,14 +78,14 @@ returns : tie.Need-returns
 unfolding overwriting overwriteTests firstOf unlessMet
 returns c =
     let a = start (c .before .before) .args in
-    rw (protected (sectorOf (a .image .now) (a .k)) _ (status-is (c .before)) (c .if1 .taken)) (refusal-meets (a .image .now) _ 10 refl refl)
+    rw (protected (sectorOf (a .image .now) (a .k)) _ (status-is (c .before)) (c .if1 .taken)) (refusal-meets (a .image .now) _ _ 10 refl refl)
 
 returns-2 : tie.Need-returns-2
 unfolding overwriting overwriteTests firstOf unlessMet
 returns-2 c =
     let e = c .before in
     let a = start (e .before .before) .args in
-    rw (open-file e, program (sectorOf (a .image .now) (a .k)) _ (status-is (e .before)) (c .if2 .taken)) (refusal-meets (a .image .now) _ 14 refl refl)
+    rw (open-file e, program (sectorOf (a .image .now) (a .k)) _ (status-is (e .before)) (c .if2 .taken)) (refusal-meets (a .image .now) _ _ 14 refl refl)
 
 returns-3 : tie.Need-returns-3
 unfolding overwriting overwriteTests firstOf unlessMet
@@ -89,7 +93,7 @@ returns-3 c =
     let w = c .before in
     let e = w .before in
     let a = start₂ e .args in
-    rw (open-file (e .before), is-data e, le-leb (sectorsOf (sectorOf (a .image .now) (a .k))) (a .offset) (omega (arith, count-is w, c .if3 .taken))) (refusal-meets (a .image .now) _ 15 refl refl)
+    rw (open-file (e .before), is-data e, le-leb (sectorsOf (sectorOf (a .image .now) (a .k))) (a .offset) (omega (arith, count-is w, c .if3 .taken))) (refusal-meets (a .image .now) _ _ 15 refl refl)
 
 returns-4 : tie.Need-returns-4
 unfolding overwriting overwriteTests firstOf unlessMet
@@ -97,7 +101,7 @@ returns-4 c =
     let i = c .before in
     let e = i .before .before in
     let a = start₃ i .args in
-    rw (open-file (e .before), is-data e, lt-leb (sectorsOf (sectorOf (a .image .now) (a .k))) (a .offset) (inside i), ne-eqb _ _ (c .if4 .taken)) (refusal-meets (a .image .now) _ 15 refl refl)
+    rw (open-file (e .before), is-data e, lt-leb (sectorsOf (sectorOf (a .image .now) (a .k))) (a .offset) (inside i), ne-eqb _ _ (c .if4 .taken)) (refusal-meets (a .image .now) _ _ 15 refl refl)
 
 mark-descriptor-requires : tie.Need-mark-descriptor-requires
 mark-descriptor-requires c κs = let file = start₄ (c .before) .pre .1 in omega (arith, in-volume _ _ _ _ file, file .sound .whole)
@@ -122,29 +126,47 @@ copy-requires c κs =
     let e : 256 * p + 256 - 256 * p ≡ 256 = omega arith in
     rw e (part-length (m .mark-descriptor .last .1 .0) (256 * p) 256 (reaches-marked m) ∙ sym (tested (placed m) .if4 .left))
 
+-- the way back from the order, past the copy
+abbrev overwritten : tie.After-slice-known3 → tie.After-copy
+overwritten c = c .before .before
+
+list-overwrite-requires : tie.Need-list-overwrite-requires
+list-overwrite-requires c κs =
+    let q = placed (marked (overwritten (c .before))) in
+    let file = start₄ q .pre .1 in
+    (omega (arith, in-volume _ _ _ _ file, file .sound .size), omega (arith, reaches q, file .sound .whole, file .sound .size))
+
+-- what is written and what is listed, by either rule
+module _ (layout : Layout) (image bytes : List ℕ) (offset k place : ℕ) (is : place ≡ getD (placesIn image k) offset 0) where
+  left-is : (marked copied : List ℕ) → marked ≡ splice image (256 * k) (markedBy layout (sectorOf image k)) → copied ≡ bytes → length bytes ≡ 256 → 256 * place + 256 ≤ length marked
+      → putMid (256 * place) (256 * place + 256 - 256 * place) marked copied ≡ written image (overwriteWrites layout image offset bytes k)
+  left-is marked copied with-mark same whole fits =
+      let e : 256 * place + 256 - 256 * place ≡ 256 = omega arith in
+      rw (e, same)
+      (put-back marked bytes (256 * place) 256 whole fits ∙ ap (λ (n : ℕ). splice marked (256 * n) bytes) is
+      ∙ ap (λ (l : List ℕ). splice l (256 * getD (placesIn image k) offset 0) bytes) with-mark
+      ∙ sym (overwrite-written layout image bytes offset k))
+
+  order-is : cond (layout .marks) (2 ∷ (k ∷ (place ∷ []))) (1 ∷ (place ∷ [])) ≡ orderOf (overwriteWrites layout image offset bytes k)
+  unfolding overwriteWrites orderOf sectorsIn
+  order-is =
+      let at = getD (placesIn image k) offset 0 in
+      rw is (by-rule (λ layout. cond (layout .marks) (2 ∷ (k ∷ (at ∷ []))) (1 ∷ (at ∷ [])) ≡ orderOf (overwriteWrites layout image offset bytes k)) (λ edition. refl) (λ edition. refl) layout)
+
 returns-5 : tie.Need-returns-5
 unfolding overwriting overwriteTests firstOf unlessMet
 returns-5 c =
-    let copied = c .before .before in
+    let copied = overwritten (c .before .before) in
     let m = marked copied in
     let q = placed m in
     let t = tested q in
     let i = t .before in
     let d = i .before .before in
     let a = start₄ q .args in
-    let p = q .place-at .result in
-    let e : 256 * p + 256 - 256 * p ≡ 256 = omega arith in
-    let meets = done-meets (a .image .now) _ (overwriteWrites (a .layout) (a .image .now) (a .offset) (a .bytes .now) (a .k)) refl in
     rw (open-file (d .before), is-data d, lt-leb (sectorsOf (sectorOf (a .image .now) (a .k))) (a .offset) (inside i), eq-eqb _ _ (t .if4 .left))
-    (record {
-      said = meets .said;
-      left =
-          rw (e, copied .copy .ensures)
-          (put-back (m .mark-descriptor .last .1 .0) (a .bytes .now) (256 * p) 256 (t .if4 .left) (reaches-marked m)
-          ∙ ap (λ (n : ℕ). splice (m .mark-descriptor .last .1 .0) (256 * n) (a .bytes .now)) (place-is q)
-          ∙ ap (λ (l : List ℕ). splice l (256 * getD (placesIn (a .image .now) (a .k)) (a .offset) 0) (a .bytes .now)) (m .mark-descriptor .ensures)
-          ∙ sym (overwrite-written (a .layout) (a .image .now) (a .bytes .now) (a .offset) (a .k)));
-    })
+    (done-meets (a .image .now) _ _ (overwriteWrites (a .layout) (a .image .now) (a .offset) (a .bytes .now) (a .k)) _ _ refl
+    (left-is _ _ _ _ _ _ (place-is q) _ _ (m .mark-descriptor .ensures) (copied .copy .ensures) (t .if4 .left) (reaches-marked m))
+    (c .list-overwrite .ensures ∙ ap (splice _ 1) (order-is _ _ _ _ _ _ (place-is q))))
 
 pub overwrite-at-spec : {M : Type 1} → statement M
 overwrite-at-spec =
@@ -170,5 +192,6 @@ overwrite-at-spec =
     (λ c. search needs)
     part-copy-end
     copy-requires
+    list-overwrite-requires
     (λ c. search needs)
     returns-5)

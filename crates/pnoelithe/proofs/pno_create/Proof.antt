@@ -1,4 +1,4 @@
--- `pnoelithe::pno_create` meets its contract: what the call answers crosses as its number, and the place where the name is wrong behind its pointer. Assumes nothing.
+-- `pnoelithe::pno_create` meets its contract: what the call answers crosses as its number, the place where the name is wrong behind its pointer, and the order of its writes. Assumes nothing.
 use Rattle.pnoelithe.proofs.Crossings.{writing-crosses}
 use borrow.Author.Needs.{needs}
 use Rattle.pnoelithe.proofs.pno_create.Statement.{statement}
@@ -7,7 +7,8 @@ use Rattle.pnoelithe.proofs.pno_create.Tie as tie
 returns : tie.Need-returns
 returns c =
     let called = c .before .before .before .before in
-    rw (← called .before .before .layout-of .ensures) (writing-crosses _ _ _ _ _ _ _ (c .named-number .ensures _ _) (called .create .ensures))
+    let l = called .before .before .before in
+    rw (← l .layout-of .ensures) (writing-crosses _ _ _ _ _ _ _ _ _ _ (called .create .ensures) (l .before .list-none .ensures) (c .named-number .ensures _ _))
 
 pub pno-create-spec : {M : Type 1} → statement M
-pno-create-spec = tie.close (tie.spec (λ c κs. search needs) (λ c κs. search needs) (λ c κs. search needs) (λ c. search needs) returns)
+pno-create-spec = tie.close (tie.spec (λ c κs. search needs) (λ c κs. search needs) (λ c κs. search needs) (λ c κs. search needs) (λ c. search needs) returns)

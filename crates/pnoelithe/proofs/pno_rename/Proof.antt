@@ -1,4 +1,4 @@
--- `pnoelithe::pno_rename` meets its contract: what the call answers crosses as its number, and which name is wrong and where behind their pointers. Assumes nothing.
+-- `pnoelithe::pno_rename` meets its contract: what the call answers crosses as its number, which name is wrong and where behind their pointers, and the order of its writes. Assumes nothing.
 use Rattle.pnoelithe.proofs.Crossings.{writing-crosses}
 use borrow.Author.Needs.{needs}
 use Rattle.pnoelithe.proofs.pno_rename.Statement.{statement}
@@ -7,7 +7,9 @@ use Rattle.pnoelithe.proofs.pno_rename.Tie as tie
 returns : tie.Need-returns
 returns c =
     let called = c .before .before .before .before .before in
-    rw (← called .before .before .layout-of .ensures) (writing-crosses _ _ _ _ _ _ _ (c .rename-number .ensures _ _ _) (called .rename .ensures))
+    let l = called .before .before .before in
+    let crossed = writing-crosses _ _ _ _ _ _ _ _ _ _ (called .rename .ensures) (l .before .list-none .ensures) (c .rename-number .ensures _ _ _) in
+    rw (← l .layout-of .ensures) (crossed .0, (crossed .1 .0 .0, (crossed .1 .0 .1, crossed .1 .1)))
 
 pub pno-rename-spec : {M : Type 1} → statement M
-pno-rename-spec = tie.close (tie.spec (λ c κs. search needs) (λ c κs. search needs) (λ c κs. search needs) (λ c. search needs) returns)
+pno-rename-spec = tie.close (tie.spec (λ c κs. search needs) (λ c κs. search needs) (λ c κs. search needs) (λ c κs. search needs) (λ c. search needs) returns)

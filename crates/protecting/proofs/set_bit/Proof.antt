@@ -5,14 +5,14 @@ use Prim.Native.Nat.{ℕ, _+_, _*_, _<_}
 use native.Mathlib.Omega.{arith}
 use lib.ListN.{length, set}
 use Rattle.rules.specs.Bytes.{withBit}
-use Rattle.rules.specs.Sectors.{sectorOf, written}
+use Rattle.rules.specs.Sectors.{sectorsIn, sectorOf, written}
 use Rattle.rules.specs.Descriptor.{statusOf}
 use Rattle.rules.specs.Outcome.{write}
 use Rattle.rules.specs.Opening.{openOf}
 use Rattle.rules.specs.Calls.Protect.{settingBit, setBitOf}
 use Rattle.rules.specs.declared.Opened.the-variants.{At}
 use Rattle.rules.proofs.Sectors.{sector-byte, sector-set}
-use Rattle.rules.proofs.Outcome.{done-meets}
+use Rattle.rules.proofs.Outcome.{order-laid, done-meets}
 use Rattle.rules.proofs.Opening.{change-refused, change-misnamed, change-absent, change-found, is-file, in-volume}
 use borrow.Author.Needs.{needs}
 use Rattle.protecting.proofs.set_bit.Statement.{statement}
@@ -44,33 +44,34 @@ unfolding setBitOf
 returns c =
     let o = c .before in
     let f = o .before .before in
-    change-refused _ (start f .args .image .now) _ _ _ _ (sym (f .find .ensures) ∙ o .opened .given .1)
+    change-refused _ (start f .args .image .now) _ _ _ _ _ (sym (f .find .ensures) ∙ o .opened .given .1)
 
 returns-2 : tie.Need-returns-2
 unfolding setBitOf
 returns-2 c =
     let o = c .before in
     let f = o .before .before in
-    change-misnamed _ (start f .args .image .now) _ _ _ _ (sym (f .find .ensures) ∙ o .opened2 .given .1)
+    change-misnamed _ (start f .args .image .now) _ _ _ _ _ (sym (f .find .ensures) ∙ o .opened2 .given .1)
 
 returns-3 : tie.Need-returns-3
 unfolding setBitOf
 returns-3 c =
     let f = c .before .before in
-    change-absent _ (start f .args .image .now) _ _ _ _ (sym (f .find .ensures) ∙ c .enum-told .given .1)
+    change-absent _ (start f .args .image .now) _ _ _ _ _ (sym (f .find .ensures) ∙ c .enum-told .given .1)
 
 returns-4 : tie.Need-returns-4
-unfolding setBitOf settingBit written
+unfolding setBitOf settingBit written sectorsIn
 returns-4 c =
-    let o = c .before .before .before in
+    let w = c .before .before .before in
+    let o = w .before .before .before in
     let a = start₂ o .args in
     let image = a .image .now in
     let k = sector o in
     let d = sectorOf image k in
-    let met = done-meets image _ (write k (set d 12 (withBit (statusOf d) (a .j) (a .bit))) ∷ []) refl in
-    let status = c .with-bit .ensures ∙ ap (λ (b : ℕ). withBit b (a .j) (a .bit)) (sym (sector-byte image k 12 (omega arith))) in
-    change-found _ image _ _ _ _ _ _ (found o) _ _
-    (record { said = met .said; left = rw status (sym (sector-set image k 12 (withBit (statusOf d) (a .j) (a .bit)) (omega arith))) })
+    let writes = write k (set d 12 (withBit (statusOf d) (a .j) (a .bit))) ∷ [] in
+    let status = w .with-bit .ensures ∙ ap (λ (b : ℕ). withBit b (a .j) (a .bit)) (sym (sector-byte image k 12 (omega arith))) in
+    change-found _ image _ _ _ _ _ _ _ (found o) _ _ _
+    (done-meets image _ _ writes _ _ refl (rw status (sym (sector-set image k 12 (withBit (statusOf d) (a .j) (a .bit)) (omega arith)))) (c .list .ensures ∙ order-laid _ writes (search needs)))
 
 pub set-bit-spec : {M : Type 1} → statement M
 set-bit-spec =
@@ -86,6 +87,9 @@ set-bit-spec =
     (λ c. inside (c .before .before) .1)
     (λ c κs. search needs)
     (λ c. inside (c .before .before .before) .1)
+    (λ c. omega (arith, inside (c .before .before .before) .0))
+    (λ c. search needs)
+    (λ c κs. search needs)
     (λ c. search needs)
     returns
     (λ c. search needs)

@@ -88,7 +88,7 @@ returns c =
     let j = c .before in
     let image = start j .args .image .now in
     let is = j .judge .ensures in
-    meets-refusal (RenameSays _ _) (renamed.Refused _) image _ _
+    meets-refusal (RenameSays _ _) (renamed.Refused _) image _ _ _
     (refl, c .if1 .taken, λ z. omega (arith, z, is, verdict-small (start j .args .layout) image))
     (changing-refused _ _ _ (unsound _ _ _ _ _ (λ z. c .if1 .taken (is ∙ z)) ∙ ap Refused (sym is)))
 
@@ -98,7 +98,7 @@ returns-2 c =
     let p = c .before in
     let w = p .before .before in
     let there = sym (w .wrong-place .ensures) ∙ p .place .given .1 in
-    meets-refusal (RenameSays _ _) (renamed.OldMisnamed _) (start₂ w .args .image .now) _ 7 (refl, there)
+    meets-refusal (RenameSays _ _) (renamed.OldMisnamed _) (start₂ w .args .image .now) _ _ 7 (refl, there)
     (changing-misnamed _ _ _ (misnamed _ _ _ _ _ (sound (w .before)) _ there))
 
 returns-3 : tie.Need-returns-3
@@ -108,7 +108,7 @@ returns-3 c =
     let w = p .before .before in
     let old = w .before in
     let there = sym (w .wrong-place2 .ensures) ∙ p .place2 .given .1 in
-    meets-refusal (RenameSays _ _) (renamed.NewMisnamed _) (start₃ w .args .image .now) _ 7 (refl, kept old, there)
+    meets-refusal (RenameSays _ _) (renamed.NewMisnamed _) (start₃ w .args .image .now) _ _ 7 (refl, kept old, there)
     (changing-misnamed _ _ _ (misnamed-new _ _ _ _ _ (sound (tested old .before)) (kept old) _ there))
 
 returns-4 : tie.Need-returns-4
@@ -116,12 +116,12 @@ unfolding renameOf RenameSays
 returns-4 c =
     let f = c .before in
     let a = start₄ f .args in
-    meets-refusal (RenameSays _ _) (renamed.Refused 8) (a .image .now) _ 8 (bare 8 refl)
+    meets-refusal (RenameSays _ _) (renamed.Refused 8) (a .image .now) _ _ 8 (bare 8 refl)
     (ap (λ (o : Opened). changing o (renaming (a .layout) (a .image .now) (a .new .now))) (opens f) ∙ lost-eight _ _ _ _ _ _ (f .in-directory .ensures) (c .match3 .keys2))
 
 rename-at-requires : tie.Need-rename-at-requires
 rename-at-requires c κs =
-    let o = c .before .before in
+    let o = c .before .before .before in
     let f = o .before .before in
     let old = tested-new (passed f) .before in
     (is-file _ _ _ _ _ _ _ (open-looked _ _ _ _ (sound (tested old .before)) (kept old) ∙ sym (f .in-directory .ensures) ∙ o .i .given .1), none-rule _ (kept-new (passed f)))
@@ -130,7 +130,7 @@ returns-5 : tie.Need-returns-5
 unfolding renameOf
 returns-5 c =
     let done = c .before .before in
-    let o = done .before .before .before in
+    let o = done .before .before .before .before in
     let f = o .before .before in
     let new = passed f in
     rw (kept (tested-new new .before), kept-new new, changing-found _ _ _ _ _ (opens f ∙ o .i .given .1)) (done .rename-at .ensures)

@@ -5,7 +5,7 @@ use Prim.Native.Nat.{ℕ, _+_, _*_, _≤_, _<_}
 use native.Mathlib.Omega.{arith}
 use lib.ListN.{length}
 use Rattle.rules.specs.Bytes.{byteAt, splice}
-use Rattle.rules.specs.Sectors.{Write, written, sectorOf}
+use Rattle.rules.specs.Sectors.{Write, sectorsIn, written, sectorOf}
 use Rattle.rules.specs.Descriptor.{statusOf, markedBy}
 use Rattle.rules.specs.Index.{indexOf, without}
 use Rattle.rules.specs.Volume.{filesIn, placed}
@@ -23,7 +23,7 @@ use Rattle.rules.proofs.Name.{name-is}
 use Rattle.rules.proofs.Indexed.{index-length}
 use Rattle.rules.proofs.Marks.{mark-length}
 use Rattle.rules.proofs.Status.{protected, unprotected}
-use Rattle.rules.proofs.Outcome.{bare, meets-refusal, meets-done}
+use Rattle.rules.proofs.Outcome.{bare, order-laid, meets-refusal, meets-done}
 use Rattle.rules.proofs.Listed.{index-low}
 use Rattle.rules.proofs.Opening.{in-volume, adding-present, adding-absent}
 use Rattle.renaming.proofs.Lost.{lost-absent}
@@ -62,9 +62,11 @@ both : (layout : Layout) (image new one two index : List ℕ) (i k : ℕ) → on
 unfolding written
 both layout image new one two index i k first made second = rw (second, first, made)
 
--- the index is a sector of the volume
-small : (c : tie.Start) → c .args .i < 65536
-small c = let file = c .pre .0 in omega (arith, index-low _ _ (file .sound) _ (file .indexed), file .sound .size)
+-- the descriptor and the index are sectors of the volume
+small : (c : tie.Start) → (c .args .k < 65536) × (c .args .i < 65536)
+small c =
+    let file = c .pre .0 in
+    (omega (arith, in-volume _ _ _ _ file, file .sound .size), omega (arith, index-low _ _ (file .sound) _ (file .indexed), file .sound .size))
 
 absent : (c : tie.At-match-keys2) →
     let a = start₂ c .args in
@@ -78,17 +80,17 @@ returns : tie.Need-returns
 unfolding renaming RenameSays
 returns c =
     let f = c .before .before in
-    meets-refusal (RenameSays None None) (Refused 9) (start f .args .image .now) _ 9 (bare 9 refl) (adding-present _ _ _ _ _ (sym (f .find-in .ensures) ∙ c .enum-told .given .1))
+    meets-refusal (RenameSays None None) (Refused 9) (start f .args .image .now) _ _ 9 (bare 9 refl) (adding-present _ _ _ _ _ (sym (f .find-in .ensures) ∙ c .enum-told .given .1))
 
 sector-of-requires : tie.Need-sector-of-requires
-sector-of-requires c κs = let file = start₂ (c .before) .pre .0 in omega (arith, in-volume _ _ _ _ file, file .sound .size)
+sector-of-requires c κs = small (start₂ (c .before)) .0
 
 returns-2 : tie.Need-returns-2
 unfolding renaming renamingIn renameTests firstOf unlessMet RenameSays
 returns-2 c =
     let b = c .before in
     let a = start₃ b .args in
-    meets-refusal (RenameSays None None) (Refused 10) (a .image .now) _ 10 (bare 10 refl)
+    meets-refusal (RenameSays None None) (Refused 10) (a .image .now) _ _ 10 (bare 10 refl)
     (adding-absent _ _ _ (absent (lost b)) ∙ rw (protected (sectorOf (a .image .now) (a .k)) _ (status-is b) (c .if1 .taken)))
 
 -- the file's descriptor is inside the image
@@ -102,7 +104,7 @@ mark-descriptor-requires : tie.Need-mark-descriptor-requires
 mark-descriptor-requires c κs = inside (c .before)
 
 mul-lay : tie.Need-mul-lay
-mul-lay c = let file = start₄ (moving (c .before .before .before)) .pre .0 in omega (arith, in-volume _ _ _ _ file, file .sound .size)
+mul-lay c = omega (arith, small (start₄ (moving (c .before .before .before))))
 
 slice-aggregate-write-sector : tie.Need-slice-aggregate-write-sector
 slice-aggregate-write-sector c = sym (ap length (moving (marking (c .before .before .before .before)) .moved .ensures) ∙ index-length _)
@@ -110,11 +112,24 @@ slice-aggregate-write-sector c = sym (ap length (moving (marking (c .before .bef
 write-sector-requires : tie.Need-write-sector-requires
 write-sector-requires c κs = omega (arith, small (start₄ (moving (marking (c .before .before .before .before)))))
 
+-- the way back from the order, past both writes
+abbrev written-index : tie.After-slice-known4 → tie.After-write-sector
+written-index c = c .before .before
+
+abbrev named : tie.After-write-sector → tie.After-lay
+named c = c .before .before .before .before .before
+
+cast-t31 : tie.Need-cast-t31
+cast-t31 c = omega (arith, small (start₄ (moving (marking (named (written-index c))))))
+
+cast-t32 : tie.Need-cast-t32
+cast-t32 c = omega (arith, small (start₄ (moving (marking (named (written-index c))))))
+
 returns-3 : tie.Need-returns-3
-unfolding renaming renamingIn renameTests firstOf unlessMet RenameSays
+unfolding renaming renamingIn renameTests firstOf unlessMet RenameSays sectorsIn
 returns-3 c =
-    let second = c .before .before in
-    let first = second .before .before .before .before .before in
+    let second = written-index (c .before .before .before) in
+    let first = named second in
     let marked = marking first in
     let index = moving marked in
     let free = index .before .before .before in
@@ -122,13 +137,16 @@ returns-3 c =
     let s = start₃ b in
     let a = s .args in
     let image = a .image .now in
-    let met = meets-done (RenameSays None None) Done image (renaming (a .layout) image (a .new .now) (a .i) (a .k)) (writes (a .layout) image (a .new .now) (a .i) (a .k)) refl (adding-absent _ _ _ (absent (lost b)) ∙ rw (unprotected (sectorOf image (a .k)) _ (status-is b) (free .if1 .left))) in
     let long = mark-length (a .layout) (sectorOf image (a .k)) ∙ sector-length image (a .k) (inside index) in
-    let named =
+    let renamed =
     first .lay .ensures ∙ ap (λ (l : List ℕ). splice l (256 * a .k) (a .new .now)) (marked .mark-descriptor .ensures)
     ∙ splice-over image (256 * a .k) (markedBy (a .layout) (sectorOf image (a .k))) (a .new .now) (omega (arith, name-is _ (s .pre .1) .ten, long))
     in
-    record { said = met .said; left = both _ _ _ _ _ _ _ _ named (index .moved .ensures) (second .write-sector .ensures) ∙ met .left }
+    let changed = writes (a .layout) image (a .new .now) (a .i) (a .k) in
+    meets-done (RenameSays None None) Done image _ _ changed _ _ refl
+    (adding-absent _ _ _ (absent (lost b)) ∙ rw (unprotected (sectorOf image (a .k)) _ (status-is b) (free .if1 .left)))
+    (both _ _ _ _ _ _ _ _ renamed (index .moved .ensures) (second .write-sector .ensures))
+    (c .list .ensures ∙ order-laid _ changed (search needs))
 
 pub rename-at-spec : {M : Type 1} → statement M
 rename-at-spec =
@@ -148,5 +166,9 @@ rename-at-spec =
     (λ c κs. search needs)
     slice-aggregate-write-sector
     write-sector-requires
+    cast-t31
+    cast-t32
+    (λ c. search needs)
+    (λ c κs. search needs)
     (λ c. search needs)
     returns-3)

@@ -1,7 +1,7 @@
 -- `repairing::examine` meets its contract: each way out gives the number of the first test that failed, the tests before it having passed. What the marks say of the holders, and that with
 -- 0 they are their map, are laws of the claims. Assumes nothing.
-use mathlib.Core.Path.{_≡_, refl, sym, ap, _∙_}
-use mathlib.Core.Bool.{Bool, true, _&&_}
+use mathlib.Core.Path.{_≡_, sym, ap, _∙_}
+use mathlib.Core.Bool.{true, _&&_}
 use mathlib.Core.List.{List, []}
 use Prim.Native.Nat.{ℕ}
 use native.Mathlib.Omega.{arith}

@@ -1,7 +1,5 @@
 -- `repairing::order_index` meets its contract: the index is made in name order, and then written. Assumes nothing.
 use mathlib.Core.Path.{_≡_, sym, ap, _∙_}
-use mathlib.Core.List.{List}
-use Prim.Native.Nat.{ℕ, _*_}
 use lib.ListN.{length}
 use Rattle.rules.specs.Bytes.{splice}
 use Rattle.rules.specs.Index.{indexOf}

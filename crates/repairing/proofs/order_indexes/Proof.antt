@@ -1,7 +1,7 @@
 -- `repairing::order_indexes` meets its contract. The loop's invariant: the indexes of the directories before this one are written and listed, and what the others need of the image stands.
 -- The measure is how many numbers are left. Assumes nothing.
-use mathlib.Core.Path.{_≡_, refl, sym, ap, _∙_}
-use Prim.Native.Nat.{ℕ, _+_, _-_, _≤_}
+use mathlib.Core.Path.{refl}
+use Prim.Native.Nat.{_-_, _≤_}
 use native.Mathlib.Omega.{arith}
 use Rattle.repairing.proofs.Going.{Going, none-written, none-there, index-ready, one-written, all-written}
 use borrow.Author.Needs.{needs}

@@ -7,7 +7,7 @@ use Rattle.rules.specs.Sectors.{sectorCount}
 use Rattle.rules.specs.Map.{mapOf}
 use Rattle.rules.specs.Volume.{holders}
 use Rattle.rules.specs.Outcome.{AnswerSays}
-use Rattle.rules.specs.Calls.Repair.{mending, repairOf, Mendable}
+use Rattle.rules.specs.Calls.Repair.{Mendable}
 use Rattle.rules.proofs.Bytes.{part-length}
 use Rattle.rules.proofs.Outcome.{meets-refusal, meets-done}
 use Rattle.rules.proofs.Repair.{mendable}

@@ -16,10 +16,10 @@ use Rattle.rules.specs.Kind.{marking}
 use Rattle.rules.specs.Descriptor.{newDescriptor, chainOf, withChain}
 use Rattle.rules.specs.Choice.{descriptorChoice}
 use Rattle.rules.specs.Calls.Store.{dataWrites}
-use Rattle.rules.proofs.Splice.{put-back}
+use Rattle.rules.proofs.Splice.{splice-none, put-back}
 use Rattle.rules.proofs.Choice.{lowest-to, choices-length}
 use Rattle.storing.specs.Spread.{Taken, Spread}
-use Rattle.storing.proofs.Programming.{header-long, header-empty, chain-long, chain-in, chain-out, enough-is, program-written}
+use Rattle.storing.proofs.Programming.{header-long, header-empty, chain-long, chain-in, chain-out, enough-is, places-new, program-written}
 use borrow.Author.Needs.{needs}
 use Rattle.storing.proofs.write_program.Statement.{statement}
 use Rattle.storing.proofs.write_program.Tie as tie
@@ -44,7 +44,7 @@ abbrev spreading : tie.Else1 → tie.After-spread
 spreading c = c .before .before .before
 
 abbrev passed : tie.After-write-data → tie.Else1
-passed c = c .before .before .before .before
+passed c = c .before .before .before .before .before
 
 abbrev first : tie.After-write-sector → tie.After-write-data
 first c = c .before .before .before .before .before
@@ -82,7 +82,7 @@ returns c =
     let s = c .before .before .before in
     let begin = begun s in
     let a = begin .args in
-    (enough-is (a .image .now) (a .name .now) (a .bytes .now) (a .k) (a .many) (begin .pre .4) (begin .pre .3) _ _ false (spread-is s false (not-true _ (c .if1 .taken))), refl)
+    ((enough-is (a .image .now) (a .name .now) (a .bytes .now) (a .k) (a .many) (begin .pre .4) (begin .pre .3) _ _ false (spread-is s false (not-true _ (c .if1 .taken))), refl), sym (splice-none _ _))
 
 -- all of it is in the chain, and the chain in the descriptor
 taken : (c : tie.Else1) → let s = spreading c in let a = begun s .args in Taken (a .many) (marked 1 (sectorOf (a .image .now) 0) (a .k)) (s .spread .last .0) (s .spread .last .1 .0)
@@ -113,7 +113,7 @@ part-write-data-end c = omega (arith, descriptor-long (c .before .before))
 
 write-data-requires : tie.Need-write-data-requires
 unfolding chainOf
-write-data-requires c κs = let e = c .before .before .before in rw (chain-is e) (few e)
+write-data-requires c κs = let e = c .before .before .before .before in rw (chain-is e) (few e)
 
 slice-aggregate-write-sector : tie.Need-slice-aggregate-write-sector
 slice-aggregate-write-sector c = sym (descriptor-long (passed (c .before .before .before .before)))
@@ -123,6 +123,10 @@ unfolding descriptorChoice
 write-sector-requires c κs =
     let begin = begun (spreading (passed (c .before .before .before .before))) in
     omega (arith, begin .pre .4, lowest-to (sectorOf (begin .args .image .now) 0) 1598 2)
+
+-- sector 0 as it was copied is a whole sector
+copied-long : (c : tie.After-copy2) → length (c .copy2 .last .0) ≡ 256
+copied-long c = search needs
 
 returns-2 : tie.Need-returns-2
 unfolding chainOf
@@ -135,11 +139,16 @@ returns-2 c =
     let begin = begun s in
     let a = begin .args in
     let chain = s .spread .last .1 .0 in
-    let data-there = one .write-data .ensures ∙ ap (λ (l : List ℕ). written (a .image .now) (dataWrites (a .bytes .now) (places l))) (chain-is e) in (
-      enough-is (a .image .now) (a .name .now) (a .bytes .now) (a .k) (a .many) (begin .pre .4) (begin .pre .3) _ _ true (spread-is s true (not-false _ (e .if1 .left))),
-      put-back _ _ 0 256 (search needs) (search needs)
-          ∙ ap (splice (two .write-sector .last .0) 0) (third .copy2 .ensures)
-          ∙ program-written (a .image .now) (a .name .now) (a .bytes .now) (a .k) (a .many) (begin .pre .4) (begin .pre .3) _ chain (taken e) (a .layout) _ _ _ data-there (two .write-sector .ensures) (descriptor-is e),
+    let data-there = one .write-data .ensures .0 ∙ ap (λ (l : List ℕ). written (a .image .now) (dataWrites (a .bytes .now) (places l))) (chain-is e) in (
+      (
+        enough-is (a .image .now) (a .name .now) (a .bytes .now) (a .k) (a .many) (begin .pre .4) (begin .pre .3) _ _ true (spread-is s true (not-false _ (e .if1 .left))),
+        put-back _ _ 0 256 (copied-long third) (search needs)
+            ∙ ap (splice (two .write-sector .last .0) 0) (third .copy2 .ensures)
+            ∙ program-written (a .image .now) (a .name .now) (a .bytes .now) (a .k) (a .many) (begin .pre .4) (begin .pre .3) _ chain (taken e) (a .layout) _ _ _ data-there (two .write-sector .ensures) (descriptor-is e),
+      ),
+      one .write-data .ensures .1
+          ∙ ap (λ (l : List ℕ). splice (a .changes .now) 2 (places l)) (chain-is e)
+          ∙ ap (splice (a .changes .now) 2) (places-new (a .image .now) (a .name .now) (a .bytes .now) (a .k) (a .many) (begin .pre .4) (begin .pre .3) _ chain (taken e)),
     )
 
 pub write-program-spec : {M : Type 1} → statement M
