@@ -2,8 +2,8 @@
 // none, the number of the image on standard input; then, on standard error, how many images there
 // were of each number.
 //
-// `mark_of` gives the mark that a line begins with and `put_line` makes the line, and both are proved to
-// give what `specs/` says: 0 for a sound image, 1 to 6 for its first fault. The rest reads the images
+// `input::mark_of` gives the mark that a line begins with, 0 for a sound image or 1 to 6 for its first
+// fault, and `put_line` makes the line, which is proved to be what `specs/` says. The rest reads the images
 // and writes the lines, and of that only safety is proved, since no contract can say what is read or
 // written. An image that cannot be read has `-` in the number's place and the reason on standard error,
 // and the images after it are judged all the same.
@@ -12,7 +12,7 @@ ghost use Prim.Native.Nat.{_+_, _<_};
 ghost use lib.ListN.{length};
 ghost use Rattle.rules.specs.Bytes.{splice};
 ghost use Rattle.line.specs.Laid.{Laid};
-ghost use Rattle.belt.specs.Line.{markOf, reasonOf, lineOf, bareLine};
+ghost use Rattle.belt.specs.Line.{reasonOf, lineOf, bareLine};
 use console::ground::put_ground;
 use console::options::ARGUMENT_ROOM;
 use console::options::read_options;
@@ -20,7 +20,7 @@ use console::options::usage;
 use console::tally::count;
 use console::tally::tell;
 use input::IMAGE_ROOM;
-use input::Received;
+use input::mark_of;
 use input::read_file;
 use input::read_or_tell;
 use libc::STDIN_FILENO;
@@ -28,16 +28,6 @@ use libc::STDOUT_FILENO;
 use line::put;
 use rules::Layout;
 use sector::bytes::part;
-
-// The judge's number, which has one digit, or that there was no image to judge.
-fn mark_of(layout: Layout, received: Received, buffer: &[u8]) -> u8
-    ensures { λ r. ⌜ r ≡ markOf layout received (now (buffer .entry)) ⌝ }
-{
-    match received {
-        Received::Bytes(length) => b'0' + judge::judge(layout, part(buffer, 0, length)) as u8,
-        Received::Failed => b'-',
-    }
-}
 
 // The ground in words, where it is asked for.
 fn put_reason(text: &mut [u8], at: usize, verbose: bool, mark: u8) -> usize

@@ -111,8 +111,8 @@ pub fn read_options(count: usize, argument: &mut [u8; ARGUMENT_ROOM]) -> Options
     options
 }
 
-// Writes the usage where it is asked for, or, to standard error, where an option is none of the program's. The answer is
-// whether it did: then there is nothing else to do.
+// Writes the usage where it is asked for, or, to standard error, where the command line is wrong: an option is none of the
+// program's, or an image is missing that it needs. The answer is whether it did: then there is nothing else to do.
 pub fn usage(help: bool, wrong: bool, text: &[u8]) -> bool
     ensures { λ r. ⌜ r ≡ cond help true wrong ⌝ }
 {

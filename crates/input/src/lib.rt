@@ -1,9 +1,13 @@
-// The image that a descriptor gives, read until it ends, or that a file has. Of what is read nothing can be said; that it was put at the start of
-// the buffer, and how much of it, is proved.
+// The image that a descriptor gives, read until it ends, or that a file has, and its mark. Of what is read nothing can be said; that it was put at
+// the start of the buffer, and how much of it, is proved, and that the mark is that of these bytes.
 ghost use mathlib.Core.Path.{_≡_};
 ghost use Rattle.console.specs.Name.{oneLine};
 ghost use Rattle.input.specs.Filled.{Filled};
+ghost use Rattle.input.specs.Mark.{markOf};
 use console::name::one_line;
+use judge::judge;
+use rules::Layout;
+use sector::bytes::part;
 
 // One byte more than the longest image that can be sound. An image that is too long fills the buffer and is refused for its length, whatever
 // comes after the bytes that were read.
@@ -71,4 +75,14 @@ pub fn read_file(path: &mut [u8], buffer: &mut [u8]) -> Received
     let reading = read_or_tell(descriptor, path, buffer);
     libc::close(descriptor);
     reading
+}
+
+// The judge's number, which has one digit, or that there was no image to judge.
+pub fn mark_of(layout: Layout, received: Received, buffer: &[u8]) -> u8
+    ensures { λ r. ⌜ r ≡ markOf layout received (now (buffer .entry)) ⌝ }
+{
+    match received {
+        Received::Bytes(length) => b'0' + judge(layout, part(buffer, 0, length)) as u8,
+        Received::Failed => b'-',
+    }
 }

@@ -1,4 +1,4 @@
--- `belt::mark_of` meets its contract: the judge's numbers go up to 6, so one digit has room for them. Assumes nothing.
+-- `input::mark_of` meets its contract: the judge's numbers go up to 6, so one digit has room for them. Assumes nothing.
 use mathlib.Core.Path.{_≡_, ap, _∙_}
 use mathlib.Core.List.{List}
 use Prim.Native.Nat.{ℕ, _+_}
@@ -6,10 +6,10 @@ use native.Mathlib.Omega.{arith}
 use Rattle.rules.specs.Bytes.{part}
 use Rattle.rules.specs.Verdict.{verdict}
 use Rattle.rules.proofs.Verdict.{verdict-small}
-use Rattle.belt.specs.Line.{markOf}
+use Rattle.input.specs.Mark.{markOf}
 use borrow.Author.Needs.{needs}
-use Rattle.belt.proofs.mark_of.Statement.{statement}
-use Rattle.belt.proofs.mark_of.Tie as tie
+use Rattle.input.proofs.mark_of.Statement.{statement}
+use Rattle.input.proofs.mark_of.Tie as tie
 
 -- the start of the call; what was judged, and its number
 abbrev start : tie.After-judge → tie.Start

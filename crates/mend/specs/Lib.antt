@@ -1,0 +1,3 @@
+-- The definitions that the contracts of `mend` cite.
+pub mod Mending
+pub mod Line
