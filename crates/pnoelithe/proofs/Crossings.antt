@@ -7,7 +7,7 @@ use lib.ListN.{length}
 use borrow.Author.Tests.{ne-eqb}
 use Rattle.rules.specs.Bytes.{splice}
 use Rattle.rules.specs.Sectors.{Write, sectorsIn}
-use Rattle.rules.specs.Outcome.{Report, Outcome, orderOf, listed, Bare, Gives, behind}
+use Rattle.rules.specs.Outcome.{Report, Outcome, orderOf, Bare, Gives, behind}
 use Rattle.rules.specs.declared.WrongPlace.{WrongPlace}
 use Rattle.rules.specs.declared.WrongPlace.the-variants.{At}
 use Rattle.rules.proofs.Splice.{splice-none, splice-covered}
@@ -20,8 +20,8 @@ unfolding orderOf sectorsIn
 put-there [] changes = splice-none _ _
 put-there (first ∷ more) changes = splice-covered changes 1 (0 ∷ []) _ (omega arith)
 
-listed-crosses : (outcome : Outcome) (changes none order : List ℕ) → none ≡ splice changes 1 (0 ∷ []) → order ≡ listed outcome none → order ≡ changesOf outcome changes
-listed-crosses outcome changes none order none-is order-is = order-is ∙ ap (λ (l : List ℕ). splice l 1 (orderOf (outcome .writes))) none-is ∙ put-there (outcome .writes) changes
+pub listed-crosses : (writes : List Write) (changes none order : List ℕ) → none ≡ splice changes 1 (0 ∷ []) → order ≡ splice none 1 (orderOf writes) → order ≡ splice changes 1 (length writes ∷ sectorsIn writes)
+listed-crosses writes changes none order none-is order-is = order-is ∙ ap (λ (l : List ℕ). splice l 1 (orderOf writes)) none-is ∙ put-there writes changes
 
 -- where the answer crosses as the number that it says, the call does; and what stands behind the pointers afterwards is handed on
 pub writing-crosses : {Given : Type 0} (Says : Given → ℕ → Type 0) (Behind : Type 0) (outcome : Outcome) (given : Given) (r : ℕ) (before after changes none order : List ℕ)
@@ -29,7 +29,7 @@ pub writing-crosses : {Given : Type 0} (Says : Given → ℕ → Type 0) (Behind
     → Crosses outcome r before after × (Behind × (order ≡ changesOf outcome changes))
 writing-crosses Says Behind outcome given r before after changes none order meets none-is crossing =
     let crossed = crossing (meets .0 .said) in
-    (record { returned = crossed .0; left = meets .0 .left }, (crossed .1, listed-crosses outcome changes none order none-is (meets .1)))
+    (record { returned = crossed .0; left = meets .0 .left }, (crossed .1, listed-crosses (outcome .writes) changes none order none-is (meets .1)))
 
 pub reading-crosses : {Given : Type 0} (Says : Given → Report → Type 0) (Behind : Type 0) (report : Report) (given : Given) (r : ℕ) (before after : List ℕ)
     → (Says given report → (r ≡ report .number) × Behind) → Gives Says report given before after → ReportCrosses report r before after × Behind
