@@ -1,4 +1,4 @@
--- What a call answered, and what C is given of it: the number and the bytes; and what stands behind a pointer, case by case of the answer.
+-- What a call answered, and what C is given of it: the number, the bytes and the order of its writes; and what stands behind a pointer, case by case of the answer.
 use mathlib.Core.Path.{_≡_, refl, sym, ap, _∙_}
 use mathlib.Core.List.{List, [], _∷_}
 use Prim.Native.Nat.{ℕ}

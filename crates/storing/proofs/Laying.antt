@@ -1,4 +1,4 @@
--- Bytes laid into sectors, and a chain into a new descriptor: what the writes of the data are, a sector at a time, and what the code's stores and lays amount to.
+-- Bytes laid into sectors, and a chain into a new descriptor: what the writes of the data are and how they are listed, a sector at a time, and what the code's stores and lays amount to.
 use mathlib.Core.Path.{_≡_, refl, sym, ap, _∙_}
 use mathlib.Core.List.{List, [], _∷_, _++_}
 use Prim.Native.Nat.{ℕ, zero, suc, _+_, _-_, _*_, _/_, _≤_}
