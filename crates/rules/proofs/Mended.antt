@@ -109,7 +109,7 @@ module _ (layout : Layout) (image : List ℕ) (is : Mendable layout image) where
 
   pub anew-long : length (mapAnew layout image) ≡ 256
   unfolding mapAnew
-  anew-long = splice-length (sectorOf image 0) 56 (mapOf n (holders layout image)) ∙ zero-long
+  anew-long = splice-length (sectorOf image 0) 56 _ ∙ zero-long
 
   -- the writes are whole sectors of the volume, each named once
   all-whole : (js : List ℕ) → ((i : ℕ) → 1 ≤ count i js → i < n) → (last : List Write) → Whole (length image) last → Whole (length image) (map (orderedIndex image) js ++ last)
