@@ -833,8 +833,7 @@ shown() {
         "${emulator[@]}" "$program" "${options[@]}" "$image" >"$work/listing"
         cat "$work/listing"
         while read -r name _; do
-            "${emulator[@]}" "$program" "${options[@]}" "$image" read "$name" "$work/sectors"
-            cksum <"$work/sectors"
+            "${emulator[@]}" "$program" "${options[@]}" "$image" read "$name" /dev/stdout | cksum
         done < <(tail -n +2 "$work/listing")
     done
 }
@@ -860,7 +859,6 @@ cut_at_every_write() {
         within=()
         program=$out/example
         step 0 "" "${options[@]}" "$cut" repair
-        step 0 "number 0: a sound volume" "${options[@]}" "$cut" judge
         found=$(shown "$cut")
         case $count in
         0) must_be "$before" "$found" ;;

@@ -183,7 +183,8 @@ enum pno_layout {
  *   place: the image's own numbers are given for them.
  *
  * What a call gives back
- *   Each call first judges the image (format does not) and gives back 1 to 6 where it is no sound volume.
+ *   Each call first judges the image (pno_format does not, and pno_repair passes over what it mends) and
+ *   gives back 1 to 6 where it is no sound volume.
  *   Bytes go to the front of the lent buffer, and the rest of the buffer stays as it was. A buffer may be
  *   longer than what goes into it, never shorter.
  */
@@ -315,15 +316,16 @@ uint32_t pno_listing(const uint8_t *image, size_t image_len, uint32_t layout, si
  *   where write_sector comes back when the 256 bytes are on the medium.
  *
  * What holds of a medium when that is cut short
- *   A sector write is whole or absent. No sector stands twice in order. After the first i writes of a call
- *   the medium has these sectors as they are after the call, and all others as they were before it. Then
- *   pno_repair of what the medium has, by the same layout, gives 0 and a sound volume: with the files before
- *   the call or with those after it. They are the former for i = 0, and the latter for i = writes. That holds
- *   of each of the nine calls from pno_create to pno_clear_mark, and of any i. There is one exception: with
- *   PNO_MARKS, a cut of pno_overwrite between its two writes leaves the files before the call, with the mark
- *   on that file. So a host that was stopped repairs the medium's image, writes that through, and goes on.
- *   A repair that is cut itself and begun again ends the same. pno_format and pno_pack are not covered: cut
- *   short, what they write is no volume, and they are to be done again.
+ *   A sector write is whole or absent, and no sector stands twice in order. So after the first i writes of a
+ *   call the medium has these sectors as they are after the call, and all others as they were before it.
+ *   Then pno_repair of what the medium has, by the same layout (of pno_clear_mark with PNO_MARKS), gives 0 and
+ *   a sound volume, whose catalogue, the files with all that they hold, is that before the call or that after
+ *   it: the former for i = 0, the latter for i = writes. That holds for every i, of each of the nine calls
+ *   from pno_create to pno_clear_mark. There is one exception: with PNO_MARKS, a cut of pno_overwrite between
+ *   its two writes leaves the catalogue before the call with the mark set on that file.
+ *   So a host that was stopped reads the medium, repairs the image, writes the sectors of the repair through,
+ *   and goes on. A repair that is cut itself and begun again ends the same.
+ *   pno_format and pno_pack are not covered: what is cut of them is done again from the beginning.
  */
 struct pno_changes {
     uint32_t differ;                 /* kept for a later version; this one leaves it as it stood */

@@ -4,6 +4,8 @@
 //! then be a sound volume with the files before the call or with those after it. Overwriting by the
 //! new rule has a third state between its two writes: the files before the call, and the mark.
 
+mod paper;
+
 use crate::comparison::Part;
 use crate::layout::Layout;
 use crate::outside::Outside;
@@ -73,7 +75,7 @@ impl Part for Cuts {
     }
 
     fn begin(&mut self, _: &mut Random) -> Result<(), String> {
-        Ok(())
+        paper::cases()
     }
 
     fn on_volume_of(&mut self, sectors: usize, random: &mut Random) -> Result<(), String> {
