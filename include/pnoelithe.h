@@ -444,11 +444,14 @@ uint32_t pno_clear_mark(uint8_t *image, size_t image_len, uint32_t layout, size_
  * Repairs a volume of which a call's writes were cut short: orders the numbers in every index by the names
  * that they lead to, and makes the map anew, as the holders have it. No other byte is changed: bytes 0 to 55
  * of sector 0 stay, and so do all marks. Of a sound volume no byte is. Where it is done, the image is a sound
- * volume, whatever is in the map before and in whichever order names stand.
+ * volume, whatever was in the map before and in whichever order names stood.
  *
  * It is refused where no order of the names and no map would make the image a sound volume. So it tests for 1
  * to 5 as pno_judge does, but for the order of names: with two equal names anywhere in one index it is 4, and
  * with others in any order it is not. 6 is never given. After a cut of another call it is never refused.
+ *
+ * The layout is to be that of the volume: without PNO_DIRECTORIES the map is made of what the root holds, and
+ * all that the directories have is free then.
  *
  * Writes: sector 1, with PNO_DIRECTORIES the index sectors of the entries that are there in their order,
  * sector 0; always all of them.

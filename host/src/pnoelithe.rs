@@ -718,6 +718,8 @@ pub fn clear_mark(
 /// Repairs a volume of which the writes of a call were cut short: every index in the order of names,
 /// the map as the holders have it, and nothing else. A sound volume stays as it is. It is refused
 /// where no order of names and no map would make a sound volume of the image, and never after a cut.
+/// The layout is to be that of the volume: without directories the map is made of what the root
+/// holds, and all that these have is free then.
 pub fn repair(image: &mut [u8], layout: Layout) -> Result<Changes, Refusal> {
     changed(|_, changes| unsafe {
         imported::pno_repair(image.as_mut_ptr(), image.len(), layout.bits(), changes)
