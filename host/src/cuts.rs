@@ -148,10 +148,10 @@ impl Cuts {
 
     /// The call cut at every place.
     fn cuts(&mut self, scene: &Scene, random: &mut Random) -> Result<(), String> {
-        let mut medium = scene.before.files_of.clone();
+        let mut medium = scene.before.image.clone();
         for count in 0..=scene.writes.len() {
             if let Some(sector) = count.checked_sub(1).map(|last| scene.writes[last]) {
-                write_through(&mut medium, &scene.after.files_of, sector);
+                write_through(&mut medium, &scene.after.image, sector);
             }
             self.count(scene, count, &medium);
             let cut = Cut { scene, count, medium: &medium };
@@ -178,7 +178,7 @@ impl Cuts {
             (LEFT_BEFORE, between && is_as(&scene.before)),
             (LEFT_AFTER, between && is_as(&scene.after)),
             (LEFT_MARKED, between && is_marked),
-            (NO_CHANGE, scene.before.files_of == scene.after.files_of),
+            (NO_CHANGE, scene.before.image == scene.after.image),
         ]);
     }
 }
@@ -186,14 +186,14 @@ impl Cuts {
 /// What is on a volume, by the reference and by the library's listings.
 struct State {
     /// An image that has it.
-    files_of: Vec<u8>,
+    image: Vec<u8>,
     shelf: Shelf,
     listings: Vec<Result<String, Refusal>>,
 }
 
 impl State {
     fn new(image: &[u8], shelf: Shelf, by: Layout) -> Self {
-        State { files_of: image.to_vec(), shelf, listings: listings(image, by) }
+        State { image: image.to_vec(), shelf, listings: listings(image, by) }
     }
 }
 
@@ -257,8 +257,8 @@ impl<'case> Scene<'case> {
         let mut sectors = self.writes.clone();
         sectors.sort_unstable();
         let is_twice = sectors.windows(2).any(|pair| pair[0] == pair[1]);
-        let before = self.before.files_of.chunks(SECTOR_BYTES);
-        let mut pairs = before.zip(self.after.files_of.chunks(SECTOR_BYTES)).enumerate();
+        let before = self.before.image.chunks(SECTOR_BYTES);
+        let mut pairs = before.zip(self.after.image.chunks(SECTOR_BYTES)).enumerate();
         let is_left = pairs.any(|(sector, (was, is))| was != is && !sectors.contains(&sector));
         if is_twice || is_left {
             let what = "a sector is written twice, or changed and not written";
