@@ -821,6 +821,14 @@ END
         must_be_same "$deleted" "$image"
         must_hold "$folder" disk.dsk file
     done
+    # The first sector of a store has other bytes to its end.
+    within=()
+    cp "$sample" "$work/expected-image"
+    step 0 "" "$work/expected-image" store BETA "$work/beta"
+    lay_disk "$folder"
+    within=(env FAULT="pwrite 1 short")
+    step 0 "" "$image" store BETA "$work/beta"
+    must_be_same "$work/expected-image" "$image"
     within=()
     program=$out/example
 }
