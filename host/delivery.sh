@@ -36,6 +36,7 @@ FILES_MOST 127
 LISTING_MOST 4466
 PROGRAM_MOST 32768
 LOADED_MOST 408832
+WRITES_MOST 131
 END
 }
 
@@ -91,6 +92,7 @@ int main(void) {
     SHOW(SIZE);
     SHOW(MARKS);
     SHOW(DIRECTORIES);
+    printf("changes %d\n", (int)sizeof(struct pno_changes));
 END
         sizes | sed 's/ .*/);/; s/^/    SHOW(/'
         echo '    return 0;'
@@ -101,8 +103,8 @@ END
         echo '0 done'
         texts
         printf '%s no number of this library\n' 16 17 18 19 20 4294967295
-        echo 'version 0.5.0'
-        printf '%s\n' 'KIND 14' 'NOT_PROGRAM 14' 'ARGUMENT 15' 'SIZE 15' 'MARKS 1' 'DIRECTORIES 2'
+        echo 'version 0.6.0'
+        printf '%s\n' 'KIND 14' 'NOT_PROGRAM 14' 'ARGUMENT 15' 'SIZE 15' 'MARKS 1' 'DIRECTORIES 2' 'changes 532'
         sizes
     } >"$work/expected"
     must_print "${emulator[@]}" "$work/show"
@@ -161,18 +163,20 @@ int main(void) {
     static uint8_t image[40 * PNO_SECTOR_BYTES], text[PNO_LISTING_MOST];
     const uint8_t disk[] = "OWN       ", name[] = "HELLO     ", bytes[] = {1, 2, 3, 4, 5};
     size_t length = 0, wrong = 0;
+    struct pno_changes changes;
     uint32_t number = pno_format(image, sizeof image, 40, disk, PNO_NAME_BYTES, 9, 40, 1, 1, &wrong);
     if (number == PNO_DONE)
-        number = pno_store(image, sizeof image, PNO_MARKS, 0, name, PNO_NAME_BYTES, bytes, sizeof bytes, &wrong);
+        number = pno_store(image, sizeof image, PNO_MARKS, 0, name, PNO_NAME_BYTES, bytes, sizeof bytes, &wrong,
+                           &changes);
     if (number == PNO_DONE)
         number = pno_listing(image, sizeof image, PNO_MARKS, 0, text, sizeof text, &length);
-    printf("%s: %s\n", PNO_VERSION, pno_text(number));
+    printf("%s: %s, %u sectors to write\n", PNO_VERSION, pno_text(number), (unsigned)changes.writes);
     fwrite(text, 1, length, stdout);
     return number != PNO_DONE;
 }
 END
     cat >"$work/expected" <<'END'
-0.5.0: done
+0.6.0: done, 4 sectors to write
 OWN 40 36
 HELLO PROGRAM 5 1 U M
 END
@@ -269,7 +273,7 @@ host_by_pkg_config() {
     read -r -a flags < <(pkg-config --cflags --libs pnoelithe)
     "${compiler[@]}" "${strict[@]}" "$own/host.c" "${flags[@]}" -o "$own/host"
     must_print "${emulator[@]}" "$own/host"
-    echo 0.5.0 >"$work/expected"
+    echo 0.6.0 >"$work/expected"
     must_print pkg-config --modversion pnoelithe
     echo "a host is built by pkg-config"
 }
@@ -312,9 +316,10 @@ int main() {
     const size_t directory = 0;
     uint8_t *image = volume.data();
     size_t image_len = volume.size(), name_len = PNO_NAME_BYTES, length = 0, wrong = 0;
+    pno_changes changes;
     uint32_t number = pno_format(image, image_len, 40, name, name_len, 9, 40, 1, 1, &wrong);
     if (number == PNO_DONE)
-        number = pno_store(image, image_len, layout, directory, name, name_len, bytes, v.size(), &wrong);
+        number = pno_store(image, image_len, layout, directory, name, name_len, bytes, v.size(), &wrong, &changes);
     if (number == PNO_DONE)
         number = pno_listing(image, image_len, layout, directory, text.data(), text.size(), &length);
     std::printf("%s\n", pno_text(number));

@@ -11,9 +11,16 @@
  *     ./example IMAGE store NAME FILE        FILE as a new program NAME
  *     ./example IMAGE append NAME FILE       FILE at the end of the data file NAME, which is made where
  *                                            there is none; the rest of the last sector is zero
+ *     ./example IMAGE overwrite NAME OFFSET FILE
+ *                                            FILE, of 256 bytes, in place of a sector of the data file
+ *                                            NAME; offsets count from 0
  *     ./example IMAGE delete NAME
  *     ./example IMAGE rename NAME NEW        the file NAME under the name NEW
+ *     ./example IMAGE protect NAME           the file NAME with protection
+ *     ./example IMAGE unprotect NAME         the file NAME without
  *     ./example IMAGE clear NAME             the file NAME without its backup mark
+ *     ./example IMAGE repair                 a sound volume again of what a command has left that was
+ *                                            stopped while it wrote
  *     ./example IMAGE pack FILE              the packed volume into FILE; IMAGE stays as it is
  *
  * -m in front of IMAGE goes by the rule that has backup marks: files may have one, those that are made or
@@ -21,16 +28,22 @@
  * image with a mark is no sound volume. A mark is cleared by that rule in any case.
  *
  * -d DIRECTORY in front of IMAGE, before -m or behind it, goes by the second edition, which has directories:
- * the command is on the files of one, 1 to 3 as sector 0 has them, and 0 is the root. judge and pack take the
- * whole image, whichever number is given. Without -d an image with a directory is no sound volume.
+ * the command is on the files of one, 1 to 3 as sector 0 has them, and 0 is the root. judge, repair and pack
+ * take the whole image, whichever number is given. Without -d an image with a directory is no sound volume,
+ * and repair makes one of it that has the root alone.
  *
  * Status 0: all is done. 1: a call is refused, and no file is written. 2: something cannot be read or
  * written, or the words are not those above. Standard error says why, and of a name that breaks its rule
  * which character does, counted from 1.
  *
- * A file is replaced as a whole: its bytes go to a file pnoelithe-XXXXXX beside it, which takes its name
- * when they are on the medium. Where that fails, the old file is as it was. It is so too where the program
- * is killed meanwhile; then the other file may be left.
+ * IMAGE is written in place: the sectors that a call has changed, one at a time and in the library's order,
+ * each of them on the medium before the next is written. Where the program is stopped meanwhile, or a sector
+ * cannot be written, repair by the same options leaves a sound volume with the files before the command or
+ * with those after it. append makes a call for each sector: then the file may have some of them.
+ *
+ * FILE is replaced as a whole: its bytes go to a file pnoelithe-XXXXXX beside it, which takes its name when
+ * they are on the medium. Where that fails, the old file is as it was. It is so too where the program is
+ * killed meanwhile; then the other file may be left.
  */
 #define _XOPEN_SOURCE 700 /* POSIX of 2008, and realpath */
 
@@ -50,8 +63,12 @@
 
 static uint8_t image[PNO_IMAGE_MOST + 1]; /* one byte more: an image that is too long has number 1 */
 static size_t image_len;
+static const char *image_path;
+static int medium = -1; /* the image's file, from the first sector on that is written through */
+static int is_trial;    /* calls are made to see whether one is refused, and no sector is written */
 static uint32_t layout;   /* the rules that all calls go by */
 static size_t directory; /* whose files they are on */
+static size_t offset;    /* of the sector that is overwritten */
 static uint8_t bytes[PNO_IMAGE_MOST + 1];
 
 /* A name as it is lent: with its padding; of one that is too long, a byte more than names have. */
@@ -62,6 +79,9 @@ struct name {
 
 /* With number 7: where the name is wrong, and of a rename which of its two names it is. */
 static size_t wrong, which;
+
+/* The sectors that a call has changed; none where it is refused. */
+static struct pno_changes changes;
 
 /* Ends the program where something cannot be read or written; errno says why. */
 _Noreturn static void fail(const char *verb, const char *path) {
@@ -205,6 +225,36 @@ static void write_file(const char *path, const uint8_t *buffer, size_t length) {
         fail(result < 0 ? "write" : "sync the folder of", path);
 }
 
+/* The sector is on the medium when this comes back. Gives 0, or -1 and the reason in errno. */
+static int write_sector(uint32_t sector, int *is_begun) {
+    size_t at = (size_t)sector * PNO_SECTOR_BYTES, end = at + PNO_SECTOR_BYTES;
+    while (at < end) {
+        ssize_t written = pwrite(medium, image + at, end - at, (off_t)at);
+        if (written < 0 && errno != EINTR)
+            return -1;
+        if (written > 0) {
+            at += (size_t)written;
+            *is_begun = 1;
+        }
+    }
+    return settle(medium);
+}
+
+/* Takes the number of a call that changes the image, whose sectors go to the image's file. */
+static uint32_t through(uint32_t number) {
+    static int is_begun;
+    for (uint32_t i = 0; i < changes.writes && !is_trial; i++) {
+        if (medium < 0)
+            medium = open(image_path, O_WRONLY);
+        if (medium >= 0 && write_sector(changes.order[i], &is_begun) == 0)
+            continue;
+        fprintf(stderr, "cannot write %s: %s%s\n", image_path, strerror(errno),
+                is_begun ? "; it is to be repaired" : "");
+        exit(2);
+    }
+    return number;
+}
+
 /* Prints all that there is to print. An output that is closed or full may show it only at the end. */
 static void print(const void *text, size_t length) {
     if (fwrite(text, 1, length, stdout) != length || fflush(stdout) != 0 || fclose(stdout) != 0)
@@ -264,39 +314,75 @@ static uint32_t read_sectors(const struct name *name, const char *path) {
 
 static uint32_t store(const struct name *name, const char *path) {
     size_t length = read_file(path, bytes, sizeof bytes);
-    return pno_store(image, image_len, layout, directory, name->bytes, name->len, bytes, length, &wrong);
+    return through(pno_store(image, image_len, layout, directory, name->bytes, name->len, bytes, length,
+                             &wrong, &changes));
 }
 
-/* Several calls, of which a later one may be refused: the image goes back to its file only if none is. */
-static uint32_t append(const struct name *name, const char *path) {
-    size_t length = read_file(path, bytes, sizeof bytes);
-    uint32_t number = pno_create(image, image_len, layout, directory, name->bytes, name->len, DISPLAY_FIXED,
-                                 128, 2, &wrong);
+static uint32_t append_bytes(const struct name *name, size_t length) {
+    uint32_t number = through(pno_create(image, image_len, layout, directory, name->bytes, name->len,
+                                         DISPLAY_FIXED, 128, 2, &wrong, &changes));
     if (number == PNO_PRESENT)
         number = PNO_DONE;
     for (size_t at = 0; at < length && number == PNO_DONE; at += PNO_SECTOR_BYTES) {
         uint8_t sector[PNO_SECTOR_BYTES] = {0};
         memcpy(sector, bytes + at, length - at < sizeof sector ? length - at : sizeof sector);
-        number = pno_append(image, image_len, layout, directory, name->bytes, name->len, sector,
-                            sizeof sector, &wrong);
+        number = through(pno_append(image, image_len, layout, directory, name->bytes, name->len, sector,
+                                    sizeof sector, &wrong, &changes));
     }
     return number;
 }
 
+/* Several calls, of which a later one may be refused: no sector is written unless none of them is. */
+static uint32_t append(const struct name *name, const char *path) {
+    static uint8_t before[sizeof image];
+    size_t length = read_file(path, bytes, sizeof bytes);
+    memcpy(before, image, image_len);
+    is_trial = 1;
+    uint32_t number = append_bytes(name, length);
+    is_trial = 0;
+    if (number != PNO_DONE)
+        return number;
+    memcpy(image, before, image_len);
+    return append_bytes(name, length);
+}
+
+static uint32_t overwrite(const struct name *name, const char *path) {
+    size_t length = read_file(path, bytes, sizeof bytes);
+    return through(pno_overwrite(image, image_len, layout, directory, name->bytes, name->len, offset, bytes,
+                                 length, &wrong, &changes));
+}
+
 static uint32_t delete(const struct name *name, const char *path) {
     (void)path;
-    return pno_delete(image, image_len, layout, directory, name->bytes, name->len, &wrong);
+    return through(pno_delete(image, image_len, layout, directory, name->bytes, name->len, &wrong, &changes));
 }
 
 static uint32_t rename_file(const struct name *name, const char *path) {
     struct name other = padded(path);
-    return pno_rename(image, image_len, layout, directory, name->bytes, name->len, other.bytes, other.len,
-                      &which, &wrong);
+    return through(pno_rename(image, image_len, layout, directory, name->bytes, name->len, other.bytes,
+                              other.len, &which, &wrong, &changes));
+}
+
+static uint32_t protect(const struct name *name, const char *path) {
+    (void)path;
+    return through(pno_protect(image, image_len, layout, directory, name->bytes, name->len, &wrong, &changes));
+}
+
+static uint32_t unprotect(const struct name *name, const char *path) {
+    (void)path;
+    return through(
+        pno_unprotect(image, image_len, layout, directory, name->bytes, name->len, &wrong, &changes));
 }
 
 static uint32_t clear_mark(const struct name *name, const char *path) {
     (void)path;
-    return pno_clear_mark(image, image_len, layout, directory, name->bytes, name->len, &wrong);
+    return through(
+        pno_clear_mark(image, image_len, layout, directory, name->bytes, name->len, &wrong, &changes));
+}
+
+static uint32_t repair(const struct name *name, const char *path) {
+    (void)name, (void)path;
+    return through(pno_repair(image, image_len, layout, &changes));
 }
 
 static uint32_t pack(const struct name *name, const char *path) {
@@ -309,13 +395,14 @@ static uint32_t pack(const struct name *name, const char *path) {
 
 static const struct command {
     const char *word;
-    int words;  /* of the command line without options: the first after the command as a name, the last as
-                   a path or as the new name */
-    int writes; /* the image, which then goes back to its file */
+    int words; /* of the command line without options: the first after the command as a name, of six words
+                  the second as an offset, the last as a path or as the new name */
     uint32_t (*call)(const struct name *name, const char *path);
-} commands[] = {{"judge", 3, 0, judge},   {"load", 5, 0, load},          {"read", 5, 0, read_sectors},
-                {"store", 5, 1, store},   {"pack", 4, 0, pack},          {"append", 5, 1, append},
-                {"delete", 4, 1, delete}, {"rename", 5, 1, rename_file}, {"clear", 4, 1, clear_mark}};
+} commands[] = {{"judge", 3, judge},         {"load", 5, load},          {"read", 5, read_sectors},
+                {"store", 5, store},         {"append", 5, append},      {"overwrite", 6, overwrite},
+                {"delete", 4, delete},       {"rename", 5, rename_file}, {"protect", 4, protect},
+                {"unprotect", 4, unprotect}, {"clear", 4, clear_mark},   {"repair", 3, repair},
+                {"pack", 4, pack}};
 
 /* Says where a name is wrong: the first word after the command, or of a rename the one behind it. */
 static void explain(char **words) {
@@ -329,19 +416,26 @@ static void explain(char **words) {
         fprintf(stderr, ": character %zu of the %s", wrong + 1, title);
 }
 
+/* A number in decimal digits; gives 0 where the word is none. */
+static int is_number(const char *word, size_t *number) {
+    char *end;
+    if (word[0] < '0' || word[0] > '9')
+        return 0;
+    *number = strtoul(word, &end, 10);
+    return *end == '\0';
+}
+
 /* Takes an option from the front of some words; gives how many words it has, or 0 where there is none. */
 static int option(int count, char **words) {
-    char *end;
     if (count > 0 && strcmp(words[0], "-m") == 0) {
         layout |= PNO_MARKS;
         return 1;
     }
     /* Any number will do: the library says where there is no such directory. */
-    if (count < 2 || strcmp(words[0], "-d") != 0 || words[1][0] < '0' || words[1][0] > '9')
+    if (count < 2 || strcmp(words[0], "-d") != 0 || !is_number(words[1], &directory))
         return 0;
-    directory = strtoul(words[1], &end, 10);
     layout |= PNO_DIRECTORIES;
-    return *end == '\0' ? 2 : 0;
+    return 2;
 }
 
 int main(int argc, char **argv) {
@@ -351,12 +445,15 @@ int main(int argc, char **argv) {
     for (size_t i = 0; i < sizeof commands / sizeof commands[0]; i++)
         if (argc == commands[i].words && strcmp(argv[2], commands[i].word) == 0)
             command = &commands[i];
-    if ((argc != 2 && command == NULL) || strcmp(argv[1], "-d") == 0) {
+    if ((argc != 2 && command == NULL) || strcmp(argv[1], "-d") == 0 ||
+        (argc == 6 && !is_number(argv[4], &offset))) {
         fprintf(stderr, "usage: example [-m] [-d DIRECTORY] IMAGE [judge | (load | read | store | append) "
-                        "NAME FILE | (delete | clear) NAME | rename NAME NEW | pack FILE]\n");
+                        "NAME FILE | overwrite NAME OFFSET FILE | (delete | protect | unprotect | clear) NAME "
+                        "| rename NAME NEW | repair | pack FILE]\n");
         return 2;
     }
-    image_len = read_file(argv[1], image, sizeof image);
+    image_path = argv[1];
+    image_len = read_file(image_path, image, sizeof image);
     uint32_t number;
     if (command == NULL) {
         number = list();
@@ -371,7 +468,7 @@ int main(int argc, char **argv) {
         fprintf(stderr, "\n");
         return 1;
     }
-    if (command != NULL && command->writes)
-        write_file(argv[1], image, image_len);
+    if (medium >= 0 && close(medium) != 0)
+        fail("write", image_path);
     return 0;
 }

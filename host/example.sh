@@ -1,8 +1,9 @@
 #!/usr/bin/env bash
 # Compiles the example host and runs it on an image on disk, step by step: case M's volume, which
 # document 01 makes and lists. What each step must print, and where its bytes must lie, stands here
-# as the paper has it. Then it is kept from writing in every way that can be had here. Before that
-# the header, the wrapper in Rust and what make installs are tried. From any folder:
+# as the paper has it. Then it is kept from writing in every way that can be had here, and stopped
+# between any two of its writes. Before that the header, the wrapper in Rust and what make installs
+# are tried. From any folder:
 #   host/example.sh
 # PNO_ARCHIVE names another archive than the one that is built from the repository.
 set -euo pipefail
@@ -15,9 +16,10 @@ work=$out/example-files
 disk=$work/disk.dsk
 sample=$top/crates/catalogue/stdin
 program=$out/example
+with_faults=$out/example-with-faults
 within=() # the command that runs the example, where it is not this shell
 usage="usage: example [-m] [-d DIRECTORY] IMAGE [judge | (load | read | store | append) NAME FILE | \
-(delete | clear) NAME | rename NAME NEW | pack FILE]"
+overwrite NAME OFFSET FILE | (delete | protect | unprotect | clear) NAME | rename NAME NEW | repair | pack FILE]"
 steps=0
 
 fail() {
@@ -237,6 +239,63 @@ TENLETTERS PROGRAM 300 2 U
 TEXT DIS/FIX 128 2 U" "$disk"
     step 0 "" "$disk" rename TENLETTERS ALPHA
     must_be_same "$work/before" "$disk"
+}
+
+# A sector of NOTES, the second of which is 43, is another one, and no other byte; then NOTES is protected,
+# in byte 12 of its descriptor in sector 3, and not.
+overwrite_and_protect() {
+    cp "$disk" "$work/original.dsk"
+    content 1280 | tail -c 256 >"$work/page"
+    cp "$disk" "$work/expected-image"
+    dd if="$work/page" of="$work/expected-image" bs=256 seek=43 conv=notrunc status=none
+    step 0 "" "$disk" overwrite NOTES 1 "$work/page"
+    must_be_same "$work/expected-image" "$disk"
+    put_at "$work/expected-image" $((256 * 3 + 12)) '\x88'
+    step 0 "" "$disk" protect NOTES
+    must_be_same "$work/expected-image" "$disk"
+    step 0 "" "$disk" protect NOTES
+    must_be_same "$work/expected-image" "$disk"
+    refusal "number 10: the file is protected" "$disk" overwrite NOTES 1 "$work/page"
+    put_at "$work/expected-image" $((256 * 3 + 12)) '\x80'
+    step 0 "" "$disk" unprotect NOTES
+    must_be_same "$work/expected-image" "$disk"
+    refusal "number 15: a length, an offset or a status does not fit" "$disk" overwrite NOTES 2 "$work/page"
+    refusal "number 15: a length, an offset or a status does not fit" "$disk" overwrite NOTES 1 "$work/beta"
+    refusal "number 14: the file is of another kind" "$disk" overwrite ALPHA 0 "$work/page"
+    refusal "number 8: there is no such file or directory" "$disk" protect GAMMA
+    refusal "number 7: a name breaks its rule: character 2 of the name" "$disk" unprotect A.B
+    step 2 "$usage" "$disk" overwrite NOTES one "$work/page"
+    step 2 "$usage" "$disk" overwrite NOTES 1
+    cp "$work/original.dsk" "$disk"
+}
+
+# A volume that is sound stays as it is; of another the index and the map are made anew, and nothing else.
+# ALPHA, BETA, NOTES and TEXT have their descriptors in sectors 2, 4, 3 and 5.
+repair_a_volume() {
+    local image=$work/repaired.dsk
+    cp "$disk" "$image"
+    step 0 "" "$image" repair
+    must_be_same "$disk" "$image"
+    put_at "$image" 256 '\x00\x05\x00\x03\x00\x02\x00\x04'
+    step 1 "refused, number 4: a file's descriptor breaks a rule" "$image" judge
+    step 0 "" "$image" repair
+    must_be_same "$disk" "$image"
+    put_at "$image" 56 '\x00\xff\x00\x80'
+    step 1 "refused, number 6: the map is not that of the files" "$image" judge
+    step 0 "" "$image" repair
+    must_be_same "$disk" "$image"
+    # A name that stands twice, a number out of range, a sector of two files.
+    put_at "$image" $((256 * 5)) 'BETA '
+    refusal "number 4: a file's descriptor breaks a rule" "$image" repair
+    cp "$disk" "$image"
+    put_at "$image" 256 '\x00\x40'
+    refusal "number 3: a directory is no list of files" "$image" repair
+    cp "$disk" "$image"
+    put_at "$image" $((256 * 5 + 28)) '\x25'
+    refusal "number 5: a sector has two holders" "$image" repair
+    head -c 16383 "$disk" >"$work/short.dsk"
+    refusal "number 1: the image's length is not that of a volume" "$work/short.dsk" repair
+    step 2 "$usage" "$disk" repair ALPHA
 }
 
 # Sectors 2, 34 and 35 are free again, and ALPHA's bytes still lie there.
@@ -526,24 +585,25 @@ judge_others() {
     refusal "number 10: the file is protected" "$work/mix.dsk" delete LOCKED
 }
 
-# REASON IMAGE WORD...: the image cannot be written, for this reason. All that its folder has must
+# REASON FILE IMAGE WORD...: the file cannot be written, for this reason. All that its folder has must
 # stay as it was, and nothing may come to it.
 unwritten() {
-    local reason=$1 image=$2 folder
-    folder=$(dirname "$image")
+    local reason=$1 file=$2 folder
+    folder=$(dirname "$file")
     shift 2
-    cp "$image" "$work/before"
+    cp "$file" "$work/before"
     ls -lAi --full-time "$folder" >"$work/listed"
-    step 2 "cannot write $image: $reason" "$image" "$@"
+    step 2 "cannot write $file: $reason" "$@"
     ls -lAi --full-time "$folder" | diff "$work/listed" - >&2 || fail "$folder has changed: $*"
-    must_be_same "$work/before" "$image"
+    must_be_same "$work/before" "$file"
 }
 
-# FOLDER: makes it, or empties it, and lays case M's volume there as disk.dsk.
+# FOLDER: makes it, or empties it, and lays case M's volume there as disk.dsk, and a file.
 lay_disk() {
     rm -rf "$1"
     mkdir "$1"
     cp "$sample" "$1/disk.dsk"
+    echo "what was there before" >"$1/file"
 }
 
 # What the steps from here on have to leave on case M's volume where they are not kept from it: ALPHA
@@ -560,16 +620,22 @@ NOTES DIS/VAR 80 1 U" "$deleted"
 
 # A link, the mode, a path without a folder; a new file has the mode that new files have.
 keep_link_and_mode() {
-    local folder=$work/kept mask
+    local folder=$work/kept mask inode
     mask=$(umask)
     lay_disk "$folder"
     mkdir "$folder/links"
     ln -s ../disk.dsk "$folder/links/link.dsk"
-    chmod 604 "$folder/disk.dsk"
+    ln -s ../file "$folder/links/file"
+    chmod 604 "$folder/disk.dsk" "$folder/file"
+    inode=$(stat -c %i "$folder/disk.dsk")
+    step 0 "" "$folder/links/link.dsk" load ALPHA "$folder/links/file"
+    must_be_same "$work/alpha" "$folder/file"
+    must_be ../file "$(readlink "$folder/links/file")"
+    must_be 604 "$(stat -c %a "$folder/file")"
     step 0 "" "$folder/links/link.dsk" delete ALPHA
     must_be_same "$deleted" "$folder/disk.dsk"
     must_be ../disk.dsk "$(readlink "$folder/links/link.dsk")"
-    must_be 604 "$(stat -c %a "$folder/disk.dsk")"
+    must_be "604 $inode" "$(stat -c '%a %i' "$folder/disk.dsk")"
     cp "$sample" "$folder/disk.dsk"
     within=(env -C "$folder")
     step 0 "" disk.dsk delete ALPHA
@@ -579,8 +645,8 @@ keep_link_and_mode() {
     umask "$mask"
     within=()
     must_be 640 "$(stat -c %a "$folder/packed.dsk")"
-    must_hold "$folder" disk.dsk links packed.dsk
-    must_hold "$folder/links" link.dsk
+    must_hold "$folder" disk.dsk file links packed.dsk
+    must_hold "$folder/links" file link.dsk
 }
 
 # What is neither a file nor a place for one.
@@ -600,7 +666,7 @@ write_elsewhere() {
     step 2 "cannot read $folder/none: No such file or directory" "$folder/none"
     step 2 "cannot read $folder: Is a directory" "$image" store NEW "$folder"
     [ -p "$folder/pipe" ] || fail "a pipe is replaced"
-    must_hold "$folder" disk.dsk link pipe
+    must_hold "$folder" disk.dsk file link pipe
     must_be_same "$sample" "$image"
 }
 
@@ -620,39 +686,59 @@ closed_output() {
     within=()
 }
 
-# No file may have more than 8,192 bytes, half of the image; the signal for that is ignored.
+# No file may have more than 8,192 bytes, half of the image; the signal for that is ignored. The sectors of
+# programs lie behind that, and those that a delete writes do not.
 limited_file() {
-    lay_disk "$work/limited"
+    local folder=$work/limited
+    lay_disk "$folder"
     within=(bash -c 'trap "" XFSZ && ulimit -f 8 && exec "$@"' bash)
-    unwritten "File too large" "$work/limited/disk.dsk" delete ALPHA
+    unwritten "File too large" "$folder/disk.dsk" "$folder/disk.dsk" store BETA "$work/beta"
+    unwritten "File too large" "$folder/file" "$folder/disk.dsk" pack "$folder/file"
+    step 0 "" "$folder/disk.dsk" delete ALPHA
     within=()
+    must_be_same "$deleted" "$folder/disk.dsk"
 }
 
-# The same signal, number 25, kills in the middle of writing.
+# The same signal, number 25, kills in the middle of writing. A file that is to be replaced is as it was. Of
+# the image the sectors are written that come before: BETA's are 37 to 40, and no file may reach sector 40.
 killed() {
-    lay_disk "$work/killed"
+    local folder=$work/killed
+    lay_disk "$folder"
+    cp "$folder/file" "$work/before"
     within=(bash -c 'exec 2>/dev/null && ulimit -c 0 && ulimit -f 8 && "$@"; exit $?' bash)
-    step $((128 + 25)) "" "$work/killed/disk.dsk" delete ALPHA
+    step $((128 + 25)) "" "$folder/disk.dsk" pack "$folder/file"
+    must_be_same "$work/before" "$folder/file"
+    must_be 8192 "$(stat -c %s "$folder"/pnoelithe-??????)"
+    within=(bash -c 'exec 2>/dev/null && ulimit -c 0 && ulimit -f 10 && "$@"; exit $?' bash)
+    step $((128 + 25)) "" "$folder/disk.dsk" store BETA "$work/beta"
     within=()
-    must_be_same "$sample" "$work/killed/disk.dsk"
-    must_be 8192 "$(stat -c %s "$work"/killed/pnoelithe-??????)"
+    cp "$sample" "$work/expected-image"
+    dd if="$work/beta" of="$work/expected-image" bs=256 seek=37 count=3 conv=notrunc status=none
+    must_be_same "$work/expected-image" "$folder/disk.dsk"
+    step 0 "" "$folder/disk.dsk" repair
+    must_be_same "$work/expected-image" "$folder/disk.dsk"
 }
 
-# Calls to the system that fail, by their place among the calls of that name: the first fsync is the
-# file's, the second one its folder's.
-faulty_calls() {
-    local folder=$work/faulty fault reason image call wraps=()
-    image=$folder/disk.dsk
-    program=$out/example-with-faults
-    for call in write fchmod fsync close rename; do
+compile_with_faults() {
+    local call wraps=()
+    for call in write pwrite fchmod fsync close rename; do
         wraps+=("-Wl,--wrap=$call")
     done
     "${compiler[@]}" -std=c11 "${strict[@]}" -I"$top/include" "$host/example.c" "$host/faults.c" \
-        "$archive" "${wraps[@]}" -o "$program"
+        "$archive" "${wraps[@]}" -o "$with_faults"
+}
+
+# Calls to the system that fail while a file is replaced, by their place among the calls of that name: the
+# first fsync is the file's, the second one its folder's.
+faulty_files() {
+    local folder=$work/faulty fault reason image file
+    image=$folder/disk.dsk
+    file=$folder/file
+    program=$with_faults
     lay_disk "$folder"
     while IFS=: read -r fault reason; do
         within=(env FAULT="$fault")
-        unwritten "$reason" "$image" delete ALPHA
+        unwritten "$reason" "$file" "$image" pack "$file"
     done <<'END'
 fchmod 1 1:Operation not permitted
 write 1 28:No space left on device
@@ -660,36 +746,203 @@ fsync 1 122:Disk quota exceeded
 close 1 5:Input/output error
 rename 1 16:Device or resource busy
 END
+    cp "$file" "$work/before"
     for fault in "write 1 end" "fsync 1 end" "close 1 end" "rename 1 end"; do
         within=(env FAULT="$fault")
-        step 99 "" "$image" delete ALPHA
-        must_be_same "$sample" "$image"
+        step 99 "" "$image" pack "$file"
+        must_be_same "$work/before" "$file"
         rm "$folder"/pnoelithe-??????
     done
+    within=()
+    step 0 "" "$image" pack "$work/packed.dsk"
     # Error 4 is that of a call that was interrupted, 22 that of a folder which knows no fsync.
     for fault in "write 1 short" "write 1 4" "fsync 2 22" "fsync 2 end" "fsync 2 5"; do
         lay_disk "$folder"
         within=(env FAULT="$fault")
         case $fault in
-        *end) step 99 "" "$image" delete ALPHA ;;
-        *5) step 2 "cannot sync the folder of $image: Input/output error" "$image" delete ALPHA ;;
-        *) step 0 "" "$image" delete ALPHA ;;
+        *end) step 99 "" "$image" pack "$file" ;;
+        *5) step 2 "cannot sync the folder of $file: Input/output error" "$image" pack "$file" ;;
+        *) step 0 "" "$image" pack "$file" ;;
         esac
-        must_be_same "$deleted" "$image"
-        must_hold "$folder" disk.dsk
+        must_be_same "$work/packed.dsk" "$file"
+        must_hold "$folder" disk.dsk file
     done
     # Error 1: the file system gives its own modes to new files.
     lay_disk "$folder"
     within=(env FAULT="fchmod 1 1")
     step 0 "" "$image" load ALPHA "$folder/alpha"
     must_be_same "$work/alpha" "$folder/alpha"
+    must_be_same "$sample" "$image"
     within=()
     program=$out/example
 }
 
+# The same while sectors of an image are written. A delete writes sector 1, then sector 0: after the first of
+# them the map still has what ALPHA had, until it is repaired.
+faulty_sectors() {
+    local folder=$work/faulty fault reason image
+    image=$folder/disk.dsk
+    program=$with_faults
+    lay_disk "$folder"
+    while IFS=: read -r fault reason; do
+        within=(env FAULT="$fault")
+        unwritten "$reason" "$image" "$image" delete ALPHA
+    done <<'END'
+pwrite 1 28:No space left on device
+pwrite 1 5:Input/output error
+END
+    cp "$deleted" "$work/expected-image"
+    put_at "$work/expected-image" 56 '\x0f'
+    put_at "$work/expected-image" 60 '\x1c'
+    while IFS=: read -r fault reason; do
+        lay_disk "$folder"
+        within=(env FAULT="$fault")
+        step 2 "cannot write $image: $reason; it is to be repaired" "$image" delete ALPHA
+        within=()
+        must_be_same "$work/expected-image" "$image"
+        refusal "number 6: the map is not that of the files" "$image" judge
+        step 0 "" "$image" repair
+        must_be_same "$deleted" "$image"
+    done <<'END'
+pwrite 2 28:No space left on device
+fsync 1 5:Input/output error
+END
+    # Half of a sector is written, and the rest then; error 4 is that of a call that was interrupted, 22 that
+    # of a file which knows no fsync.
+    for fault in "pwrite 1 short" "pwrite 2 short" "pwrite 1 4" "pwrite 2 4" "fsync 1 22" "fsync 2 22" \
+        "fsync 2 5" "close 1 5"; do
+        lay_disk "$folder"
+        within=(env FAULT="$fault")
+        case $fault in
+        fsync*" 5") step 2 "cannot write $image: Input/output error; it is to be repaired" "$image" delete ALPHA ;;
+        close*) step 2 "cannot write $image: Input/output error" "$image" delete ALPHA ;;
+        *) step 0 "" "$image" delete ALPHA ;;
+        esac
+        must_be_same "$deleted" "$image"
+        must_hold "$folder" disk.dsk file
+    done
+    # The first sector of a store has other bytes to its end.
+    within=()
+    cp "$sample" "$work/expected-image"
+    step 0 "" "$work/expected-image" store BETA "$work/beta"
+    lay_disk "$folder"
+    within=(env FAULT="pwrite 1 short")
+    step 0 "" "$image" store BETA "$work/beta"
+    must_be_same "$work/expected-image" "$image"
+    within=()
+    program=$out/example
+}
+
+# IMAGE: what is on it by $options, directory by directory: the listing, and a sum of each file's sectors.
+shown() {
+    local image=$1 number name
+    for number in "${directories[@]}"; do
+        options[-1]=$number
+        "${emulator[@]}" "$program" "${options[@]}" "$image" >"$work/listing"
+        cat "$work/listing"
+        while read -r name _; do
+            "${emulator[@]}" "$program" "${options[@]}" "$image" read "$name" /dev/stdout | cksum
+        done < <(tail -n +2 "$work/listing")
+    done
+}
+
+# WRITES IMAGE DIRECTORY WORD...: a command that makes so many writes, by $marks, is ended before each of them
+# and after the last. Repaired, the image must be sound, and hold what it did before the command or what
+# it holds after it: the former where nothing was written, the latter where all was. With $between set, what it
+# holds after the first write.
+cut_at_every_write() {
+    local writes=$1 image=$2 directory=$3 before after found count cut=$work/cut.dsk
+    local options=("${marks[@]}" -d "$directory")
+    shift 3
+    cp "$image" "$work/whole.dsk"
+    step 0 "" "${options[@]}" "$work/whole.dsk" "$@"
+    before=$(shown "$image")
+    after=$(shown "$work/whole.dsk")
+    for ((count = 0; count <= writes; count++)); do
+        cp "$image" "$cut"
+        program=$with_faults
+        within=(env FAULT="pwrite $((count + 1)) end")
+        options[-1]=$directory
+        step $((count < writes ? 99 : 0)) "" "${options[@]}" "$cut" "$@"
+        within=()
+        program=$out/example
+        step 0 "" "${options[@]}" "$cut" repair
+        found=$(shown "$cut")
+        case $count in
+        0) must_be "$before" "$found" ;;
+        "$writes") must_be "$after" "$found" && must_be_same "$work/whole.dsk" "$cut" ;;
+        1) [ "$found" = "${between:-$before}" ] || must_be "$after" "$found" ;;
+        *) [ "$found" = "$before" ] || must_be "$after" "$found" ;;
+        esac
+    done
+}
+
+# WRITES IMAGE: a repair of an image that is not sound, ended before each of its writes and begun again, by
+# $marks.
+cut_a_repair() {
+    local writes=$1 image=$2 count cut=$work/cut.dsk
+    cp "$image" "$work/whole.dsk"
+    step 0 "" "${marks[@]}" -d 0 "$work/whole.dsk" repair
+    for ((count = 0; count <= writes; count++)); do
+        cp "$image" "$cut"
+        program=$with_faults
+        within=(env FAULT="pwrite $((count + 1)) end")
+        step $((count < writes ? 99 : 0)) "" "${marks[@]}" -d 0 "$cut" repair
+        within=()
+        program=$out/example
+        step 0 "" "${marks[@]}" -d 0 "$cut" repair
+        must_be_same "$work/whole.dsk" "$cut"
+    done
+}
+
+# Each call, in the root without marks and in a directory with them, on the volume with two directories:
+# ALPHA and NOTES are in the root, ALPHA and LETTER in the first directory, and the third has WORDS.
+cut_every_call() {
+    local image=$work/cuts.dsk marks=() directories=(0 1 3) between=
+    cp "$sample" "$image"
+    put_directories "$image"
+    step 0 "" -d 1 "$image" store ALPHA "$work/hundred"
+    step 0 "" -d 1 "$image" append LETTER "$work/text"
+    step 0 "" -d 3 "$image" append WORDS "$work/note"
+    cut_calls_on 0 NOTES
+    cut_at_every_write 1 "$image" 0 overwrite NOTES 0 "$work/page"
+    marks=(-m)
+    cut_calls_on 1 LETTER
+    cut_overwriting
+    put_at "$image" 256 '\x00\x03\x00\x02'
+    put_at "$image" $((256 * 4)) '\x00\x07\x00\x05'
+    put_at "$image" 56 '\x00'
+    step 1 "refused, number 4: a file's descriptor breaks a rule" -d 0 "$image" judge
+    cut_a_repair 4 "$image"
+}
+
+# DIRECTORY NAME: the calls but for overwriting, on ALPHA and on another file of a directory.
+cut_calls_on() {
+    cut_at_every_write 7 "$image" "$1" store BETA "$work/beta"
+    cut_at_every_write 3 "$image" "$1" store BETA "$work/none"
+    cut_at_every_write 3 "$image" "$1" append MORE "$work/none"
+    cut_at_every_write 3 "$image" "$1" append "$2" "$work/note"
+    cut_at_every_write 2 "$image" "$1" delete ALPHA
+    cut_at_every_write 2 "$image" "$1" rename ALPHA ZETA
+    cut_at_every_write 2 "$image" "$1" rename ALPHA ALPHABET
+    cut_at_every_write 1 "$image" "$1" protect "$2"
+    cut_at_every_write 1 "$image" "$1" unprotect "$2"
+    cut_at_every_write 1 "$image" "$1" clear "$2"
+}
+
+# With marks there are two writes, and between them the file has its old bytes and the mark.
+cut_overwriting() {
+    cp "$image" "$work/marked.dsk"
+    put_at "$work/marked.dsk" $((256 * 3 + 12)) '\x90'
+    local options=(-m -d 0)
+    between=$(shown "$work/marked.dsk")
+    cut_at_every_write 2 "$image" 0 overwrite NOTES 0 "$work/page"
+    cut_at_every_write 2 "$work/marked.dsk" 0 overwrite NOTES 0 "$work/page"
+}
+
 # As a user who may not write everywhere, in a folder that every user reaches.
 forbidden_places() {
-    local other=65534 folder image
+    local other=65534 folder image file
     if [ "$(id -u)" -ne 0 ]; then
         other=$(id -u)
     else
@@ -708,32 +961,44 @@ forbidden_places() {
     folder=$open/folder
     image=$folder/disk.dsk
     lay_disk "$folder"
-    chmod 666 "$image"
+    file=$folder/file
+    chmod 666 "$image" "$file"
     chmod 555 "$folder"
-    unwritten "Permission denied" "$image" delete ALPHA
+    unwritten "Permission denied" "$file" "$image" load ALPHA "$file"
     step 2 "cannot write $folder/new: Permission denied" "$image" load ALPHA "$folder/new"
+    # The image is written in place, which its folder has no part in.
+    step 0 "" "$image" delete ALPHA
+    must_be_same "$deleted" "$image"
+    must_be "666 $(id -u)" "$(stat -c '%a %u' "$image")"
+    cp "$sample" "$image"
     chmod 777 "$folder"
-    chmod 444 "$image"
-    unwritten "Permission denied" "$image" delete ALPHA
+    chmod 444 "$image" "$file"
+    unwritten "Permission denied" "$image" "$image" delete ALPHA
+    unwritten "Permission denied" "$file" "$image" load ALPHA "$file"
     if [ ${#within[@]} -gt 0 ]; then
         # The owner of the new file could not be that of the old one.
-        chmod 666 "$image"
-        unwritten "Operation not permitted" "$image" delete ALPHA
+        chmod 666 "$file"
+        unwritten "Operation not permitted" "$file" "$image" load ALPHA "$file"
         chmod 600 "$image"
         step 2 "cannot read $image: Permission denied" "$image"
-        chown "$other:$other" "$image"
+        chown "$other:$other" "$image" "$file"
         within=()
     else
         chmod 600 "$image"
     fi
+    chmod 600 "$file"
+    step 0 "" "$image" load ALPHA "$file"
+    must_be_same "$work/alpha" "$file"
+    must_be "600 $other" "$(stat -c '%a %u' "$file")"
     step 0 "" "$image" delete ALPHA
     must_be_same "$deleted" "$image"
     must_be "600 $other" "$(stat -c '%a %u' "$image")"
     program=$out/example
 }
 
-# A disk on which the image has room once, and not twice; then one that may only be read. They are
-# mounted in a namespace of their own, in which this script is run again.
+# A disk on which the image has room once, and not twice: that is enough to change it, and not to pack it
+# there; then one that may only be read. They are mounted in a namespace of their own, in which this script
+# is run again.
 small_disk() {
     local small=$work/small private more
     mkdir "$small"
@@ -750,11 +1015,13 @@ on_small_disk() {
     local small=$work/small
     mount -t tmpfs -o size=28k none "$small"
     cp "$sample" "$small/disk.dsk"
-    unwritten "No space left on device" "$small/disk.dsk" delete ALPHA
     step 2 "cannot write $small/new.dsk: No space left on device" "$disk" pack "$small/new.dsk"
     must_hold "$small" disk.dsk
+    step 0 "" "$small/disk.dsk" delete ALPHA
+    must_be_same "$work/deleted.dsk" "$small/disk.dsk"
+    unwritten "No space left on device" "$small/disk.dsk" "$disk" pack "$small/disk.dsk"
     mount -o remount,bind,ro "$small"
-    unwritten "Read-only file system" "$small/disk.dsk" delete ALPHA
+    unwritten "Read-only file system" "$small/disk.dsk" "$small/disk.dsk" delete NOTES
     echo "$steps"
 }
 
@@ -787,6 +1054,8 @@ append_to_files
 be_refused
 say_where_a_name_is_wrong
 rename_a_file
+overwrite_and_protect
+repair_a_volume
 delete_a_file
 pack_twice
 keep_marks
@@ -803,7 +1072,10 @@ if [ ${#emulator[@]} -eq 0 ]; then
 else
     echo "a closed output and a kill by a signal are not tried: an emulator has its own of both"
 fi
-faulty_calls
+compile_with_faults
+faulty_files
+faulty_sectors
+cut_every_call
 forbidden_places
 small_disk
 echo "the example host: $steps steps as expected"

@@ -13,12 +13,14 @@
 #include <unistd.h>
 
 ssize_t __real_write(int file, const void *bytes, size_t length);
+ssize_t __real_pwrite(int file, const void *bytes, size_t length, off_t at);
 int __real_fchmod(int file, mode_t mode);
 int __real_fsync(int file);
 int __real_close(int file);
 int __real_rename(const char *from, const char *to);
 
 ssize_t __wrap_write(int file, const void *bytes, size_t length);
+ssize_t __wrap_pwrite(int file, const void *bytes, size_t length, off_t at);
 int __wrap_fchmod(int file, mode_t mode);
 int __wrap_fsync(int file);
 int __wrap_close(int file);
@@ -46,6 +48,12 @@ ssize_t __wrap_write(int file, const void *bytes, size_t length) {
     static unsigned times;
     int found = fault("write", &times);
     return found < 0 ? -1 : __real_write(file, bytes, found == 0 ? length : length / 2);
+}
+
+ssize_t __wrap_pwrite(int file, const void *bytes, size_t length, off_t at) {
+    static unsigned times;
+    int found = fault("pwrite", &times);
+    return found < 0 ? -1 : __real_pwrite(file, bytes, found == 0 ? length : length / 2, at);
 }
 
 int __wrap_fchmod(int file, mode_t mode) {

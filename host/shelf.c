@@ -16,7 +16,8 @@
 
 static uint8_t image[PNO_IMAGE_MOST];
 static uint8_t program[PROGRAM_BYTES];
-static size_t wrong; /* where a name is; the names here are not */
+static size_t wrong;               /* where a name is; the names here are not */
+static struct pno_changes changes; /* the images are written as a whole */
 
 static void done(uint32_t number) {
     if (number != PNO_DONE) {
@@ -27,7 +28,7 @@ static void done(uint32_t number) {
 
 static void store(size_t length, const char *name) {
     done(pno_store(image, length, 0, 0, (const uint8_t *)name, PNO_NAME_BYTES, program, sizeof program,
-                   &wrong));
+                   &wrong, &changes));
 }
 
 /* A volume with one program, which begins with this number; moved, it has the sectors of a second one. */
@@ -41,7 +42,8 @@ static void make(size_t sectors, unsigned long number, int moved) {
         program[i] = (uint8_t)(i < 4 ? number >> (8 * i) : i);
     store(length, "PROGRAM   ");
     if (moved)
-        done(pno_delete(image, length, 0, 0, (const uint8_t *)"GONE      ", PNO_NAME_BYTES, &wrong));
+        done(pno_delete(image, length, 0, 0, (const uint8_t *)"GONE      ", PNO_NAME_BYTES, &wrong,
+                        &changes));
 }
 
 int main(int argc, char **argv) {

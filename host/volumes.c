@@ -55,6 +55,7 @@ struct file {
 };
 
 static uint8_t image[PNO_IMAGE_MOST];
+static uint8_t medium[PNO_IMAGE_MOST]; /* formatted as a whole, and from then on written sector by sector */
 static size_t image_len;
 static uint32_t layout;
 static struct file files[MOST_FILES];
@@ -62,6 +63,7 @@ static size_t file_count;
 static size_t free_sectors;
 static uint64_t state;
 static size_t which, wrong; /* what is wrong with a name; the names here keep the rule */
+static struct pno_changes changes;
 
 static void fail(const char *what) {
     fprintf(stderr, "volumes: %s\n", what);
@@ -98,6 +100,10 @@ static struct file *find(const uint8_t name[10]) {
 static int is_done(uint32_t number, uint32_t expected) {
     if (number != expected && !(expected == PNO_DONE && number == PNO_CHAIN_FULL))
         fail("a call gives an unexpected number");
+    for (uint32_t i = 0; i < changes.writes; i++) {
+        size_t at = SECTOR * changes.order[i];
+        memcpy(medium + at, image + at, SECTOR);
+    }
     return number == PNO_DONE;
 }
 
@@ -137,7 +143,8 @@ static void store_length(size_t length) {
     any_name(name);
     fill(bytes, length);
     uint32_t expected = find(name) ? PNO_PRESENT : free_sectors < sectors + 1 ? PNO_DISK_FULL : PNO_DONE;
-    if (is_done(pno_store(image, image_len, layout, ROOT, name, 10, bytes, length, &wrong), expected)) {
+    if (is_done(pno_store(image, image_len, layout, ROOT, name, 10, bytes, length, &wrong, &changes),
+                expected)) {
         struct file *file = add(name, PROGRAM);
         file->header[16] = (uint8_t)(length % SECTOR);
         free_sectors -= 1;
@@ -163,7 +170,8 @@ static void create(void) {
     uint8_t records = status & 0x80 ? 255 / length : 256 / length;
     any_name(name);
     uint32_t expected = find(name) ? PNO_PRESENT : free_sectors < 1 ? PNO_DISK_FULL : PNO_DONE;
-    if (is_done(pno_create(image, image_len, layout, ROOT, name, 10, status, length, records, &wrong),
+    if (is_done(pno_create(image, image_len, layout, ROOT, name, 10, status, length, records, &wrong,
+                           &changes),
                 expected)) {
         struct file *file = add(name, status);
         file->header[13] = records;
@@ -184,7 +192,7 @@ static void append(struct file *file) {
     fill(data, SECTOR);
     if (expected == PNO_DONE && free_sectors < 1)
         expected = PNO_DISK_FULL;
-    if (is_done(pno_append(image, image_len, layout, ROOT, file->header, 10, data, SECTOR, &wrong),
+    if (is_done(pno_append(image, image_len, layout, ROOT, file->header, 10, data, SECTOR, &wrong, &changes),
                 expected)) {
         grow(file, data, SECTOR, 1);
         mark(file);
@@ -198,7 +206,8 @@ static void overwrite(struct file *file) {
     fill(data, SECTOR);
     if (expected == PNO_DONE && offset >= file->sectors)
         expected = PNO_ARGUMENT;
-    if (is_done(pno_overwrite(image, image_len, layout, ROOT, file->header, 10, offset, data, SECTOR, &wrong),
+    if (is_done(pno_overwrite(image, image_len, layout, ROOT, file->header, 10, offset, data, SECTOR, &wrong,
+                              &changes),
                 expected)) {
         memcpy(file->bytes + offset * SECTOR, data, SECTOR);
         mark(file);
@@ -207,7 +216,7 @@ static void overwrite(struct file *file) {
 
 static void delete(struct file *file) {
     uint32_t expected = file->header[12] & PROTECTED ? PNO_PROTECTED : PNO_DONE;
-    if (is_done(pno_delete(image, image_len, layout, ROOT, file->header, 10, &wrong), expected)) {
+    if (is_done(pno_delete(image, image_len, layout, ROOT, file->header, 10, &wrong, &changes), expected)) {
         free_sectors += 1 + file->sectors;
         free(file->bytes);
         *file = files[--file_count];
@@ -218,7 +227,8 @@ static void rename_file(struct file *file) {
     uint8_t name[10];
     any_name(name);
     uint32_t expected = find(name) ? PNO_PRESENT : file->header[12] & PROTECTED ? PNO_PROTECTED : PNO_DONE;
-    if (is_done(pno_rename(image, image_len, layout, ROOT, file->header, 10, name, 10, &which, &wrong),
+    if (is_done(pno_rename(image, image_len, layout, ROOT, file->header, 10, name, 10, &which, &wrong,
+                           &changes),
                 expected)) {
         memcpy(file->header, name, 10);
         mark(file);
@@ -226,17 +236,17 @@ static void rename_file(struct file *file) {
 }
 
 static void protect(struct file *file) {
-    if (is_done(pno_protect(image, image_len, layout, ROOT, file->header, 10, &wrong), PNO_DONE))
+    if (is_done(pno_protect(image, image_len, layout, ROOT, file->header, 10, &wrong, &changes), PNO_DONE))
         file->header[12] |= PROTECTED;
 }
 
 static void unprotect(struct file *file) {
-    if (is_done(pno_unprotect(image, image_len, layout, ROOT, file->header, 10, &wrong), PNO_DONE))
+    if (is_done(pno_unprotect(image, image_len, layout, ROOT, file->header, 10, &wrong, &changes), PNO_DONE))
         file->header[12] &= (uint8_t)~PROTECTED;
 }
 
 static void clear_mark(struct file *file) {
-    if (is_done(pno_clear_mark(image, image_len, layout, ROOT, file->header, 10, &wrong), PNO_DONE))
+    if (is_done(pno_clear_mark(image, image_len, layout, ROOT, file->header, 10, &wrong, &changes), PNO_DONE))
         file->header[12] &= (uint8_t)~MARKED;
 }
 
@@ -258,9 +268,11 @@ static void format(const struct geometry *of) {
     layout = of->layout;
     file_count = 0;
     free_sectors = n - 2;
+    changes.writes = 0;
     is_done(pno_format(image, image_len, n, (const uint8_t *)"WRITTEN   ", 10, of->sectors_per_track,
                        of->tracks, of->sides, of->density, &wrong),
             PNO_DONE);
+    memcpy(medium, image, image_len);
 }
 
 static FILE *create_file(const char *folder, const char *title, const char *ending) {
@@ -317,8 +329,10 @@ static int by_name(const void *one, const void *other) {
 
 static void write_volume(const char *folder, const char *title) {
     FILE *volume = create_file(folder, title, ".dsk");
-    fwrite(image, 1, image_len, volume);
+    fwrite(medium, 1, image_len, volume);
     close_file(volume);
+    if (memcmp(medium, image, image_len) != 0)
+        fail("a sector is changed and not written");
     FILE *rows = create_file(folder, title, ".dir"), *marks = create_file(folder, title, ".marks");
     qsort(files, file_count, sizeof files[0], by_name);
     for (size_t i = 0; i < file_count; i++) {

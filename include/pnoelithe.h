@@ -15,13 +15,16 @@
  *   - No pointer is null. For an empty buffer lend the address of any byte, and length 0. In C++ the data()
  *     of an empty std::vector may be null:
  *         const uint8_t none = 0, *bytes = v.empty() ? &none : v.data();
- *         pno_store(image, image_len, layout, directory, name, name_len, bytes, v.size(), &wrong);
+ *         pno_store(image, image_len, layout, directory, name, name_len, bytes, v.size(), &wrong, &changes);
  *   - What a call writes, the image among it, overlaps nothing else that is lent to it: no buffer, and
  *     nothing behind another pointer.
  *   - Counts, places and offsets are size_t. A value goes back through a pointer (size_t *, a name's ten
  *     bytes), which is not null either, also where the host has no use for that value.
+ *   - Every call that changes an image, but for pno_format and pno_pack, has changes as its last argument:
+ *     which sectors are to be written through, and in which order; see What a call changes.
  *   - The result is one of the numbers below. With any number but 0 the call has written nothing: no byte of
- *     a buffer, and behind pointers only, with 7, where a name is wrong (wrong and which, see Names).
+ *     a buffer, and behind pointers only, with 7, where a name is wrong (wrong and which, see Names), and the
+ *     0 that says that no sector is to be written (changes).
  *   - Threads: the library has no state, so calls on different images may be made on any threads at the same
  *     time. Of one image there may be several readers at a time, or one writer and no reader beside it.
  *   - Stack is what a call takes of it at most, in the archive as it is built: all below the call's
@@ -40,7 +43,7 @@ extern "C" {
 
 /* The version. While the major number is 0, the interface may change with each minor one. */
 #define PNO_VERSION_MAJOR 0
-#define PNO_VERSION_MINOR 5
+#define PNO_VERSION_MINOR 6
 #define PNO_VERSION_PATCH 0
 #define PNO_QUOTED(word) #word
 #define PNO_DOTTED(major, minor, patch) PNO_QUOTED(major) "." PNO_QUOTED(minor) "." PNO_QUOTED(patch)
@@ -56,6 +59,7 @@ extern "C" {
 #define PNO_LISTING_MOST 4466  /* the most bytes of a listing, by any layout: room for every one */
 #define PNO_PROGRAM_MOST 32768 /* the most bytes that a store takes */
 #define PNO_LOADED_MOST 408832 /* the most bytes that a load gives: 1,597 full sectors */
+#define PNO_WRITES_MOST 131    /* the most sectors that a call writes: 128 of data and three */
 
 /* The numbers a call gives back. Where several are due, the first in this order is given. */
 enum pno_number {
@@ -179,7 +183,8 @@ enum pno_layout {
  *   place: the image's own numbers are given for them.
  *
  * What a call gives back
- *   Each call first judges the image (format does not) and gives back 1 to 6 where it is no sound volume.
+ *   Each call first judges the image (pno_format does not, and pno_repair passes over what it mends) and
+ *   gives back 1 to 6 where it is no sound volume.
  *   Bytes go to the front of the lent buffer, and the rest of the buffer stays as it was. A buffer may be
  *   longer than what goes into it, never shorter.
  */
@@ -289,15 +294,44 @@ uint32_t pno_listing(const uint8_t *image, size_t image_len, uint32_t layout, si
 
 /*
  * Calls that write
- *   Each judges the image first and gives back 1 to 6 where it is no sound volume. Then it tests what is
- *   named under it, in the order in which it is named, and gives back the first number that is due. With any
- *   number but 0 no byte of the image is changed; with 0 the bytes that are named are, no other, and the
- *   image is a sound volume again. Names and data are read and never changed.
+ *   Each judges the image first and gives back 1 to 6 where it is no sound volume; pno_repair is told apart.
+ *   Then it tests what is named under it, in the order in which it is named, and gives back the first number
+ *   that is due. With any number but 0 no byte of the image is changed; with 0 the bytes that are named are,
+ *   no other, and the image is a sound volume again. Names and data are read and never changed.
  *
  * Where things go
  *   A new descriptor goes to the lowest free sector. Data goes to the lowest free sector from 34 on and,
  *   when none is left there, to the lowest free one; several are taken one after another by this rule.
+ *
+ * What a call changes
+ *   With number 0 a call has changed whole sectors of the image, and says which: writes is how many, and the
+ *   first writes of order are their numbers, in the order in which a host is to write them through to the
+ *   medium that the image is of. What a sector is to hold stands in the image after the call. Each call has
+ *   its order, which stands under it; index is there the index sector of the directory that is named, so of
+ *   the root sector 1. A sector is listed also where its bytes are as they were, as of a file that is
+ *   protected once more. With any number but 0, writes is 0. What stands in order behind the first writes of
+ *   it stays as it was. So, after a call that is done,
+ *       for (uint32_t i = 0; i < changes.writes; i++)
+ *           write_sector(changes.order[i], image + PNO_SECTOR_BYTES * changes.order[i]);
+ *   where write_sector comes back when the 256 bytes are on the medium.
+ *
+ * What holds of a medium when that is cut short
+ *   A sector write is whole or absent, and no sector stands twice in order. So after the first i writes of a
+ *   call the medium has these sectors as they are after the call, and all others as they were before it.
+ *   Then pno_repair of what the medium has, by the same layout (of pno_clear_mark with PNO_MARKS), gives 0 and
+ *   a sound volume, whose catalogue, the files with all that they hold, is that before the call or that after
+ *   it: the former for i = 0, the latter for i = writes. That holds for every i, of each of the nine calls
+ *   from pno_create to pno_clear_mark. There is one exception: with PNO_MARKS, a cut of pno_overwrite between
+ *   its two writes leaves the catalogue before the call with the mark set on that file.
+ *   So a host that was stopped reads the medium, repairs the image, writes the sectors of the repair through,
+ *   and goes on. A repair that is cut itself and begun again ends the same.
+ *   pno_format and pno_pack are not covered: what is cut of them is done again from the beginning.
  */
+struct pno_changes {
+    uint32_t differ;                 /* kept for a later version; this one leaves it as it stood */
+    uint32_t writes;                 /* how many sectors are to be written through; 0 with any number but 0 */
+    uint32_t order[PNO_WRITES_MOST]; /* their numbers, in the order of writing */
+};
 
 /*
  * Creates a data file without sectors: its descriptor, which is zero but for the name, the status, the
@@ -306,36 +340,40 @@ uint32_t pno_listing(const uint8_t *image, size_t image_len, uint32_t layout, si
  * variable); the other two are any byte. With PNO_MARKS the status is one of these four too, and the file has
  * the mark besides.
  *
+ * Writes: descriptor, sector 0, index.
  * Numbers: 1 to 6; 7; 8 for no such directory; 9; 15 for another status; 11; 12.
  * Stack: at most 988 bytes.
  */
 uint32_t pno_create(uint8_t *image, size_t image_len, uint32_t layout, size_t directory, const uint8_t *name,
                     size_t name_len, uint8_t status, uint8_t record_length, uint8_t records_per_sector,
-                    size_t *wrong);
+                    size_t *wrong, struct pno_changes *changes);
 
 /*
  * Appends a sector to a data file: the sector's 256 bytes, its bit in the map, and in the descriptor the
  * number of sectors and the chain, with PNO_MARKS also the mark. The rest of the descriptor stays, the end
  * offset and the record count among it.
  *
+ * Writes: the sector, sector 0, descriptor.
  * Numbers: 1 to 6; 7; 8; 10; 14 for a program; 15 where data_len is not PNO_SECTOR_BYTES; 12; 13, which is
  * not due where the sector that is taken follows the file's last one.
  * Stack: at most 1,228 bytes.
  */
 uint32_t pno_append(uint8_t *image, size_t image_len, uint32_t layout, size_t directory, const uint8_t *name,
-                    size_t name_len, const uint8_t *data, size_t data_len, size_t *wrong);
+                    size_t name_len, const uint8_t *data, size_t data_len, size_t *wrong,
+                    struct pno_changes *changes);
 
 /*
  * Overwrites a sector of a data file: its 256 bytes, with PNO_MARKS also the file's mark, and nothing else.
  * Offsets count from 0.
  *
+ * Writes: the sector; with PNO_MARKS descriptor, the sector.
  * Numbers: 1 to 6; 7; 8; 10; 14 for a program; 15 for an offset past the last sector, or where data_len is
  * not PNO_SECTOR_BYTES.
  * Stack: at most 620 bytes.
  */
 uint32_t pno_overwrite(uint8_t *image, size_t image_len, uint32_t layout, size_t directory,
                        const uint8_t *name, size_t name_len, size_t offset, const uint8_t *data,
-                       size_t data_len, size_t *wrong);
+                       size_t data_len, size_t *wrong, struct pno_changes *changes);
 
 /*
  * Stores a program of 0 to PNO_PROGRAM_MOST bytes as a new file: bytes_len / 256 sectors, rounded up, the
@@ -344,56 +382,83 @@ uint32_t pno_overwrite(uint8_t *image, size_t image_len, uint32_t layout, size_t
  * these in the map; its place in the index. So 256 bytes take one sector, and no byte takes none but the
  * descriptor's.
  *
+ * Writes: the program's sectors in the order of the file, descriptor, sector 0, index.
  * Numbers: 1 to 6; 7; 8 for no such directory; 9; 15 where bytes_len is above PNO_PROGRAM_MOST; 11; 12, the
  * descriptor's sector being counted; 13.
  * Stack: at most 1,324 bytes.
  */
 uint32_t pno_store(uint8_t *image, size_t image_len, uint32_t layout, size_t directory, const uint8_t *name,
-                   size_t name_len, const uint8_t *bytes, size_t bytes_len, size_t *wrong);
+                   size_t name_len, const uint8_t *bytes, size_t bytes_len, size_t *wrong,
+                   struct pno_changes *changes);
 
 /*
  * Deletes a file: its place in the index, later ones moving down by one, and its bits in the map. The sectors
  * themselves keep their bytes.
  *
+ * Writes: index, sector 0.
  * Numbers: 1 to 6; 7; 8; 10.
  * Stack: at most 1,180 bytes.
  */
 uint32_t pno_delete(uint8_t *image, size_t image_len, uint32_t layout, size_t directory, const uint8_t *name,
-                    size_t name_len, size_t *wrong);
+                    size_t name_len, size_t *wrong, struct pno_changes *changes);
 
 /*
  * Renames a file: the ten bytes of its name, and its place in the index; with PNO_MARKS also its mark. The
  * directory is the same for both names.
  *
+ * Writes: descriptor, index.
  * Numbers: 1 to 6; 7 for the old name (which is 0), then for the new one (which is 1); 8 for no such
  * directory, then for the old name; 9 for the new one, also where it is the old one; 10.
  * Stack: at most 1,164 bytes.
  */
 uint32_t pno_rename(uint8_t *image, size_t image_len, uint32_t layout, size_t directory, const uint8_t *old,
-                    size_t old_len, const uint8_t *new_name, size_t new_len, size_t *which, size_t *wrong);
+                    size_t old_len, const uint8_t *new_name, size_t new_len, size_t *which, size_t *wrong,
+                    struct pno_changes *changes);
 
 /*
  * Protects a file, and unprotects it: one bit of its status, which leaves the mark as it is. Either may be
  * done again.
  *
+ * Writes: descriptor.
  * Numbers: 1 to 6; 7; 8.
  * Stack: at most 604 bytes.
  */
 uint32_t pno_protect(uint8_t *image, size_t image_len, uint32_t layout, size_t directory, const uint8_t *name,
-                     size_t name_len, size_t *wrong);
+                     size_t name_len, size_t *wrong, struct pno_changes *changes);
 uint32_t pno_unprotect(uint8_t *image, size_t image_len, uint32_t layout, size_t directory,
-                       const uint8_t *name, size_t name_len, size_t *wrong);
+                       const uint8_t *name, size_t name_len, size_t *wrong, struct pno_changes *changes);
 
 /*
  * Clears the mark of a file, protected or not: one bit of its status, and nothing else. It may be done again.
  * This call always goes by the new rule: PNO_MARKS counts as set, whatever layout says. The edition is the one
  * that layout says.
  *
+ * Writes: descriptor.
  * Numbers: 1 to 6; 7; 8.
  * Stack: at most 604 bytes.
  */
 uint32_t pno_clear_mark(uint8_t *image, size_t image_len, uint32_t layout, size_t directory,
-                        const uint8_t *name, size_t name_len, size_t *wrong);
+                        const uint8_t *name, size_t name_len, size_t *wrong, struct pno_changes *changes);
+
+/*
+ * Repairs a volume of which a call's writes were cut short: orders the numbers in every index by the names
+ * that they lead to, and makes the map anew, as the holders have it. No other byte is changed: bytes 0 to 55
+ * of sector 0 stay, and so do all marks. Of a sound volume no byte is. Where it is done, the image is a sound
+ * volume, whatever was in the map before and in whichever order names stood.
+ *
+ * It is refused where no order of the names and no map would make the image a sound volume. So it tests for 1
+ * to 5 as pno_judge does, but for the order of names: with two equal names anywhere in one index it is 4, and
+ * with others in any order it is not. 6 is never given. After a cut of another call it is never refused.
+ *
+ * The layout is to be that of the volume: without PNO_DIRECTORIES the map is made of what the root holds, and
+ * all that the directories have is free then.
+ *
+ * Writes: sector 1, with PNO_DIRECTORIES the index sectors of the entries that are there in their order,
+ * sector 0; always all of them.
+ * Numbers: 1 to 5.
+ * Stack: at most 1,500 bytes.
+ */
+uint32_t pno_repair(uint8_t *image, size_t image_len, uint32_t layout, struct pno_changes *changes);
 
 /*
  * Packs a volume into another image of the same length, whatever bytes that had: the target is then a sound

@@ -1,11 +1,14 @@
 //! Compares the library with what this folder has beside it: its judge on many thousand images,
-//! then its other calls, then sequences of calls that write, then programs length by length, then
-//! names byte by byte, then packing. All of it is done for a seed, and then for as many more as are asked for.
+//! then its other calls, then sequences of calls that write, then such calls cut short and repaired,
+//! then programs length by length, then names byte by byte, then packing. All of it is done for a
+//! seed, and then for as many more as are asked for.
 //!
-//! `compare [--images N] [--calls N] [--sequences N] [--packs N] [--seed S] [--seeds N] [IMAGE...]`
+//! `compare [--images N] [--calls N] [--sequences N] [--cuts N] [--packs N] [--seed S] [--seeds N]
+//! [IMAGE...]`
 
 use host::calls::Calls;
 use host::comparison::{Comparison, Part};
+use host::cuts::Cuts;
 use host::images::Images;
 use host::layout::Layout;
 use host::outside::Outside;
@@ -30,6 +33,7 @@ struct Arguments {
     calls: u64,
     /// How many calls the sequences have together.
     sequences: u64,
+    cuts: u64,
     packs: u64,
     /// The first seed, and how many there are from it on.
     seed: u64,
@@ -39,15 +43,16 @@ struct Arguments {
 
 impl Arguments {
     fn read() -> Result<Self, String> {
-        let (images, calls, sequences, packs) = (200_000, 200_000, 480_000, 14_000);
-        let (seed, seeds, files) = (1, 1, Vec::new());
-        let mut arguments = Arguments { images, calls, sequences, packs, seed, seeds, files };
+        let (images, calls, sequences) = (200_000, 200_000, 480_000);
+        let (cuts, packs, seed, seeds, files) = (40_000, 14_000, 1, 1, Vec::new());
+        let mut arguments = Arguments { images, calls, sequences, cuts, packs, seed, seeds, files };
         let mut words = std::env::args().skip(1);
         while let Some(word) = words.next() {
             match word.as_str() {
                 "--images" => arguments.images = number_after(&word, words.next())?,
                 "--calls" => arguments.calls = number_after(&word, words.next())?,
                 "--sequences" => arguments.sequences = number_after(&word, words.next())?,
+                "--cuts" => arguments.cuts = number_after(&word, words.next())?,
                 "--packs" => arguments.packs = number_after(&word, words.next())?,
                 "--seed" => arguments.seed = number_after(&word, words.next())?,
                 "--seeds" => arguments.seeds = number_after(&word, words.next())?,
@@ -72,11 +77,12 @@ fn run(arguments: &Arguments) -> Result<(), String> {
     let outside = arguments.files.iter().map(|path| Outside::read(path));
     let outside = outside.collect::<Result<Vec<_>, _>>()?;
     list(&outside);
-    let (mut images, mut calls, mut packs) = (0, 0, 0);
+    let (mut images, mut calls, mut cuts, mut packs) = (0, 0, 0, 0);
     for seed in arguments.seed..=arguments.last_seed() {
         images += compared::<Images>(seed, arguments.images, &outside)?;
         calls += compared::<Calls>(seed, arguments.calls, &outside)?;
         calls += compared::<Sequences>(seed, arguments.sequences, &outside)?;
+        cuts += compared::<Cuts>(seed, arguments.cuts, &outside)?;
         calls += lengths::compared(seed)?;
         calls += names::compared(seed)?;
         packs += compared::<Packs>(seed, arguments.packs, &outside)?;
@@ -86,8 +92,8 @@ fn run(arguments: &Arguments) -> Result<(), String> {
         seeds => format!("{} seeds, {} to {}", seeds, arguments.seed, arguments.last_seed()),
     };
     println!(
-        "compared {} images, {} calls and {} packs, {}: no difference",
-        images, calls, packs, seeds
+        "compared {} images, {} calls, {} cuts and {} packs, {}: no difference",
+        images, calls, cuts, packs, seeds
     );
     Ok(())
 }

@@ -23,6 +23,9 @@ use std::ops::Range;
 
 const INDEX_PLACES: usize = 128;
 
+/// What is done where several changes are one.
+pub(crate) const SEVERAL: &str = "several faults";
+
 /// Bytes put over the image at a place.
 #[derive(Clone, Debug)]
 pub struct Edit {
@@ -40,16 +43,37 @@ impl Edit {
     }
 }
 
+/// What the paper gives for an image, where that is settled.
+#[derive(Clone, Copy, Debug, PartialEq, Eq)]
+pub struct Verdict {
+    /// By the judge.
+    pub judged: Option<u32>,
+    /// By a repair: it is 0 also where the map is all that is wrong, or the order of names that
+    /// differ.
+    pub repaired: Option<u32>,
+}
+
+impl Verdict {
+    /// Of an image with this number, which is not 4 for the order of names alone.
+    pub(crate) fn of(number: Option<u32>) -> Self {
+        let repaired = number.map(|number| if number == 6 { 0 } else { number });
+        Verdict { judged: number, repaired }
+    }
+
+    /// Where nothing is wrong but that distinct names do not ascend.
+    const DISORDER: Verdict = Verdict { judged: Some(4), repaired: Some(0) };
+}
+
 /// A changed image, as what is to be done to a disk's own.
 #[derive(Clone, Debug)]
 pub struct Change {
     /// What was done, for a report.
     pub what: &'static str,
-    /// The paper's number for the changed image by the new rule and the disk's edition, where the
+    /// What the paper gives for the changed image by the new rule and the disk's edition, where the
     /// change settles it.
-    pub number: Option<u32>,
+    pub own: Verdict,
     /// The same by the other edition.
-    pub by_other: Option<u32>,
+    pub other: Verdict,
     pub edits: Vec<Edit>,
     /// The length in bytes of the changed image.
     pub length: usize,
@@ -78,6 +102,9 @@ impl<'disk> Damage<'disk> {
             self.index_numbers(directory, random);
             self.index_end(directory, random);
             self.order_of_names(directory, random);
+            for _ in 0..2 {
+                self.order_of_numbers(directory, random);
+            }
         }
         self.listed_elsewhere(random);
         if let Some(file) = self.some_file(random) {
@@ -98,13 +125,18 @@ impl<'disk> Damage<'disk> {
         self.combined(random);
     }
 
-    /// Keeps a change; one that alters nothing leaves the disk sound.
+    /// Keeps a change, which is of no number 4 that a repair would mend.
     fn keep(&mut self, what: &'static str, number: Option<u32>, edits: Vec<Edit>) {
+        self.keep_as(what, Verdict::of(number), edits);
+    }
+
+    /// Keeps any change; one that alters nothing leaves the disk sound.
+    fn keep_as(&mut self, what: &'static str, own: Verdict, edits: Vec<Edit>) {
         let image = &self.disk.image;
         let same = edits.iter().all(|edit| image[edit.at..].starts_with(&edit.bytes));
-        let number = if same { Some(0) } else { number };
-        let by_other = self.roles.by_other(self.disk, number, &edits);
-        self.changes.push(Change { what, number, by_other, edits, length: image.len() });
+        let own = if same { Verdict::of(Some(0)) } else { own };
+        let other = self.roles.by_other(self.disk, own, &edits);
+        self.changes.push(Change { what, own, other, edits, length: image.len() });
     }
 
     fn put(&mut self, what: &'static str, number: u32, at: usize, bytes: &[u8]) {

@@ -27,6 +27,11 @@ impl Layout {
         [false, true].map(|marks| Layout { marks, ..self })
     }
 
+    /// The same rule by the other edition.
+    pub fn other_edition(self) -> Self {
+        Layout { directories: !self.directories, ..self }
+    }
+
     /// The same edition with marks, by which all is sound that is so without.
     pub fn with_marks(self) -> Self {
         Layout { marks: true, ..self }

@@ -3,6 +3,7 @@
 
 pub mod calls;
 pub mod comparison;
+pub mod cuts;
 pub mod damage;
 pub mod directories;
 pub mod frames;

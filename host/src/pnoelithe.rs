@@ -31,6 +31,8 @@ pub const LISTING_MOST: usize = 4466;
 pub const PROGRAM_MOST: usize = 32_768;
 /// The most bytes that a load gives: 1,597 full sectors.
 pub const LOADED_MOST: usize = 408_832;
+/// The most sectors that a call writes: 128 of data and three.
+pub const WRITES_MOST: usize = 131;
 
 /// By which rules a call reads an image. By the default there is neither backup mark nor directory.
 #[derive(Clone, Copy, Debug, Default, PartialEq, Eq)]
@@ -186,6 +188,46 @@ impl From<RenameRefusal> for Refusal {
     }
 }
 
+/// What a call has changed of an image: whole sectors, in the order in which a host is to write them
+/// through to the medium that the image is of. Where that is cut short after any of them, `repair`
+/// of what the medium has gives a sound volume with the files before the call or with those after
+/// it; the header says it in full.
+///
+/// ```text
+/// let changes = store(&mut image, layout, directory, &name, &bytes)?;
+/// for (sector, bytes) in changes.writes(&image) {
+///     medium.write_all_at(bytes, (SECTOR_BYTES * sector) as u64)?;
+///     medium.sync_data()?;
+/// }
+/// ```
+#[derive(Clone, Debug)]
+#[repr(C)]
+pub struct Changes {
+    /// Kept for a later version of the library; this one leaves it as it is.
+    #[allow(dead_code)]
+    differ: u32,
+    writes: u32,
+    order: [u32; WRITES_MOST],
+}
+
+impl Changes {
+    const NONE: Changes = Changes { differ: 0, writes: 0, order: [0; WRITES_MOST] };
+
+    /// The numbers of the sectors, none of them twice. One is among them also where its bytes are
+    /// as they were.
+    pub fn sectors(&self) -> impl ExactSizeIterator<Item = usize> + '_ {
+        self.order[..self.writes as usize].iter().map(|sector| *sector as usize)
+    }
+
+    /// Each of them with the 256 bytes that it is to hold, of the image as the call has left it.
+    pub fn writes<'image>(
+        &'image self,
+        image: &'image [u8],
+    ) -> impl ExactSizeIterator<Item = (usize, &'image [u8])> {
+        self.sectors().map(|sector| (sector, &image[SECTOR_BYTES * sector..][..SECTOR_BYTES]))
+    }
+}
+
 /// What a library's number says, of a call that takes no name.
 fn done(number: u32) -> Result<(), Refusal> {
     named(|_| number)
@@ -202,17 +244,43 @@ fn named(call: impl FnOnce(&mut usize) -> u32) -> Result<(), Refusal> {
     }
 }
 
+/// The same of one that changes an image, and writes what it has changed behind the last pointer.
+fn changed(call: impl FnOnce(&mut usize, &mut Changes) -> u32) -> Result<Changes, Refusal> {
+    let mut changes = Changes::NONE;
+    named(|wrong| call(wrong, &mut changes))?;
+    Ok(changes)
+}
+
 /// A call that changes an image and is asked with the name of a file alone.
+type OnFile = unsafe extern "C" fn(
+    *mut u8,
+    usize,
+    u32,
+    usize,
+    *const u8,
+    usize,
+    *mut usize,
+    *mut Changes,
+) -> u32;
+
 fn on_file(
-    call: unsafe extern "C" fn(*mut u8, usize, u32, usize, *const u8, usize, *mut usize) -> u32,
+    call: OnFile,
     image: &mut [u8],
     layout: Layout,
     directory: usize,
     name: &[u8],
-) -> Result<(), Refusal> {
-    let (layout, image_len, name_len) = (layout.bits(), image.len(), name.len());
-    named(|wrong| unsafe {
-        call(image.as_mut_ptr(), image_len, layout, directory, name.as_ptr(), name_len, wrong)
+) -> Result<Changes, Refusal> {
+    changed(|wrong, changes| unsafe {
+        call(
+            image.as_mut_ptr(),
+            image.len(),
+            layout.bits(),
+            directory,
+            name.as_ptr(),
+            name.len(),
+            wrong,
+            changes,
+        )
     })
 }
 
@@ -482,8 +550,8 @@ pub fn create(
     status: u8,
     record_length: u8,
     records_per_sector: u8,
-) -> Result<(), Refusal> {
-    named(|wrong| unsafe {
+) -> Result<Changes, Refusal> {
+    changed(|wrong, changes| unsafe {
         imported::pno_create(
             image.as_mut_ptr(),
             image.len(),
@@ -495,6 +563,7 @@ pub fn create(
             record_length,
             records_per_sector,
             wrong,
+            changes,
         )
     })
 }
@@ -506,8 +575,8 @@ pub fn append(
     directory: usize,
     name: &[u8],
     data: &[u8],
-) -> Result<(), Refusal> {
-    named(|wrong| unsafe {
+) -> Result<Changes, Refusal> {
+    changed(|wrong, changes| unsafe {
         imported::pno_append(
             image.as_mut_ptr(),
             image.len(),
@@ -518,6 +587,7 @@ pub fn append(
             data.as_ptr(),
             data.len(),
             wrong,
+            changes,
         )
     })
 }
@@ -530,8 +600,8 @@ pub fn overwrite(
     name: &[u8],
     offset: usize,
     data: &[u8],
-) -> Result<(), Refusal> {
-    named(|wrong| unsafe {
+) -> Result<Changes, Refusal> {
+    changed(|wrong, changes| unsafe {
         imported::pno_overwrite(
             image.as_mut_ptr(),
             image.len(),
@@ -543,6 +613,7 @@ pub fn overwrite(
             data.as_ptr(),
             data.len(),
             wrong,
+            changes,
         )
     })
 }
@@ -555,8 +626,8 @@ pub fn store(
     directory: usize,
     name: &[u8],
     bytes: &[u8],
-) -> Result<(), Refusal> {
-    named(|wrong| unsafe {
+) -> Result<Changes, Refusal> {
+    changed(|wrong, changes| unsafe {
         imported::pno_store(
             image.as_mut_ptr(),
             image.len(),
@@ -567,6 +638,7 @@ pub fn store(
             bytes.as_ptr(),
             bytes.len(),
             wrong,
+            changes,
         )
     })
 }
@@ -577,7 +649,7 @@ pub fn delete(
     layout: Layout,
     directory: usize,
     name: &[u8],
-) -> Result<(), Refusal> {
+) -> Result<Changes, Refusal> {
     on_file(imported::pno_delete, image, layout, directory, name)
 }
 
@@ -588,9 +660,9 @@ pub fn rename(
     directory: usize,
     old: &[u8],
     new: &[u8],
-) -> Result<(), RenameRefusal> {
+) -> Result<Changes, RenameRefusal> {
     let mut which = 0;
-    let renamed = named(|wrong| unsafe {
+    let renamed = changed(|wrong, changes| unsafe {
         imported::pno_rename(
             image.as_mut_ptr(),
             image.len(),
@@ -602,6 +674,7 @@ pub fn rename(
             new.len(),
             &mut which,
             wrong,
+            changes,
         )
     });
     renamed.map_err(|refusal| {
@@ -617,7 +690,7 @@ pub fn protect(
     layout: Layout,
     directory: usize,
     name: &[u8],
-) -> Result<(), Refusal> {
+) -> Result<Changes, Refusal> {
     on_file(imported::pno_protect, image, layout, directory, name)
 }
 
@@ -627,7 +700,7 @@ pub fn unprotect(
     layout: Layout,
     directory: usize,
     name: &[u8],
-) -> Result<(), Refusal> {
+) -> Result<Changes, Refusal> {
     on_file(imported::pno_unprotect, image, layout, directory, name)
 }
 
@@ -638,8 +711,19 @@ pub fn clear_mark(
     layout: Layout,
     directory: usize,
     name: &[u8],
-) -> Result<(), Refusal> {
+) -> Result<Changes, Refusal> {
     on_file(imported::pno_clear_mark, image, layout, directory, name)
+}
+
+/// Repairs a volume of which the writes of a call were cut short: every index in the order of names,
+/// the map as the holders have it, and nothing else. A sound volume stays as it is. It is refused
+/// where no order of names and no map would make a sound volume of the image, and never after a cut.
+/// The layout is to be that of the volume: without directories the map is made of what the root
+/// holds, and all that these have is free then.
+pub fn repair(image: &mut [u8], layout: Layout) -> Result<Changes, Refusal> {
+    changed(|_, changes| unsafe {
+        imported::pno_repair(image.as_mut_ptr(), image.len(), layout.bits(), changes)
+    })
 }
 
 /// Packs a volume into a target of the same length, whatever bytes that had.
@@ -657,6 +741,8 @@ pub fn pack(source: &[u8], layout: Layout, target: &mut [u8]) -> Result<(), Refu
 
 /// The functions of the archive, as include/pnoelithe.h declares them.
 pub(crate) mod imported {
+    use super::Changes;
+
     extern "C" {
         pub fn pno_judge(image: *const u8, image_len: usize, layout: u32) -> u32;
         pub fn pno_format(
@@ -743,6 +829,7 @@ pub(crate) mod imported {
             record_length: u8,
             records_per_sector: u8,
             wrong: *mut usize,
+            changes: *mut Changes,
         ) -> u32;
         pub fn pno_append(
             image: *mut u8,
@@ -754,6 +841,7 @@ pub(crate) mod imported {
             data: *const u8,
             data_len: usize,
             wrong: *mut usize,
+            changes: *mut Changes,
         ) -> u32;
         pub fn pno_overwrite(
             image: *mut u8,
@@ -766,6 +854,7 @@ pub(crate) mod imported {
             data: *const u8,
             data_len: usize,
             wrong: *mut usize,
+            changes: *mut Changes,
         ) -> u32;
         pub fn pno_store(
             image: *mut u8,
@@ -777,6 +866,7 @@ pub(crate) mod imported {
             bytes: *const u8,
             bytes_len: usize,
             wrong: *mut usize,
+            changes: *mut Changes,
         ) -> u32;
         pub fn pno_delete(
             image: *mut u8,
@@ -786,6 +876,7 @@ pub(crate) mod imported {
             name: *const u8,
             name_len: usize,
             wrong: *mut usize,
+            changes: *mut Changes,
         ) -> u32;
         pub fn pno_protect(
             image: *mut u8,
@@ -795,6 +886,7 @@ pub(crate) mod imported {
             name: *const u8,
             name_len: usize,
             wrong: *mut usize,
+            changes: *mut Changes,
         ) -> u32;
         pub fn pno_unprotect(
             image: *mut u8,
@@ -804,6 +896,7 @@ pub(crate) mod imported {
             name: *const u8,
             name_len: usize,
             wrong: *mut usize,
+            changes: *mut Changes,
         ) -> u32;
         pub fn pno_clear_mark(
             image: *mut u8,
@@ -813,6 +906,7 @@ pub(crate) mod imported {
             name: *const u8,
             name_len: usize,
             wrong: *mut usize,
+            changes: *mut Changes,
         ) -> u32;
         pub fn pno_rename(
             image: *mut u8,
@@ -825,6 +919,13 @@ pub(crate) mod imported {
             new_len: usize,
             which: *mut usize,
             wrong: *mut usize,
+            changes: *mut Changes,
+        ) -> u32;
+        pub fn pno_repair(
+            image: *mut u8,
+            image_len: usize,
+            layout: u32,
+            changes: *mut Changes,
         ) -> u32;
         pub fn pno_pack(
             source: *const u8,

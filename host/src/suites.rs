@@ -2,7 +2,7 @@
 //! value of a field once; the others build disks of every size and take changes by chance.
 
 use crate::damage::editions::{as_built, of_unplanned, root_of};
-use crate::damage::{Change, Damage};
+use crate::damage::{Change, Damage, Verdict, SEVERAL};
 use crate::directories::{self, deal};
 use crate::layout::Layout;
 use crate::outside::Outside;
@@ -10,6 +10,7 @@ use crate::random::Random;
 use crate::volumes::{are_entries, is_name, names, Directory, Disk, File, Order, Run, Shape};
 use crate::volumes::{ENTRIES, ENTRY_BYTES, MAP, MARK, MOST_DIRECTORIES, SECTOR_BYTES};
 use crate::volumes::{MOST_BLOCKS, MOST_FILES, MOST_SECTORS};
+use std::collections::BTreeMap;
 
 /// A disk, the paper's number for it by the new rule and the edition that it is planned for, that by
 /// the other edition, and changes of it.
@@ -20,25 +21,39 @@ pub struct Batch {
     pub changes: Vec<Change>,
 }
 
-/// The paper's number for an image by each layout, where it is settled.
+/// The paper's number for an image by each layout, and that of a repair, where they are settled.
 #[derive(Clone, Copy, Debug)]
-pub struct Numbers([Option<u32>; 4]);
+pub struct Numbers {
+    judged: [Option<u32>; 4],
+    repaired: [Option<u32>; 4],
+}
 
 impl Numbers {
+    /// Whether a 4 is for the order of names alone, so that a repair mends it, is not known.
     pub fn each(number: impl Fn(Layout) -> Option<u32>) -> Self {
-        Numbers(Layout::ALL.map(number))
+        let judged = Layout::ALL.map(number);
+        let repaired =
+            judged.map(|number| Verdict::of(number).repaired.filter(|number| *number != 4));
+        Numbers { judged, repaired }
+    }
+
+    /// The same, with numbers of a repair that are known.
+    pub fn repaired_by(self, number: impl Fn(Layout) -> Option<u32>) -> Self {
+        Numbers { repaired: Layout::ALL.map(number), ..self }
     }
 
     /// Of an image that was made of a disk, whose number by the new rule is known by the disk's
     /// edition and by the other one. The rules differ in one thing: by the old one a mark is a
     /// fault of number 4.
-    pub fn by_new(disk: &Disk, own: Option<u32>, other: Option<u32>, image: &[u8]) -> Self {
-        Numbers::each(|layout| {
+    pub fn by_new(disk: &Disk, own: Verdict, other: Verdict, image: &[u8]) -> Self {
+        let by = |layout: Layout, number: fn(Verdict) -> Option<u32>| {
             let is_own = layout.directories == disk.has_directories();
-            let number = if is_own { own? } else { other? };
+            let number = number(if is_own { own } else { other })?;
             let is_fault = !layout.marks && matches!(number, 0 | 5 | 6);
             Some(if is_fault && is_marked(image, layout) { 4 } else { number })
-        })
+        };
+        let judged = Numbers::each(|layout| by(layout, |verdict| verdict.judged));
+        judged.repaired_by(|layout| by(layout, |verdict| verdict.repaired))
     }
 
     /// Of one whose number by the old rule and the first edition is known: where that is 4, a mark
@@ -56,7 +71,8 @@ impl Numbers {
 
     /// Of a disk that is sound by its edition and the new rule.
     pub fn of_sound(disk: &Disk) -> Self {
-        Numbers::by_new(disk, Some(0), as_built(disk), &disk.image)
+        let [own, other] = [Some(0), as_built(disk)].map(Verdict::of);
+        Numbers::by_new(disk, own, other, &disk.image)
     }
 
     /// Whether both editions find it sound, with marks.
@@ -65,9 +81,18 @@ impl Numbers {
     }
 
     pub fn by(self, layout: Layout) -> Option<u32> {
-        let place = Layout::ALL.iter().position(|other| *other == layout)?;
-        self.0[place]
+        self.judged[place(layout)]
     }
+
+    /// That of a repair.
+    pub fn repaired(self, layout: Layout) -> Option<u32> {
+        self.repaired[place(layout)]
+    }
+}
+
+fn place(layout: Layout) -> usize {
+    let place = Layout::ALL.iter().position(|other| *other == layout);
+    place.expect("one of all layouts")
 }
 
 /// Whether a file has the mark, of those that an index lists; each of them has a descriptor.
@@ -104,6 +129,11 @@ impl<'batch> Image<'batch> {
         self.numbers.by(layout)
     }
 
+    /// What a repair gives.
+    pub fn repaired(&self, layout: Layout) -> Option<u32> {
+        self.numbers.repaired(layout)
+    }
+
     /// The disk, where it is sound by the layout.
     pub fn planned(&self, layout: Layout) -> Option<&'batch Disk> {
         self.planned.filter(|_| self.number(layout) == Some(0))
@@ -137,14 +167,15 @@ impl Batch {
         buffer[..image.len()].copy_from_slice(image);
         let planned = (self.number == 0).then_some(&self.disk);
         let bytes = &buffer[..image.len()];
-        let numbers = Numbers::by_new(&self.disk, Some(self.number), self.by_other, bytes);
+        let [own, other] = [Some(self.number), self.by_other].map(Verdict::of);
+        let numbers = Numbers::by_new(&self.disk, own, other, bytes);
         each(&Image { what: "disk as built", bytes, numbers, planned })?;
         for change in &self.changes {
             for edit in &change.edits {
                 buffer[edit.at..][..edit.bytes.len()].copy_from_slice(&edit.bytes);
             }
             let bytes = &buffer[..change.length];
-            let numbers = Numbers::by_new(&self.disk, change.number, change.by_other, bytes);
+            let numbers = Numbers::by_new(&self.disk, change.own, change.other, bytes);
             each(&Image { what: change.what, bytes, numbers, planned: None })?;
             for edit in &change.edits {
                 let bytes = edit.at..edit.at + edit.bytes.len();
@@ -174,6 +205,18 @@ impl Batch {
         let mut batch = Batch::of_sound(disk, |damage| damage.of_every_sort(random));
         random.shuffle(&mut batch.changes);
         batch.changes.truncate(changes);
+        batch
+    }
+
+    /// A sound disk of any shape, with a change of each sort, and a few where several are one.
+    pub fn of_each_sort(sectors: usize, random: &mut Random) -> Self {
+        let mut batch = Batch::of_any_shape(sectors, usize::MAX, random);
+        let mut kept = BTreeMap::new();
+        batch.changes.retain(|change| {
+            let count = kept.entry(change.what).or_insert(0);
+            *count += 1;
+            *count <= if change.what == SEVERAL { 8 } else { 1 }
+        });
         batch
     }
 

@@ -13,6 +13,7 @@ mod looking;
 mod making;
 pub(crate) mod plan;
 mod reading;
+mod repairing;
 mod sectors;
 mod wholes;
 
@@ -24,8 +25,9 @@ pub(crate) use layouts::LAYOUTS_MET;
 pub use looking::lines;
 pub(crate) use looking::*;
 pub(crate) use making::*;
-pub(crate) use plan::{Asked, Listed, Plan, Reading, Writing};
+pub(crate) use plan::{sectors_of, Asked, Listed, Part, Plan, Reading, Writing};
 pub(crate) use reading::*;
+pub(crate) use repairing::*;
 pub(crate) use sectors::*;
 pub(crate) use wholes::*;
 
@@ -56,6 +58,7 @@ pub(crate) static CALLS: &[&Call] = &[
     &PROTECT,
     &UNPROTECT,
     &CLEAR_MARK,
+    &REPAIR,
     &PACK,
 ];
 
@@ -97,6 +100,8 @@ pub(crate) enum Rules {
     AsAsked,
     /// Those of the mark, whatever it is asked with, and by the edition that it is asked with.
     OfMarks,
+    /// As asked, but neither the order of names nor the map is looked at.
+    ToRepair,
 }
 
 /// A number, and whether it is due. Of an image that is no sound volume, or not known, a test sees
@@ -161,7 +166,7 @@ pub(crate) fn any(mood: Mood, desk: &Desk, random: &mut Random) -> (&'static Cal
 }
 
 /// Arguments by chance, those that every call has among them.
-fn asked(call: &Call, desk: &Desk, random: &mut Random) -> Arguments {
+pub(crate) fn asked(call: &Call, desk: &Desk, random: &mut Random) -> Arguments {
     if !call.in_directory {
         return (call.any)(desk, random).by(desk.layout, random);
     }
@@ -182,7 +187,11 @@ pub(crate) const NUMBERS: [u32; 16] = [0, 1, 2, 3, 4, 5, 6, 7, 8, 9, 10, 14, 15,
 impl Call {
     /// The numbers that it can give, in the order of the paper's table.
     pub(crate) fn numbers(&self) -> Vec<u32> {
-        let of_image = if self.is_judging() { &NUMBERS[..7] } else { &NUMBERS[..1] };
+        let of_image = match self.rules {
+            Rules::None => &NUMBERS[..1],
+            Rules::AsAsked | Rules::OfMarks => &NUMBERS[..7],
+            Rules::ToRepair => &NUMBERS[..6],
+        };
         let tested = self.tests.iter().map(|(number, _)| *number);
         of_image.iter().copied().chain(tested).collect()
     }
@@ -201,7 +210,13 @@ impl Call {
         }
     }
 
-    /// Whether the whole image is tested for 1 to 6 before all else.
+    /// Whether it changes the image and says which sectors it writes.
+    pub(crate) fn is_changing(&self) -> bool {
+        matches!(self.by_plan, Plan::Writes(_) | Plan::Repairs(_))
+    }
+
+    /// Whether the whole image is tested for 1 to 6, or where it is to be repaired for 1 to 5, before
+    /// all else.
     pub(crate) fn is_judging(&self) -> bool {
         !matches!(self.rules, Rules::None)
     }
@@ -209,7 +224,7 @@ impl Call {
     /// The layout by which it reads the image.
     pub(crate) fn layout(&self, arguments: &Arguments) -> Layout {
         match self.rules {
-            Rules::None | Rules::AsAsked => arguments.layout(),
+            Rules::None | Rules::AsAsked | Rules::ToRepair => arguments.layout(),
             Rules::OfMarks => arguments.layout().with_marks(),
         }
     }

@@ -7,8 +7,8 @@ use crate::outside::Outside;
 use crate::random::Random;
 use crate::suites::{Batch, Image, Numbers};
 use crate::table::{self, calls_in, compared, Arguments, Call, Desk, Meeting};
-use crate::table::{CALLS, LAYOUTS_MET, SINGLE};
-use crate::tally::Tally;
+use crate::table::{CALLS, LAYOUTS_MET, NONE, REPAIR, REPAIRS_MET, SINGLE};
+use crate::tally::{hold, Tally};
 use crate::volumes::{Disk, MOST_SECTORS, SECTOR_BYTES};
 use std::collections::BTreeMap;
 
@@ -16,6 +16,8 @@ pub type Comparison = crate::comparison::Comparison<Calls>;
 
 /// How many changes of one disk are tried, with a call on each.
 const CHANGES: usize = 60;
+/// How often a repair must at least have been tried on each sort of change.
+const LEAST_OF_CHANGE: u64 = 10;
 
 /// What any of these calls is meant to meet. Where two faults come together the number is that of
 /// the first; the image's come before all others.
@@ -42,19 +44,17 @@ pub struct Calls {
     /// How many images came from outside, and how often each call was made on them.
     outside: u64,
     on_outside: BTreeMap<&'static str, u64>,
+    /// How often a repair was tried on each sort of change.
+    repairs: BTreeMap<String, u64>,
 }
 
 impl Part for Calls {
     const TITLE: &'static str = "calls";
 
     fn new() -> Self {
-        let (buffer, on_outside) = (Vec::new(), BTreeMap::new());
-        Calls {
-            tally: Tally::of(calls_in(SINGLE), &[MET, LAYOUTS_MET]),
-            buffer,
-            outside: 0,
-            on_outside,
-        }
+        let (buffer, on_outside, repairs) = (Vec::new(), BTreeMap::new(), BTreeMap::new());
+        let tally = Tally::of(calls_in(SINGLE), &[MET, LAYOUTS_MET, REPAIRS_MET]);
+        Calls { tally, buffer, outside: 0, on_outside, repairs }
     }
 
     fn begin(&mut self, random: &mut Random) -> Result<(), String> {
@@ -70,10 +70,11 @@ impl Part for Calls {
         if random.once_in(8) {
             self.batch(&Batch::of_long_files(random), random)?;
         }
-        Ok(())
+        let sectors = if random.once_in(40) { MOST_SECTORS } else { random.within(6..=150) };
+        self.repairs(&Batch::of_each_sort(sectors, random), random)
     }
 
-    /// All that can be read of it.
+    /// All that can be read of it, and what a repair makes of it.
     fn on_outside(&mut self, outside: &Outside, random: &mut Random) -> Result<(), String> {
         let image = Image::of_outside(outside);
         self.outside += 1;
@@ -89,6 +90,10 @@ impl Part for Calls {
                 }
             }
         }
+        for layout in Layout::ALL {
+            self.call(&REPAIR, &NONE.by(layout, random), &image, random)?;
+            *self.on_outside.entry(REPAIR.title).or_default() += 1;
+        }
         outside::texts(outside)
     }
 
@@ -102,7 +107,9 @@ impl Part for Calls {
             self.on_outside.iter().map(|(call, count)| format!("{} {}", call, count)).collect();
         let calls: u64 = self.on_outside.values().sum();
         println!("{} calls on {} images from outside: {}", calls, self.outside, each.join(", "));
-        Ok(())
+        let repairs: u64 = self.repairs.values().sum();
+        println!("{} repairs of {} sorts of changes", repairs, self.repairs.len());
+        hold(LEAST_OF_CHANGE, self.repairs.clone().into_iter().collect())
     }
 }
 
@@ -118,6 +125,18 @@ impl Calls {
                 self.call(call, &arguments, image, random)?;
             }
             Ok(())
+        })?;
+        self.buffer = buffer;
+        Ok(())
+    }
+
+    /// A disk and changes of it, each repaired.
+    fn repairs(&mut self, batch: &Batch, random: &mut Random) -> Result<(), String> {
+        let mut buffer = std::mem::take(&mut self.buffer);
+        batch.each_image(&mut buffer, |image| {
+            let arguments = NONE.by(any_layout(&batch.disk, random), random);
+            *self.repairs.entry(image.what.to_string()).or_default() += 1;
+            self.call(&REPAIR, &arguments, image, random)
         })?;
         self.buffer = buffer;
         Ok(())

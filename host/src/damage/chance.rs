@@ -1,7 +1,7 @@
 //! Changes that may break anything, and several faults at once.
 
 use super::editions::of_both;
-use super::{edit, in_descriptor, Change, Damage, INDEX_PLACES};
+use super::{edit, in_descriptor, Change, Damage, Edit, Verdict, INDEX_PLACES, SEVERAL};
 use crate::random::Random;
 use crate::volumes::{word, ENTRIES, HEADER_BYTES, MAP, SECTOR_BYTES};
 
@@ -56,20 +56,43 @@ impl Damage<'_> {
             let (one, other) = (random.below(single.len()), random.below(single.len()));
             self.changes.extend(self.both(&single[one], &single[other]));
         }
+        // Names out of order, and what a repair finds behind that.
+        let (disorder, behind): (Vec<&Change>, Vec<&Change>) = single
+            .iter()
+            .filter(|change| change.own == Verdict::DISORDER || change.own.judged > Some(4))
+            .partition(|change| change.own == Verdict::DISORDER);
+        for _ in 0..if disorder.is_empty() || behind.is_empty() { 0 } else { 10 } {
+            let (one, other) = (random.pick(&disorder), random.pick(&behind));
+            self.changes.extend(self.both(one, other));
+        }
     }
 
     fn both(&self, one: &Change, other: &Change) -> Option<Change> {
         let apart = one.edits.iter().all(|edit| !other.edits.iter().any(|also| edit.meets(also)));
-        if one.number >= other.number || !apart {
+        if one.own.judged >= other.own.judged || !apart {
             return None;
         }
-        let (what, number) = ("several faults", one.number);
         let edits = [&one.edits[..], &other.edits[..]].concat();
-        let by_both = of_both(one.by_other, other.by_other).filter(|_| self.disk.has_directories());
-        let by_other = by_both.or_else(|| self.roles.by_other(self.disk, number, &edits));
+        let own = Verdict { repaired: self.repaired_both(one, other), ..one.own };
+        let by_both = of_both(one.other, other.other).filter(|_| self.disk.has_directories());
+        let other = by_both.unwrap_or_else(|| self.roles.by_other(self.disk, own, &edits));
         // Only faults of number 1 and 2 change the length, so the other's is the disk's own or is
         // of no account beside number 1.
-        Some(Change { what, number, by_other, edits, length: one.length })
+        Some(Change { what: SEVERAL, own, other, edits, length: one.length })
+    }
+
+    /// Where the order of names is mended, the other fault is left, unless it brings other names
+    /// into an index.
+    fn repaired_both(&self, one: &Change, other: &Change) -> Option<u32> {
+        let is_of_index = |edit: &Edit| {
+            let indexes = self.disk.numbers().into_iter().map(|number| self.index(number));
+            indexes.map(|index| index..index + SECTOR_BYTES).any(|index| edit.touches(&index))
+        };
+        if one.own != Verdict::DISORDER {
+            one.own.repaired
+        } else {
+            other.own.repaired.filter(|_| !other.edits.iter().any(is_of_index))
+        }
     }
 }
 
@@ -77,7 +100,7 @@ impl Damage<'_> {
 /// later one than 3 of a directory that is elsewhere, which may take another fault with it.
 fn stays(change: &Change) -> bool {
     let is_of_entries = change.edits.iter().any(|edit| edit.touches(&(ENTRIES..MAP)));
-    match change.number {
+    match change.own.judged {
         Some(4..=6) if is_of_entries => false,
         Some(6) => change.edits.iter().all(|edit| edit.at < SECTOR_BYTES),
         Some(number) => number > 0,

@@ -1,9 +1,10 @@
 //! Number 4 but for the chain: names and their order, status, the end offset of a program without
 //! sectors, the number of sectors.
 
-use super::{changed_names, edit, in_descriptor, Damage};
+use super::{changed_names, edit, in_descriptor, Damage, Verdict};
 use crate::random::Random;
 use crate::volumes::{is_name, word, File, Name, DATA_STATUS, MARK, PROGRAM_STATUS};
+use std::collections::BTreeSet;
 
 impl Damage<'_> {
     pub(super) fn file_name(&mut self, file: &File, random: &mut Random) {
@@ -15,8 +16,13 @@ impl Damage<'_> {
             });
             let names: Vec<Name> = names.collect();
             let ascending = names.windows(2).all(|pair| pair[0] < pair[1]);
-            let number = if ascending && is_name(&changed) { 0 } else { 4 };
-            self.put("file name", number, in_descriptor(file, 0), &changed);
+            let are_distinct = names.iter().collect::<BTreeSet<_>>().len() == names.len();
+            let own = match (is_name(&changed), ascending, are_distinct) {
+                (true, true, _) => Verdict::of(Some(0)),
+                (true, false, true) => Verdict::DISORDER,
+                _ => Verdict::of(Some(4)),
+            };
+            self.keep_as("file name", own, vec![edit(in_descriptor(file, 0), &changed)]);
         }
     }
 
@@ -54,16 +60,57 @@ impl Damage<'_> {
             let (file, next) = (files[place], files[place + 1]);
             let at = self.in_index(file);
             let (own, other) = (word(file.descriptor), word(next.descriptor));
-            self.put("numbers swapped", 4, at, &[other, own].concat());
+            let swapped = vec![edit(at, &[other, own].concat())];
+            self.keep_as("numbers swapped", Verdict::DISORDER, swapped);
             self.put("number repeated", 4, at + 2, &own);
             self.put("number repeated before its place", 4, at, &other);
             self.put("name repeated", 4, in_descriptor(next, 0), &file.name());
             let (own, other) = (in_descriptor(file, 0), in_descriptor(next, 0));
             let swapped = vec![edit(own, &next.name()), edit(other, &file.name())];
-            self.keep("names swapped", Some(4), swapped);
+            self.keep_as("names swapped", Verdict::DISORDER, swapped);
         }
         let first = word(files[0].descriptor);
         let last = self.in_index(files[files.len() - 1]);
         self.put("first number again as the last", 4, last, &first);
+    }
+
+    /// The numbers of an index in other orders, and numbers and names that stand there twice.
+    pub(super) fn order_of_numbers(&mut self, directory: usize, random: &mut Random) {
+        let files: Vec<&File> = self.disk.files_in(directory).collect();
+        if files.len() < 2 {
+            return;
+        }
+        let numbers: Vec<usize> = files.iter().map(|file| file.descriptor).collect();
+        let one = random.below(files.len());
+        let other = (one + random.within(1..=files.len() - 1)) % files.len();
+        let mut exchanged = numbers.clone();
+        exchanged.swap(one, other);
+        let mut rotated = numbers.clone();
+        rotated.rotate_left(random.within(1..=files.len() - 1));
+        // One number moved to another place, the others in their order.
+        let mut displaced = numbers.clone();
+        let moved = displaced.remove(one);
+        displaced.insert(other, moved);
+        let reversed: Vec<usize> = numbers.iter().rev().copied().collect();
+        let mut shuffled = numbers;
+        random.shuffle(&mut shuffled);
+        let orders = [
+            ("numbers exchanged", exchanged),
+            ("numbers rotated", rotated),
+            ("number displaced", displaced),
+            ("numbers reversed", reversed),
+            ("numbers shuffled", shuffled),
+        ];
+        let index = self.index(directory);
+        for (what, numbers) in orders {
+            let bytes: Vec<u8> = numbers.into_iter().flat_map(word).collect();
+            self.keep_as(what, Verdict::DISORDER, vec![edit(index, &bytes)]);
+        }
+        if one.abs_diff(other) > 1 {
+            let (own, other) = (files[one], files[other]);
+            let (at, name) = (self.in_index(other), own.name());
+            self.put("number repeated apart", 4, at, &word(own.descriptor));
+            self.put("name repeated apart", 4, in_descriptor(other, 0), &name);
+        }
     }
 }

@@ -1,7 +1,7 @@
 //! What a changed disk is by the edition that it was not planned for, as far as that follows: the
 //! first edition sees the root alone, and the second takes for entries what the first carries.
 
-use super::Edit;
+use super::{Edit, Verdict};
 use crate::volumes::{are_entries, Disk, File, ENTRIES, ENTRY_BYTES, MAP, SECTOR_BYTES};
 use crate::volumes::{MOST_DIRECTORIES, MOST_SECTORS};
 
@@ -29,8 +29,18 @@ impl Roles {
         Roles { of_root, of_others, map: root_of(disk).map() }
     }
 
-    /// The number by the edition that the disk is not planned for, where it is this one by its own.
-    pub(super) fn by_other(&self, disk: &Disk, number: Option<u32>, edits: &[Edit]) -> Option<u32> {
+    /// What is given by the edition that the disk is not planned for, where it is this by its own. A
+    /// 4 is then for the same as by its own.
+    pub(super) fn by_other(&self, disk: &Disk, own: Verdict, edits: &[Edit]) -> Verdict {
+        // What two hold by the second edition may be held by one by the first.
+        let repaired = own.repaired.filter(|number| *number != 5 || !disk.has_directories());
+        match self.number_by_other(disk, own.judged, edits) {
+            Some(4) => Verdict { judged: Some(4), repaired },
+            number => Verdict::of(number),
+        }
+    }
+
+    fn number_by_other(&self, disk: &Disk, number: Option<u32>, edits: &[Edit]) -> Option<u32> {
         let label = label_after(disk, edits);
         if disk.has_directories() {
             self.by_first(&label, number, edits)
@@ -64,13 +74,17 @@ impl Roles {
 
 /// The number by the other edition of a disk that is sound by its own.
 pub(crate) fn as_built(disk: &Disk) -> Option<u32> {
-    Roles::of(disk).by_other(disk, Some(0), &[])
+    Roles::of(disk).number_by_other(disk, Some(0), &[])
 }
 
 /// Of two changes at once that do not meet, from what each is.
-pub(super) fn of_both(one: Option<u32>, other: Option<u32>) -> Option<u32> {
-    let faults = [one?, other?].into_iter().filter(|number| (1..=5).contains(number));
-    faults.min()
+pub(super) fn of_both(one: Verdict, other: Verdict) -> Option<Verdict> {
+    let numbers = [one.judged?, other.judged?];
+    let first = numbers.into_iter().filter(|number| (1..=5).contains(number)).min()?;
+    // Behind an order of names that is mended, or not, there may be the other fault.
+    let is_order = [one, other].contains(&Verdict::DISORDER);
+    let verdict = Verdict::of(Some(first));
+    Some(if is_order { Verdict { repaired: None, ..verdict } } else { verdict })
 }
 
 fn label_after(disk: &Disk, edits: &[Edit]) -> Vec<u8> {

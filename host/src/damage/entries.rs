@@ -1,7 +1,7 @@
 //! The entries of directories: number 3 where an entry breaks a rule, and else what comes of where
 //! it leads. A disk of the first edition whose entries are all absent is one of the second too.
 
-use super::{changed_names, edit, Change, Damage, Edit};
+use super::{changed_names, edit, Change, Damage, Edit, Verdict};
 use crate::random::Random;
 use crate::volumes::{is_name, names, word, Directory, File, Name};
 use crate::volumes::{ENTRIES, ENTRY_BYTES, MAP, MOST_DIRECTORIES, MOST_FILES, SECTOR_BYTES};
@@ -26,8 +26,8 @@ impl Damage<'_> {
         } else if image[ENTRIES..MAP].iter().all(|byte| *byte == 0) {
             let is_of_map = edits.iter().any(|edit| edit.touches(&(MAP..SECTOR_BYTES)));
             let first = if is_of_map { 6 } else { 0 };
-            let (number, by_other, length) = (Some(first), Some(number), image.len());
-            self.changes.push(Change { what, number, by_other, edits, length });
+            let [own, other] = [first, number].map(|number| Verdict::of(Some(number)));
+            self.changes.push(Change { what, own, other, edits, length: image.len() });
         }
     }
 

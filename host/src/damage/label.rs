@@ -1,6 +1,6 @@
 //! Numbers 1 and 2: the length of the image, and sector 0 but for the map.
 
-use super::{changed_names, Change, Damage};
+use super::{changed_names, Change, Damage, Verdict};
 use crate::random::Random;
 use crate::volumes::{is_name, word, Name, MOST_SECTORS, SECTOR_BYTES};
 
@@ -16,9 +16,9 @@ impl Damage<'_> {
         } else {
             1
         };
-        let (what, number) = ("length of the image", Some(number));
-        let by_other = self.roles.by_other(self.disk, number, &[]);
-        self.changes.push(Change { what, number, by_other, edits: Vec::new(), length });
+        let (what, own) = ("length of the image", Verdict::of(Some(number)));
+        let other = self.roles.by_other(self.disk, own, &[]);
+        self.changes.push(Change { what, own, other, edits: Vec::new(), length });
     }
 
     pub(super) fn lengths(&mut self, random: &mut Random) {

@@ -2,7 +2,7 @@
 
 use super::{edit, in_chain, Damage};
 use crate::random::Random;
-use crate::volumes::{block, word, File, MAP, MOST_SECTORS, SECTOR_BYTES};
+use crate::volumes::{block, word, File, Run, MAP, MOST_SECTORS, SECTOR_BYTES};
 
 impl Damage<'_> {
     pub fn map_bit(&mut self, sector: usize) {
@@ -45,7 +45,9 @@ impl Damage<'_> {
             let moved = block(random.pick(&free), file.last_offset(number));
             self.put("sector moved to a free one", 6, in_chain(file, number), &moved);
         }
-        if file.runs.last().map_or(false, |run| free.contains(&run.sectors().end)) {
+        let is_beside = |run: &Run| free.binary_search(&run.sectors().end).is_ok();
+        let grows = |file: &&File| file.runs.last().map_or(false, is_beside);
+        if let Some(file) = std::iter::once(file).chain(&self.disk.files).find(grows) {
             self.one_sector_more("last block grown into a free sector", 6, file);
         }
         self.descriptor_elsewhere(file, random.pick(&free));

@@ -1,16 +1,32 @@
-//! An image that a call has found no fault with and now changes.
+//! An image that a call has found no fault with and now changes, sector by sector. The order in which
+//! a call comes to its sectors is that in which they are to be written through.
 
 use super::volume::{Block, Name, Sector, HEADER_BYTES, SECTOR_BYTES};
 
-pub(super) struct Draft<'image>(&'image mut [u8]);
+/// The numbers of the sectors that a call writes, in their order, none of them twice.
+pub type Writes = Vec<usize>;
+
+pub(super) struct Draft<'image> {
+    image: &'image mut [u8],
+    writes: Writes,
+}
 
 impl<'image> Draft<'image> {
     pub(super) fn new(image: &'image mut [u8]) -> Self {
-        Draft(image)
+        Draft { image, writes: Writes::new() }
     }
 
+    /// The sectors that were come to.
+    pub(super) fn writes(self) -> Writes {
+        self.writes
+    }
+
+    /// A sector to be changed. Whether any byte of it is then another is all one.
     pub(super) fn sector(&mut self, number: usize) -> &mut Sector {
-        let sector = &mut self.0[SECTOR_BYTES * number..][..SECTOR_BYTES];
+        if !self.writes.contains(&number) {
+            self.writes.push(number);
+        }
+        let sector = &mut self.image[SECTOR_BYTES * number..][..SECTOR_BYTES];
         sector.try_into().expect("256 bytes")
     }
 
@@ -20,6 +36,10 @@ impl<'image> Draft<'image> {
 
     pub(super) fn give_back(&mut self, sector: usize) {
         self.sector(0)[56 + sector / 8] &= !(1 << (sector % 8));
+    }
+
+    pub(super) fn set_map(&mut self, map: &[u8]) {
+        self.sector(0)[56..].copy_from_slice(map);
     }
 
     /// Lists a file that the index in a sector does not have, at the place that its name has in the
@@ -38,13 +58,26 @@ impl<'image> Draft<'image> {
         self.set_listed(index, &numbers);
     }
 
+    /// Lists a file of the index at the place that its name has in the order now.
+    pub(super) fn list_anew(&mut self, index: usize, number: usize) {
+        self.unlist(index, number);
+        self.list(index, number);
+    }
+
+    /// Orders an index by the names.
+    pub(super) fn sort(&mut self, index: usize) {
+        let mut numbers = self.listed(index);
+        numbers.sort_by_key(|number| self.name(*number));
+        self.set_listed(index, &numbers);
+    }
+
     /// The name in a descriptor.
     fn name(&self, number: usize) -> Name {
-        self.0[SECTOR_BYTES * number..][..10].try_into().expect("ten bytes")
+        self.image[SECTOR_BYTES * number..][..10].try_into().expect("ten bytes")
     }
 
     fn listed(&self, index: usize) -> Vec<usize> {
-        let pairs = self.0[SECTOR_BYTES * index..][..SECTOR_BYTES].chunks_exact(2);
+        let pairs = self.image[SECTOR_BYTES * index..][..SECTOR_BYTES].chunks_exact(2);
         let numbers = pairs.map(|pair| usize::from(u16::from_be_bytes([pair[0], pair[1]])));
         numbers.take_while(|number| *number != 0).collect()
     }

@@ -6,22 +6,49 @@ use super::refusal::{holds, Refusal};
 use super::volume::{Block, Chain, Descriptor, Directory, Volume};
 use super::volume::{MOST_SECTORS, SECTOR_BYTES};
 use crate::layout::Layout;
+use std::collections::BTreeSet;
 
 /// The sound volume that an image is, or the first refusal in the paper's order.
 pub fn judge(image: &[u8], layout: Layout) -> Result<Volume<'_>, Refusal> {
-    let volume = judge_length(image, layout)?;
-    judge_label(volume)?;
-    judge_entries(volume)?;
-    volume.directories().try_for_each(|directory| judge_index(directory, volume.sectors()))?;
+    let volume = judge_system(image, layout)?;
     judge_descriptors(volume, layout)?;
     let marks = judge_holders(volume)?;
     judge_map(volume, marks)?;
     Ok(volume)
 }
 
+/// The volume that an image is but for the order of names and the map, and which of its sectors are
+/// held; or the first refusal, where neither would help.
+pub(super) fn judge_to_repair(
+    image: &[u8],
+    layout: Layout,
+) -> Result<(Volume<'_>, Marks), Refusal> {
+    let volume = judge_system(image, layout)?;
+    judge_descriptors_in_any_order(volume, layout)?;
+    let marks = judge_holders(volume)?;
+    Ok((volume, marks))
+}
+
+/// Numbers 1 to 3.
+fn judge_system(image: &[u8], layout: Layout) -> Result<Volume<'_>, Refusal> {
+    let volume = judge_length(image, layout)?;
+    judge_label(volume)?;
+    judge_entries(volume)?;
+    volume.directories().try_for_each(|directory| judge_index(directory, volume.sectors()))?;
+    Ok(volume)
+}
+
 /// The paper's number for an image.
 pub fn number(image: &[u8], layout: Layout) -> u32 {
     match judge(image, layout) {
+        Ok(_) => 0,
+        Err(refusal) => refusal.number(),
+    }
+}
+
+/// The number that a repair gives for an image.
+pub fn number_to_repair(image: &[u8], layout: Layout) -> u32 {
+    match judge_to_repair(image, layout) {
         Ok(_) => 0,
         Err(refusal) => refusal.number(),
     }
@@ -82,6 +109,20 @@ fn judge_descriptors(volume: Volume, layout: Layout) -> Result<(), Refusal> {
     Ok(())
 }
 
+/// The same where the names of an index may stand in any order: they only have to differ.
+fn judge_descriptors_in_any_order(volume: Volume, layout: Layout) -> Result<(), Refusal> {
+    let allowed = allowed_bits(layout);
+    for directory in volume.directories() {
+        let mut names = BTreeSet::new();
+        for (_, descriptor) in directory.files() {
+            let rule = names.insert(descriptor.name())
+                && is_descriptor(descriptor, volume.sectors(), allowed);
+            holds(rule, Refusal::Descriptor)?;
+        }
+    }
+    Ok(())
+}
+
 fn is_descriptor(descriptor: Descriptor, sectors: usize, allowed: u8) -> bool {
     is_name(descriptor.name())
         && is_status(descriptor, allowed)
@@ -126,9 +167,19 @@ fn is_block(block: Block, sectors: usize) -> bool {
 }
 
 /// Which sectors are claimed.
-struct Marks([bool; MOST_SECTORS]);
+pub(super) struct Marks([bool; MOST_SECTORS]);
 
 impl Marks {
+    /// The bytes of the map that calls these sectors taken, and those from n on.
+    pub(super) fn map(mut self, sectors: usize) -> [u8; MOST_SECTORS / 8] {
+        self.0[sectors..].fill(true);
+        let mut map = [0; MOST_SECTORS / 8];
+        for (byte, marked) in map.iter_mut().zip(self.0.chunks_exact(8)) {
+            *byte = marked.iter().rev().fold(0, |byte, marked| 2 * byte + u8::from(*marked));
+        }
+        map
+    }
+
     fn claim(&mut self, sector: usize) -> Result<(), Refusal> {
         let claimed = std::mem::replace(&mut self.0[sector], true);
         holds(!claimed, Refusal::TwoHolders)

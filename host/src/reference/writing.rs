@@ -1,8 +1,9 @@
 //! The calls that change an image. Each finds out first whether it is refused, in the order of the
-//! paper's table, and only then touches a byte.
+//! paper's table, and only then touches a byte: sector by sector, in the order of writing, which it
+//! gives.
 
 use super::choice::{grow, Free};
-use super::draft::{set_chain, Draft};
+use super::draft::{set_chain, Draft, Writes};
 use super::judge::judge;
 use super::name::{given_name, lent_name};
 use super::reading::{find, named, opened};
@@ -22,7 +23,7 @@ pub fn create(
     status: u8,
     record_length: u8,
     records_per_sector: u8,
-) -> Result<(), Refusal> {
+) -> Result<Writes, Refusal> {
     let volume = judge(image, layout)?;
     let (directory, name) = new_name(volume, directory, name)?;
     holds([0x00, 0x02, 0x80, 0x82].contains(&status), Refusal::Argument)?;
@@ -33,8 +34,11 @@ pub fn create(
     let mut descriptor = described(name, status | mark(layout));
     descriptor[13] = records_per_sector;
     descriptor[17] = record_length;
-    add(Draft::new(image), index, number, &descriptor);
-    Ok(())
+    let mut draft = Draft::new(image);
+    *draft.sector(number) = descriptor;
+    draft.take(number);
+    draft.list(index, number);
+    Ok(draft.writes())
 }
 
 /// A program of the given bytes, the rest of its last sector zero.
@@ -44,7 +48,7 @@ pub fn store(
     directory: usize,
     name: &[u8],
     bytes: &[u8],
-) -> Result<(), Refusal> {
+) -> Result<Writes, Refusal> {
     let volume = judge(image, layout)?;
     let (directory, name) = new_name(volume, directory, name)?;
     holds(bytes.len() <= MOST_PROGRAM_BYTES, Refusal::Argument)?;
@@ -64,13 +68,15 @@ pub fn store(
     descriptor[16] = (bytes.len() % SECTOR_BYTES) as u8;
     set_chain(&mut descriptor, &blocks);
     let mut draft = Draft::new(image);
+    let places = || blocks.iter().copied().flat_map(Block::places);
     let mut content = bytes.iter().copied().chain(std::iter::repeat(0));
-    for place in blocks.into_iter().flat_map(Block::places) {
+    for place in places() {
         draft.sector(place).fill_with(|| content.next().unwrap_or(0));
-        draft.take(place);
     }
-    add(draft, index, number, &descriptor);
-    Ok(())
+    *draft.sector(number) = descriptor;
+    places().chain([number]).for_each(|taken| draft.take(taken));
+    draft.list(index, number);
+    Ok(draft.writes())
 }
 
 /// One sector more for a data file.
@@ -80,7 +86,7 @@ pub fn append(
     directory: usize,
     name: &[u8],
     data: &[u8],
-) -> Result<(), Refusal> {
+) -> Result<Writes, Refusal> {
     let volume = judge(image, layout)?;
     let (number, descriptor) = find(volume, directory, name)?;
     is_writable_data(descriptor)?;
@@ -91,11 +97,11 @@ pub fn append(
     holds(blocks.len() <= MOST_BLOCKS, Refusal::ChainFull)?;
 
     let mut draft = Draft::new(image);
-    set_chain(draft.sector(number), &blocks);
-    draft.sector(number)[12] |= mark(layout);
     *draft.sector(place) = *data;
     draft.take(place);
-    Ok(())
+    set_chain(draft.sector(number), &blocks);
+    draft.sector(number)[12] |= mark(layout);
+    Ok(draft.writes())
 }
 
 /// Other bytes for one sector of a data file.
@@ -106,7 +112,7 @@ pub fn overwrite(
     name: &[u8],
     offset: usize,
     data: &[u8],
-) -> Result<(), Refusal> {
+) -> Result<Writes, Refusal> {
     let volume = judge(image, layout)?;
     let (number, descriptor) = find(volume, directory, name)?;
     is_writable_data(descriptor)?;
@@ -114,9 +120,11 @@ pub fn overwrite(
     let data = one_sector(data)?;
 
     let mut draft = Draft::new(image);
-    draft.sector(number)[12] |= mark(layout);
+    if layout.marks {
+        draft.sector(number)[12] |= Descriptor::MARKED;
+    }
     *draft.sector(place) = *data;
-    Ok(())
+    Ok(draft.writes())
 }
 
 /// The sectors of a deleted file keep their bytes.
@@ -125,7 +133,7 @@ pub fn delete(
     layout: Layout,
     directory: usize,
     name: &[u8],
-) -> Result<(), Refusal> {
+) -> Result<Writes, Refusal> {
     let volume = judge(image, layout)?;
     let name = given_name(name)?;
     let directory = opened(volume, directory)?;
@@ -138,7 +146,7 @@ pub fn delete(
     draft.unlist(index, number);
     draft.give_back(number);
     places.into_iter().for_each(|place| draft.give_back(place));
-    Ok(())
+    Ok(draft.writes())
 }
 
 pub fn rename(
@@ -147,7 +155,7 @@ pub fn rename(
     directory: usize,
     old: &[u8],
     new: &[u8],
-) -> Result<(), Refusal> {
+) -> Result<Writes, Refusal> {
     let volume = judge(image, layout)?;
     let old = lent_name(old).map_err(|place| Refusal::OldName { place })?;
     let new = lent_name(new).map_err(|place| Refusal::NewName { place })?;
@@ -158,11 +166,10 @@ pub fn rename(
     let index = directory.sector();
 
     let mut draft = Draft::new(image);
-    draft.unlist(index, number);
     draft.sector(number)[..10].copy_from_slice(new);
     draft.sector(number)[12] |= mark(layout);
-    draft.list(index, number);
-    Ok(())
+    draft.list_anew(index, number);
+    Ok(draft.writes())
 }
 
 pub fn protect(
@@ -170,10 +177,11 @@ pub fn protect(
     layout: Layout,
     directory: usize,
     name: &[u8],
-) -> Result<(), Refusal> {
+) -> Result<Writes, Refusal> {
     let (number, _) = find(judge(image, layout)?, directory, name)?;
-    Draft::new(image).sector(number)[12] |= Descriptor::PROTECTED;
-    Ok(())
+    let mut draft = Draft::new(image);
+    draft.sector(number)[12] |= Descriptor::PROTECTED;
+    Ok(draft.writes())
 }
 
 pub fn unprotect(
@@ -181,10 +189,11 @@ pub fn unprotect(
     layout: Layout,
     directory: usize,
     name: &[u8],
-) -> Result<(), Refusal> {
+) -> Result<Writes, Refusal> {
     let (number, _) = find(judge(image, layout)?, directory, name)?;
-    Draft::new(image).sector(number)[12] &= !Descriptor::PROTECTED;
-    Ok(())
+    let mut draft = Draft::new(image);
+    draft.sector(number)[12] &= !Descriptor::PROTECTED;
+    Ok(draft.writes())
 }
 
 /// There is a mark to clear by the new rule alone, so that is gone by, in the edition asked for.
@@ -193,10 +202,11 @@ pub fn clear_mark(
     layout: Layout,
     directory: usize,
     name: &[u8],
-) -> Result<(), Refusal> {
+) -> Result<Writes, Refusal> {
     let (number, _) = find(judge(image, layout.with_marks())?, directory, name)?;
-    Draft::new(image).sector(number)[12] &= !Descriptor::MARKED;
-    Ok(())
+    let mut draft = Draft::new(image);
+    draft.sector(number)[12] &= !Descriptor::MARKED;
+    Ok(draft.writes())
 }
 
 /// The bit that says of a file that was made or changed just now that it was, where one does.
@@ -243,10 +253,4 @@ fn described(name: &Name, status: u8) -> Sector {
     descriptor[..10].copy_from_slice(name);
     descriptor[12] = status;
     descriptor
-}
-
-fn add(mut draft: Draft, index: usize, number: usize, descriptor: &Sector) {
-    *draft.sector(number) = *descriptor;
-    draft.take(number);
-    draft.list(index, number);
 }

@@ -10,7 +10,7 @@ use crate::random::Random;
 use crate::reference;
 use crate::table::arguments::four_bytes;
 use crate::table::plan::is_good;
-use crate::table::{self, calls_in, Arguments, Call, Desk, Given, Meeting, Mood};
+use crate::table::{self, calls_in, Arguments, Call, Desk, Given, Meeting, Mood, Rules};
 use crate::table::{EVEN, FILLING, FORMAT, LAYOUTS_MET, NONE, NUMBERS, SINGLE, WEARING};
 use crate::tally::Tally;
 use crate::volumes::{names, Disk, Name, SECTOR_BYTES};
@@ -86,8 +86,8 @@ fn new_tally() -> Tally {
     let looks = calls_in(EVEN).filter_map(|call| call.writing()?.look.as_ref());
     tally.mean(looks.map(|(what, _)| *what).chain([SEQUENCES]));
     tally.reach((FORMAT.title, FORMAT.layouts(), FORMAT.numbers()));
-    let read: Vec<u32> =
-        calls_in(SINGLE).filter(|call| call.is_judging()).flat_map(|call| call.numbers()).collect();
+    let read = calls_in(SINGLE).filter(|call| call.reading().is_some());
+    let read: Vec<u32> = read.flat_map(|call| call.numbers()).collect();
     let is_given = |number: &u32| read.contains(number);
     tally.reach((READING, &Layout::ALL, NUMBERS.into_iter().filter(is_given).collect()));
     tally
@@ -171,8 +171,11 @@ impl Steps<'_> {
             let (layout, directory) = (self.layout, 0);
             let desk = Desk { disk, layout, directory, image_bytes, pool: &self.pool };
             let (call, arguments) = table::any(mood, &desk, self.random);
-            // Too much formatting would leave no disk time to wear.
-            if !self.is_wiping(call, &arguments) || self.random.once_in(8) {
+            // Too much formatting would leave no disk time to wear, and too much repairing no
+            // unsound image time to be refused.
+            let is_left = self.is_wiping(call, &arguments) && !self.random.once_in(8)
+                || self.is_mending(call) && !self.random.once_in(3);
+            if !is_left {
                 self.step(call, &arguments)?;
             }
         }
@@ -185,6 +188,12 @@ impl Steps<'_> {
             && self.is_sound()
             && arguments.at == self.sequence.disk.sectors
             && is_good(&arguments.name)
+    }
+
+    /// Whether the call would make a sound volume of an image that is none.
+    fn is_mending(&self, call: &Call) -> bool {
+        let is_done = self.sequence.repaired(self.layout) == Some(0);
+        matches!(call.rules, Rules::ToRepair) && is_done && !self.is_sound()
     }
 
     /// The call, and often a look at what it wrote.

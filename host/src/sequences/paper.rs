@@ -204,7 +204,8 @@ impl Bench<'_> {
         let mut shown = self.create(&mut sequence, "NOTES", 0x80)? == 0;
         let mut image = sequence.disk.image.clone();
         image[2 * SECTOR_BYTES + 12] = 0x90;
-        for call in CALLS.iter().filter(|call| matches!(call.rules, Rules::AsAsked)) {
+        let goes_by_it = |call: &&&Call| matches!(call.rules, Rules::AsAsked | Rules::ToRepair);
+        for call in CALLS.iter().filter(goes_by_it) {
             sequence.goes_on_with(&image);
             // Ten bytes are what a summary is lent.
             let arguments = Arguments { name: named("NOTES"), room: 10, ..NONE };
@@ -297,7 +298,10 @@ impl Bench<'_> {
             sequence.goes_on_with(&image);
             let arguments = Arguments { name: named("NOTES"), room: 10, ..NONE };
             let number = self.call(&mut sequence, call, arguments)?;
-            shown &= self.layout.directories != (number == 6);
+            // A repair makes the map that of the root.
+            let expected = if matches!(call.rules, Rules::ToRepair) { 0 } else { 6 };
+            shown &= self.layout.directories || number == expected;
+            shown &= !self.layout.directories || number != 6;
         }
         Ok(shown)
     }

@@ -44,6 +44,11 @@ impl Sequence {
         self.numbers.by(layout)
     }
 
+    /// What a repair gives for it.
+    pub(super) fn repaired(&self, layout: Layout) -> Option<u32> {
+        self.numbers.repaired(layout)
+    }
+
     /// The image as it must be.
     pub(super) fn image(&self) -> &[u8] {
         self.unsound.as_ref().unwrap_or(&self.disk.image)
@@ -63,9 +68,9 @@ impl Sequence {
         let image = Image { what: "the image of a sequence", bytes, numbers, planned };
         let case = compared(call, arguments, &image, random)?;
         let (number, asked_by, by) = (case.number, case.asked_by(), case.asked.by);
-        match call.writing() {
-            Some(_) => tally.count(&case),
-            None if call.is_judging() => tally.give(READING, asked_by, number),
+        match call.reading() {
+            Some(_) => tally.give(READING, asked_by, number),
+            None if call.is_changing() => tally.count(&case),
             None => tally.give(call.title, asked_by, number),
         }
         match (case.disk, call.writing()) {

@@ -8,12 +8,14 @@ use crate::table::{Arguments, Writing};
 use crate::volumes::{word, Name, HEADER_BYTES, MOST_DIRECTORIES, SECTOR_BYTES};
 use std::collections::BTreeMap;
 
+#[derive(Clone)]
 pub(crate) struct Shelved {
     pub header: [u8; HEADER_BYTES],
     /// Whole sectors.
     pub bytes: Vec<u8>,
 }
 
+#[derive(Clone)]
 pub(crate) struct Shelf {
     /// By directory and name.
     files: BTreeMap<(usize, Name), Shelved>,
@@ -41,7 +43,7 @@ impl Shelf {
     }
 
     /// Does a call that is done. What the file held is free, and then what it holds is taken.
-    pub(super) fn change(&mut self, writing: &Writing, arguments: &Arguments) {
+    pub(crate) fn change(&mut self, writing: &Writing, arguments: &Arguments) {
         let (directory, name) = (arguments.directory, arguments.name.name());
         let before = self.files.remove(&(directory, name));
         self.free += before.as_ref().map_or(0, Shelved::holds);
@@ -53,6 +55,12 @@ impl Shelf {
             let name = file.header[..10].try_into().expect("ten bytes");
             self.files.insert((directory, name), file);
         }
+    }
+
+    /// The sectors of a file, if there is one of that name in the directory.
+    pub(crate) fn sectors_of(&self, directory: usize, name: Name) -> Option<Vec<&[u8]>> {
+        let file = self.files.get(&(directory, name))?;
+        Some(file.bytes.chunks(SECTOR_BYTES).collect())
     }
 
     /// Whether the reference finds just this on an image, which is sound by the layout.

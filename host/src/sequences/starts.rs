@@ -127,7 +127,7 @@ pub(crate) fn damaged(disk: &Disk, layout: Layout, random: &mut Random) -> Resul
     let wanted = random.within(1..=6) as u32;
     let by_chance = random.once_in(8);
     let mut changes = damage.changes;
-    changes.retain(|change| match change.number {
+    changes.retain(|change| match change.own.judged {
         Some(number) => number == wanted && !by_chance,
         None => by_chance,
     });
@@ -135,14 +135,14 @@ pub(crate) fn damaged(disk: &Disk, layout: Layout, random: &mut Random) -> Resul
     if changes.is_empty() {
         return Ok(image);
     }
-    let Change { what, number, edits, length, .. } = &changes[random.below(changes.len())];
+    let Change { what, own, edits, length, .. } = &changes[random.below(changes.len())];
     image.resize((*length).max(image.len()), 0);
     for edit in edits {
         image[edit.at..][..edit.bytes.len()].copy_from_slice(&edit.bytes);
     }
     image.truncate(*length);
     let found = reference::number(&image, disk.layout());
-    if number.map_or(true, |number| number == found) {
+    if own.judged.map_or(true, |number| number == found) {
         Ok(image)
     } else {
         Err(format!("the reference gives {} for \"{}\" on a worn disk", found, what))

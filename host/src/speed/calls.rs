@@ -3,10 +3,11 @@
 use super::row::{self, Row};
 use super::volume::Volume;
 use super::{is_held, ratio, Table};
-use crate::table::CALLS;
+use crate::table::{Call, Rules, CALLS};
 
-/// What the library may take, as a multiple of the reference.
+/// What the library may take, as a multiple of the reference, and what it may for a repair.
 const BOUND: f64 = 2.0;
+const BOUND_OF_REPAIR: f64 = 1.5;
 
 pub(super) const TABLE: Table = Table {
     name: "calls",
@@ -30,6 +31,13 @@ fn rows() -> Vec<Row> {
     rows
 }
 
+fn bound(call: &Call) -> f64 {
+    match call.rules {
+        Rules::ToRepair => BOUND_OF_REPAIR,
+        _ => BOUND,
+    }
+}
+
 fn write(figures: &[Vec<f64>]) -> Vec<String> {
     println!("| Call | Volume (instructions a call) | Library | Reference | Ratio |");
     println!("|---|---|---:|---:|---:|");
@@ -40,7 +48,7 @@ fn write(figures: &[Vec<f64>]) -> Vec<String> {
         let ratio = ratio(library, reference, held);
         let (call, volume) = (row.call_title(), row.volume.what);
         println!("| {} | {} | {:.0} | {:.0} | {} |", call, volume, library, reference, ratio);
-        if held && library > BOUND * reference {
+        if held && library > bound(row.call) * reference {
             missed.push(row.title());
         }
     }

@@ -53,6 +53,11 @@ pub(crate) enum Before {
     /// A data file without the sector that the call is to add.
     LacksHighest,
     LacksLowest,
+    /// A data file that has a name before all others, and its old place in the index: a rename that was
+    /// cut short.
+    Renamed,
+    /// A data file, all numbers of the index being in the opposite order.
+    Reversed,
 }
 
 /// A volume as it was built, and what a call may be asked with on it.
@@ -122,7 +127,8 @@ impl Volume {
         let file = files.pop().expect("the called file");
         let called = file.name();
         files.extend(self.before.of(file));
-        let disk = Disk::of_files(self.sectors, files, random);
+        let mut disk = Disk::of_files(self.sectors, files, random);
+        self.before.disorder(&mut disk, unused);
         Full { disk, called, unused, room: self.called.sectors }
     }
 
@@ -167,7 +173,7 @@ impl Before {
         file.header[12] = 0x00;
         let start = |run: &&mut Run| run.start;
         match self {
-            Before::Data => {}
+            Before::Data | Before::Renamed | Before::Reversed => {}
             Before::Marked => file.header[12] = MARK,
             Before::Program => {
                 file.header[12] = 0x01;
@@ -186,5 +192,21 @@ impl Before {
         file.runs.retain(|run| run.length > 0);
         file.set_count(file.sectors().count());
         Some(file)
+    }
+
+    /// Leaves the index of the root out of order, where it is to be so.
+    fn disorder(self, disk: &mut Disk, unused: Name) {
+        let last = disk.files.last().map_or(0, |file| file.descriptor);
+        let index = &mut disk.image[SECTOR_BYTES..][..2 * disk.files.len()];
+        match self {
+            Before::Renamed => {
+                disk.image[SECTOR_BYTES * last..][..10].copy_from_slice(&unused);
+            }
+            Before::Reversed => {
+                index.reverse();
+                index.chunks_mut(2).for_each(|number| number.reverse());
+            }
+            _ => {}
+        }
     }
 }

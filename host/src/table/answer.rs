@@ -1,6 +1,7 @@
 //! What a call gives where it is done, and what it says of a name where that is wrong.
 
-use crate::reference::{Entry, Refusal, Row, Sector, Summary};
+use super::Call;
+use crate::reference::{Entry, Refusal, Row, Sector, Summary, Writes};
 use std::fmt::Display;
 
 /// What goes into the lent memory beside the image: bytes from the start of the buffer on, and the
@@ -12,6 +13,8 @@ pub(crate) struct Written {
     /// With number 7 the place where a name is wrong, and of a call that takes two which it is.
     pub which: Option<usize>,
     pub wrong: Option<usize>,
+    /// Of a call that says which sectors it writes: their numbers, none where it is refused.
+    pub writes: Option<Writes>,
 }
 
 impl Written {
@@ -24,15 +27,25 @@ impl Written {
         Written::new(bytes, &[bytes.len()])
     }
 
+    /// What a call that is done says of the sectors that it writes.
+    pub(super) fn changed(writes: Writes) -> Self {
+        Written { writes: Some(writes), ..Written::default() }
+    }
+
+    /// What a call that is refused has written, beside what it says of a name.
+    pub(super) fn nothing(call: &Call) -> Self {
+        Written { writes: call.is_changing().then(Writes::new), ..Written::default() }
+    }
+
     /// What a call has written that the reference refuses.
-    pub(super) fn refused(refusal: Refusal) -> Self {
+    pub(super) fn refused(call: &Call, refusal: Refusal) -> Self {
         let (which, wrong) = match refusal {
             Refusal::Name { place } => (None, Some(place)),
             Refusal::OldName { place } => (Some(0), Some(place)),
             Refusal::NewName { place } => (Some(1), Some(place)),
             _ => (None, None),
         };
-        Written { which, wrong, ..Written::default() }
+        Written { which, wrong, ..Written::nothing(call) }
     }
 }
 
@@ -40,6 +53,8 @@ impl Written {
 /// copying of it.
 pub(crate) enum Answer<'asked> {
     Done,
+    /// With the sectors that are written.
+    Changed(Writes),
     Number(usize),
     Summary(Summary),
     Entry(Entry),
@@ -54,6 +69,7 @@ impl Answer<'_> {
     pub(crate) fn written(&self) -> Written {
         match self {
             Answer::Done => Written::default(),
+            Answer::Changed(writes) => Written::changed(writes.clone()),
             Answer::Number(number) => Written::new(&[], &[*number]),
             Answer::Summary(Summary { disk_name, sectors, files, free_sectors }) => {
                 Written::new(disk_name, &[*sectors, *files, *free_sectors])

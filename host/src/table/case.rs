@@ -67,7 +67,7 @@ pub(crate) fn compared<'case>(
     let (mut of_host, mut expected) = (lent.clone(), lent.clone());
     let (number, written) = match (call.by_reference)(expected.image.lent(), arguments) {
         Ok(answer) => (0, answer.written()),
-        Err(refusal) => (refusal.number(), Written::refused(refusal)),
+        Err(refusal) => (refusal.number(), Written::refused(call, refusal)),
     };
     expected.write(&written);
     let agreed = planned.as_ref().map_or(true, |planned| {
@@ -83,6 +83,7 @@ pub(crate) fn compared<'case>(
             if let Refusal::Name { place } = refusal {
                 *of_host.lent().wrong = place;
             }
+            of_host.write(&Written::nothing(call));
             refusal.number()
         }
     });
@@ -110,11 +111,14 @@ fn told(planned: &Planned, agreed: bool) -> String {
 }
 
 fn describe(number: u32, written: &Written) -> String {
-    let Written { bytes, numbers, which, wrong } = written;
+    let Written { bytes, numbers, which, wrong, writes } = written;
     let first = &bytes[..bytes.len().min(8)];
-    match number {
-        0 => format!("0 with {} bytes {:?}.. and numbers {:?}", bytes.len(), first, numbers),
-        7 => format!("7 with which {:?} and wrong {:?}", which, wrong),
+    match (number, writes) {
+        (0, Some(writes)) => format!("0 with writes of {:?}", writes),
+        (0, None) => {
+            format!("0 with {} bytes {:?}.. and numbers {:?}", bytes.len(), first, numbers)
+        }
+        (7, _) => format!("7 with which {:?} and wrong {:?}", which, wrong),
         _ => number.to_string(),
     }
 }

@@ -4,9 +4,9 @@ use super::arguments::malformed;
 use super::plan::protected;
 use super::plan::{absent, bad_name, called, find, is_elsewhere, is_good, is_protected, mark};
 use super::sectors::{is_of_several, is_on_marked};
-use super::{Answer, Arguments, Call, Case, Often, Plan, Rules, Writing, NONE};
+use super::{Answer, Arguments, Call, Case, Often, Part, Plan, Rules, Writing, NONE};
 use crate::layout::Layout;
-use crate::library::ask;
+use crate::library::{as_changes, ask};
 use crate::speed::{volume, Before, Measured, Volume, ALL, MANY, ONE, PIECES};
 use crate::volumes::{Disk, File, MARK};
 use crate::{pnoelithe, reference};
@@ -25,15 +25,24 @@ pub(crate) static DELETE: Call = Call {
     },
     by_library: |lent, asked| {
         let (layout, directory) = (asked.layout_bits, asked.directory);
-        ask!(pno_delete, [lent.image], layout, directory, [lent.name], lent.wrong)
+        ask!(
+            pno_delete,
+            [lent.image],
+            layout,
+            directory,
+            [lent.name],
+            lent.wrong,
+            as_changes(lent.changes)
+        )
     },
     by_host: |lent, asked| {
         let (layout, directory) = (asked.layout_for_host(), asked.directory);
-        pnoelithe::delete(lent.image, layout, directory, lent.name)
+        let changed = pnoelithe::delete(lent.image, layout, directory, lent.name);
+        lent.lay(changed)
     },
     by_reference: |image, asked| {
-        reference::delete(image, asked.layout(), asked.directory, asked.name.lent())?;
-        Ok(Answer::Done)
+        reference::delete(image, asked.layout(), asked.directory, asked.name.lent())
+            .map(Answer::Changed)
     },
     by_plan: Plan::Writes(Writing {
         on_disk: |disk, asked| {
@@ -41,6 +50,8 @@ pub(crate) static DELETE: Call = Call {
             disk.files.retain(|file| file.place() != place);
         },
         on_shelf: |_, _| None,
+        order: &[Part::Index, Part::Map],
+        decided_by: Part::Index,
         look: None,
     }),
     met: &[
@@ -97,23 +108,24 @@ pub(crate) static RENAME: Call = Call {
             [lent.name],
             [lent.other],
             lent.which,
-            lent.wrong
+            lent.wrong,
+            as_changes(lent.changes)
         )
     },
     by_host: |lent, asked| {
         let (layout, directory) = (asked.layout_for_host(), asked.directory);
         let renamed = pnoelithe::rename(lent.image, layout, directory, lent.name, lent.other);
-        renamed.map_err(|pnoelithe::RenameRefusal { refusal, which }| {
+        let changed = renamed.map_err(|pnoelithe::RenameRefusal { refusal, which }| {
             if let Some(which) = which {
                 *lent.which = which as usize;
             }
             refusal
-        })
+        });
+        lent.lay(changed)
     },
     by_reference: |image, asked| {
         let (old, new) = (asked.name.lent(), asked.other.lent());
-        reference::rename(image, asked.layout(), asked.directory, old, new)?;
-        Ok(Answer::Done)
+        reference::rename(image, asked.layout(), asked.directory, old, new).map(Answer::Changed)
     },
     by_plan: Plan::Writes(Writing {
         on_disk: |disk, asked| {
@@ -125,6 +137,8 @@ pub(crate) static RENAME: Call = Call {
             file.header[..10].copy_from_slice(asked.other.lent());
             Some(file.changed(asked))
         },
+        order: &[Part::Descriptor, Part::Index],
+        decided_by: Part::Descriptor,
         look: None,
     }),
     met: &[
@@ -160,15 +174,24 @@ pub(crate) static PROTECT: Call = Call {
     any: |desk, random| Arguments { name: desk.present(|_| true, random), ..NONE },
     by_library: |lent, asked| {
         let (layout, directory) = (asked.layout_bits, asked.directory);
-        ask!(pno_protect, [lent.image], layout, directory, [lent.name], lent.wrong)
+        ask!(
+            pno_protect,
+            [lent.image],
+            layout,
+            directory,
+            [lent.name],
+            lent.wrong,
+            as_changes(lent.changes)
+        )
     },
     by_host: |lent, asked| {
         let (layout, directory) = (asked.layout_for_host(), asked.directory);
-        pnoelithe::protect(lent.image, layout, directory, lent.name)
+        let changed = pnoelithe::protect(lent.image, layout, directory, lent.name);
+        lent.lay(changed)
     },
     by_reference: |image, asked| {
-        reference::protect(image, asked.layout(), asked.directory, asked.name.lent())?;
-        Ok(Answer::Done)
+        reference::protect(image, asked.layout(), asked.directory, asked.name.lent())
+            .map(Answer::Changed)
     },
     by_plan: Plan::Writes(Writing {
         on_disk: |disk, asked| called(disk, asked).header[12] |= 0x08,
@@ -176,6 +199,8 @@ pub(crate) static PROTECT: Call = Call {
             file.header[12] |= 0x08;
             Some(file)
         },
+        order: &[Part::Descriptor],
+        decided_by: Part::Descriptor,
         look: None,
     }),
     met: &[
@@ -201,15 +226,24 @@ pub(crate) static UNPROTECT: Call = Call {
     any: |desk, random| Arguments { name: desk.present(is_protected, random), ..NONE },
     by_library: |lent, asked| {
         let (layout, directory) = (asked.layout_bits, asked.directory);
-        ask!(pno_unprotect, [lent.image], layout, directory, [lent.name], lent.wrong)
+        ask!(
+            pno_unprotect,
+            [lent.image],
+            layout,
+            directory,
+            [lent.name],
+            lent.wrong,
+            as_changes(lent.changes)
+        )
     },
     by_host: |lent, asked| {
         let (layout, directory) = (asked.layout_for_host(), asked.directory);
-        pnoelithe::unprotect(lent.image, layout, directory, lent.name)
+        let changed = pnoelithe::unprotect(lent.image, layout, directory, lent.name);
+        lent.lay(changed)
     },
     by_reference: |image, asked| {
-        reference::unprotect(image, asked.layout(), asked.directory, asked.name.lent())?;
-        Ok(Answer::Done)
+        reference::unprotect(image, asked.layout(), asked.directory, asked.name.lent())
+            .map(Answer::Changed)
     },
     by_plan: Plan::Writes(Writing {
         on_disk: |disk, asked| called(disk, asked).header[12] &= !0x08,
@@ -217,6 +251,8 @@ pub(crate) static UNPROTECT: Call = Call {
             file.header[12] &= 0xF7;
             Some(file)
         },
+        order: &[Part::Descriptor],
+        decided_by: Part::Descriptor,
         look: None,
     }),
     met: &[
@@ -239,15 +275,24 @@ pub(crate) static CLEAR_MARK: Call = Call {
     any: |desk, random| Arguments { name: desk.present(File::is_marked, random), ..NONE },
     by_library: |lent, asked| {
         let (layout, directory) = (asked.layout_bits, asked.directory);
-        ask!(pno_clear_mark, [lent.image], layout, directory, [lent.name], lent.wrong)
+        ask!(
+            pno_clear_mark,
+            [lent.image],
+            layout,
+            directory,
+            [lent.name],
+            lent.wrong,
+            as_changes(lent.changes)
+        )
     },
     by_host: |lent, asked| {
         let (layout, directory) = (asked.layout_for_host(), asked.directory);
-        pnoelithe::clear_mark(lent.image, layout, directory, lent.name)
+        let changed = pnoelithe::clear_mark(lent.image, layout, directory, lent.name);
+        lent.lay(changed)
     },
     by_reference: |image, asked| {
-        reference::clear_mark(image, asked.layout(), asked.directory, asked.name.lent())?;
-        Ok(Answer::Done)
+        reference::clear_mark(image, asked.layout(), asked.directory, asked.name.lent())
+            .map(Answer::Changed)
     },
     by_plan: Plan::Writes(Writing {
         on_disk: |disk, asked| called(disk, asked).header[12] &= !MARK,
@@ -255,6 +300,8 @@ pub(crate) static CLEAR_MARK: Call = Call {
             file.header[12] &= 0xEF;
             Some(file)
         },
+        order: &[Part::Descriptor],
+        decided_by: Part::Descriptor,
         look: None,
     }),
     met: &[

@@ -2,10 +2,10 @@
 
 use super::plan::{bad_name, fill, full_index, grown, is_named_twice, is_too_long, mark};
 use super::plan::{no_directory, present};
-use super::{Answer, Arguments, Asked, Call, Case, Given, Often, Plan, Rules, Writing};
+use super::{Answer, Arguments, Asked, Call, Case, Given, Often, Part, Plan, Rules, Writing};
 use super::{LOAD, NONE};
 use crate::layout::Layout;
-use crate::library::ask;
+use crate::library::{as_changes, ask};
 use crate::speed::{volume, Before, Measured, Volume};
 use crate::volumes::{Disk, File, Run, HEADER_BYTES, MARK, SECTOR_BYTES};
 use crate::volumes::{MOST_BLOCKS, MOST_FILES};
@@ -59,12 +59,13 @@ pub(crate) static CREATE: Call = Call {
             status,
             record_length,
             records_per_sector,
-            lent.wrong
+            lent.wrong,
+            as_changes(lent.changes)
         )
     },
     by_host: |lent, asked| {
         let [status, record_length, records_per_sector, _] = asked.bytes;
-        pnoelithe::create(
+        let changed = pnoelithe::create(
             lent.image,
             asked.layout_for_host(),
             asked.directory,
@@ -72,7 +73,8 @@ pub(crate) static CREATE: Call = Call {
             status,
             record_length,
             records_per_sector,
-        )
+        );
+        lent.lay(changed)
     },
     by_reference: |image, asked| {
         let [status, record_length, records_per_sector, _] = asked.bytes;
@@ -84,8 +86,8 @@ pub(crate) static CREATE: Call = Call {
             status,
             record_length,
             records_per_sector,
-        )?;
-        Ok(Answer::Done)
+        )
+        .map(Answer::Changed)
     },
     by_plan: Plan::Writes(Writing {
         on_disk: |disk, asked| {
@@ -101,6 +103,8 @@ pub(crate) static CREATE: Call = Call {
             file.header[17] = record_length;
             Some(file.changed(asked))
         },
+        order: &[Part::Descriptor, Part::Map, Part::Index],
+        decided_by: Part::Index,
         look: None,
     }),
     met: &[
@@ -181,16 +185,25 @@ pub(crate) static STORE: Call = Call {
     },
     by_library: |lent, asked| {
         let (layout, directory) = (asked.layout_bits, asked.directory);
-        ask!(pno_store, [lent.image], layout, directory, [lent.name], [lent.other], lent.wrong)
+        ask!(
+            pno_store,
+            [lent.image],
+            layout,
+            directory,
+            [lent.name],
+            [lent.other],
+            lent.wrong,
+            as_changes(lent.changes)
+        )
     },
     by_host: |lent, asked| {
         let (layout, directory) = (asked.layout_for_host(), asked.directory);
-        pnoelithe::store(lent.image, layout, directory, lent.name, lent.other)
+        let changed = pnoelithe::store(lent.image, layout, directory, lent.name, lent.other);
+        lent.lay(changed)
     },
     by_reference: |image, asked| {
         let (name, bytes) = (asked.name.lent(), asked.other.lent());
-        reference::store(image, asked.layout(), asked.directory, name, bytes)?;
-        Ok(Answer::Done)
+        reference::store(image, asked.layout(), asked.directory, name, bytes).map(Answer::Changed)
     },
     by_plan: Plan::Writes(Writing {
         on_disk: |disk, asked| {
@@ -211,6 +224,8 @@ pub(crate) static STORE: Call = Call {
             }
             Some(file.changed(asked))
         },
+        order: &[Part::Data, Part::Descriptor, Part::Map, Part::Index],
+        decided_by: Part::Index,
         look: Some(("program loaded that was just stored", |_, asked| {
             let (name, room) = (asked.name.clone(), asked.other.lent().len());
             (&LOAD, Arguments { directory: asked.directory, name, room, ..NONE })

@@ -1,9 +1,10 @@
 //! What a call must do by the plan of a disk, which knows the files and where everything lies. Every
 //! fault is looked for on its own, and the first in the paper's order gives the number. What is
 //! read comes from the plan, the disk name and the sectors of files apart; a call that writes
-//! changes the plan's files, and map, indexes and descriptors are laid down from these anew.
+//! changes the plan's files, and map, indexes and descriptors are laid down from these anew; which
+//! sectors it writes follows from where the file lies then.
 
-use super::{Arguments, Call, Case, Given, Written};
+use super::{Arguments, Call, Case, Given, Rules, Written};
 use crate::layout::Layout;
 use crate::reference;
 use crate::sequences::Shelved;
@@ -20,6 +21,8 @@ pub(crate) enum Plan {
     /// The disk that it makes of an image of so many bytes, whatever they were.
     Formats(fn(usize, &Arguments) -> Disk),
     Writes(Writing),
+    /// The disk that it makes of an image that is one but for the order of names and the map.
+    Repairs(fn(&[u8], Layout) -> Option<Disk>),
 }
 
 pub(crate) struct Reading {
@@ -39,7 +42,53 @@ pub(crate) struct Writing {
     /// The file as the caller knows it: one without bytes where there was none, and none where
     /// there is none then.
     pub on_shelf: fn(Shelved, &Arguments) -> Option<Shelved>,
+    /// What is written through, in this order.
+    pub order: &'static [Part],
+    /// With which of them the files are those after the call.
+    pub decided_by: Part,
     pub look: Option<Look>,
+}
+
+/// What a call writes, of the volume or of the file that it makes or changes.
+#[derive(Clone, Copy, PartialEq, Eq)]
+pub(crate) enum Part {
+    /// Sector 0.
+    Map,
+    /// Of the file's directory.
+    Index,
+    Descriptor,
+    /// The descriptor where there are marks, and else nothing.
+    Mark,
+    /// All sectors of the file, the last one, or the one at the offset.
+    Data,
+    LastOfData,
+    AtOffset,
+}
+
+impl Part {
+    /// The sectors of this, of a file as it lies on a disk.
+    fn sectors(self, disk: &Disk, file: &File, asked: &Arguments) -> Vec<usize> {
+        match self {
+            Part::Map => vec![0],
+            Part::Index => vec![disk.index_of(file.directory)],
+            Part::Descriptor => vec![file.descriptor],
+            Part::Mark if asked.layout().marks => vec![file.descriptor],
+            Part::Mark => vec![],
+            Part::Data => file.sectors().collect(),
+            Part::LastOfData => file.sectors().last().into_iter().collect(),
+            Part::AtOffset => file.sectors().nth(asked.at).into_iter().collect(),
+        }
+    }
+}
+
+/// The sectors that these are, for a call that makes the second disk of the first.
+pub(crate) fn sectors_of(parts: &[Part], disks: [&Disk; 2], asked: &Arguments) -> Vec<usize> {
+    let [before, after] = disks;
+    // Where there is no file of the name any more, it lies as it did.
+    let now = find(after, asked.directory, &asked.name);
+    let file = now.or_else(|| find(before, asked.directory, &asked.name));
+    let file = file.expect("a call without fault has one");
+    parts.iter().flat_map(|part| part.sectors(after, file, asked)).collect()
 }
 
 /// What is often done next, and the call that does it, to look at what was written: on the disk
@@ -66,6 +115,15 @@ impl<'case> Asked<'case> {
     /// The image's own, where it is settled.
     pub(crate) fn number(&self) -> Option<u32> {
         self.image.number(self.by)
+    }
+
+    /// What a call gives for the image, whatever else it is asked with.
+    fn number_by(&self, call: &Call) -> Option<u32> {
+        match call.rules {
+            Rules::None => Some(0),
+            Rules::AsAsked | Rules::OfMarks => self.number(),
+            Rules::ToRepair => self.image.repaired(self.by),
+        }
     }
 
     pub(crate) fn disk(&self) -> Option<&'case Disk> {
@@ -190,9 +248,9 @@ fn misnamed(call: &Call, arguments: &Arguments) -> Written {
     match names.find_map(|(which, name)| Some((which, first_wrong(name)?))) {
         Some((which, place)) => {
             let which = (call.names > 1).then_some(which);
-            Written { which, wrong: Some(place), ..Written::default() }
+            Written { which, wrong: Some(place), ..Written::nothing(call) }
         }
-        None => Written::default(),
+        None => Written::nothing(call),
     }
 }
 
@@ -256,7 +314,7 @@ pub(super) fn fill(disk: &mut Disk, places: impl Iterator<Item = usize>, bytes: 
 
 /// All that is known to be wrong with a call, in the order in which it is tested.
 pub(super) fn faults(call: &Call, asked: &Asked) -> Vec<u32> {
-    let of_image = asked.number().filter(|number| call.is_judging() && *number != 0);
+    let of_image = asked.number_by(call).filter(|number| *number != 0);
     let due = call.tests.iter().filter(|(_, is_due)| is_due(asked));
     of_image.into_iter().chain(due.map(|(number, _)| *number)).collect()
 }
@@ -273,9 +331,13 @@ pub(super) struct Planned {
 pub(super) fn planned(call: &Call, asked: &Asked, faults: &[u32]) -> Option<Planned> {
     let Asked { arguments, image, .. } = asked;
     let number = faults.first().copied().unwrap_or(0);
-    let (mut written, mut disk) = (Written::default(), None);
-    let is_known = asked.disk().is_some() || asked.number().map_or(false, |number| number != 0);
-    if call.is_judging() && !is_known {
+    let (mut written, mut disk) = (Written::nothing(call), None);
+    let is_all_known = match &call.by_plan {
+        Plan::Formats(_) | Plan::Repairs(_) => true,
+        Plan::Reads(_) | Plan::Writes(_) => asked.disk().is_some(),
+    };
+    let of_image = asked.number_by(call);
+    if of_image.is_none() || of_image == Some(0) && !is_all_known {
         return None;
     }
     match (number, &call.by_plan, asked.disk()) {
@@ -289,7 +351,16 @@ pub(super) fn planned(call: &Call, asked: &Asked, faults: &[u32]) -> Option<Plan
             (writing.on_disk)(&mut changed, arguments);
             changed.files.sort_by_key(File::place);
             changed.lay_down();
+            let writes = sectors_of(writing.order, [planned, &changed], arguments);
+            written = Written::changed(writes);
             disk = Some(changed);
+        }
+        (0, Plan::Repairs(repairs), _) => {
+            disk = repairs(image.bytes, asked.by);
+            let indexes = disk
+                .iter()
+                .flat_map(|disk| disk.numbers().into_iter().map(|number| disk.index_of(number)));
+            written = Written::changed(indexes.chain([0]).collect());
         }
         _ => {}
     }
@@ -333,7 +404,8 @@ pub(crate) fn of_image(image: &[u8]) -> Option<Disk> {
 
 /// The numbers of such an image.
 pub(crate) fn numbers_of(image: &[u8]) -> Numbers {
-    Numbers::each(|layout| Some(reference::number(image, layout)))
+    let judged = |layout| Some(reference::number(image, layout));
+    Numbers::each(judged).repaired_by(|layout| Some(reference::number_to_repair(image, layout)))
 }
 
 fn run(block: reference::Block) -> Run {

@@ -4,9 +4,9 @@ use super::arguments::{around, data, given_name, is_open_data};
 use super::making::fills;
 use super::plan::{absent, bad_name, called, fill, find, grown, is_elsewhere, is_named_twice};
 use super::plan::{is_protected, is_too_long, mark, not_a_sector, program, protected};
-use super::{Answer, Arguments, Asked, Call, Case, Often, Plan, Rules, Writing, NONE, READ};
+use super::{Answer, Arguments, Asked, Call, Case, Often, Part, Plan, Rules, Writing, NONE, READ};
 use crate::layout::Layout;
-use crate::library::ask;
+use crate::library::{as_changes, ask};
 use crate::speed::{volume, Before, Measured, Volume, ALL, SECTORS};
 use crate::volumes::{names, Disk, File, Run, MOST_BLOCKS, SECTOR_BYTES};
 use crate::{pnoelithe, reference};
@@ -44,16 +44,25 @@ pub(crate) static APPEND: Call = Call {
     },
     by_library: |lent, asked| {
         let (layout, directory) = (asked.layout_bits, asked.directory);
-        ask!(pno_append, [lent.image], layout, directory, [lent.name], [lent.other], lent.wrong)
+        ask!(
+            pno_append,
+            [lent.image],
+            layout,
+            directory,
+            [lent.name],
+            [lent.other],
+            lent.wrong,
+            as_changes(lent.changes)
+        )
     },
     by_host: |lent, asked| {
         let (layout, directory) = (asked.layout_for_host(), asked.directory);
-        pnoelithe::append(lent.image, layout, directory, lent.name, lent.other)
+        let changed = pnoelithe::append(lent.image, layout, directory, lent.name, lent.other);
+        lent.lay(changed)
     },
     by_reference: |image, asked| {
         let (name, data) = (asked.name.lent(), asked.other.lent());
-        reference::append(image, asked.layout(), asked.directory, name, data)?;
-        Ok(Answer::Done)
+        reference::append(image, asked.layout(), asked.directory, name, data).map(Answer::Changed)
     },
     by_plan: Plan::Writes(Writing {
         on_disk: |disk, asked| {
@@ -69,6 +78,8 @@ pub(crate) static APPEND: Call = Call {
             file.bytes.extend(asked.other.lent());
             Some(file.changed(asked))
         },
+        order: &[Part::LastOfData, Part::Map, Part::Descriptor],
+        decided_by: Part::Descriptor,
         look: Some((READ_BACK, |disk, asked| {
             let file = find(disk, asked.directory, &asked.name);
             let at = file.map_or(0, |file| file.count() - 1);
@@ -145,17 +156,20 @@ pub(crate) static OVERWRITE: Call = Call {
             [lent.name],
             at,
             [lent.other],
-            lent.wrong
+            lent.wrong,
+            as_changes(lent.changes)
         )
     },
     by_host: |lent, asked| {
         let (layout, directory) = (asked.layout_for_host(), asked.directory);
-        pnoelithe::overwrite(lent.image, layout, directory, lent.name, asked.at, lent.other)
+        let changed =
+            pnoelithe::overwrite(lent.image, layout, directory, lent.name, asked.at, lent.other);
+        lent.lay(changed)
     },
     by_reference: |image, asked| {
         let (name, data) = (asked.name.lent(), asked.other.lent());
-        reference::overwrite(image, asked.layout(), asked.directory, name, asked.at, data)?;
-        Ok(Answer::Done)
+        reference::overwrite(image, asked.layout(), asked.directory, name, asked.at, data)
+            .map(Answer::Changed)
     },
     by_plan: Plan::Writes(Writing {
         on_disk: |disk, asked| {
@@ -169,6 +183,8 @@ pub(crate) static OVERWRITE: Call = Call {
             sector.copy_from_slice(asked.other.lent());
             Some(file.changed(asked))
         },
+        order: &[Part::Mark, Part::AtOffset],
+        decided_by: Part::AtOffset,
         look: Some((READ_BACK, |_, asked| (&READ, read_back(asked, asked.at)))),
     }),
     met: &[
