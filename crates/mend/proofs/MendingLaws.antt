@@ -1,7 +1,7 @@
 -- What becomes of an image that was read, by its mark and by what repair answered of it and left; and that a mended one is a sound volume. Assumes nothing.
-use mathlib.Core.Path.{_≡_, refl, sym, ap, subst, _∙_}
+use mathlib.Core.Path.{_≡_, refl, sym, ap, _∙_}
 use mathlib.Core.List.{List, []}
-use Prim.Native.Nat.{ℕ, _+_, _-_, _≤_}
+use Prim.Native.Nat.{ℕ, _+_, _≤_}
 use native.Mathlib.Omega.{arith}
 use lib.ListN.{length, take}
 use borrow.Author.Tests.{eq-eqb, ne-eqb}
@@ -21,7 +21,6 @@ use Rattle.input.specs.Mark.{markOf}
 use Rattle.input.specs.declared.Received.{Received}
 use Rattle.input.specs.declared.Received.the-variants.{Bytes}
 use Rattle.mend.specs.Mending.{fateBy, fateOf, mendedOf, mendedOver, SoundNow}
-use Rattle.mend.specs.declared.Fate.{Fate}
 use Rattle.mend.specs.declared.Fate.the-variants.{Sound, Mended, Refused}
 
 -- what repair leaves where it is done is a sound volume

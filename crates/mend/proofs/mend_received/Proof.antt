@@ -1,6 +1,6 @@
 -- `mend::mend_received` meets its contract: where nothing was read; where the mark is that of a sound volume; and by what repair answers and leaves in the part of
 -- the buffer that is lent to it. Assumes nothing.
-use mathlib.Core.Path.{_≡_, refl, subst, _∙_}
+use mathlib.Core.Path.{_≡_, refl, subst}
 use mathlib.Core.List.{List}
 use Prim.Native.Nat.{ℕ, _+_, _-_, _≤_}
 use native.Mathlib.Omega.{arith}
@@ -13,7 +13,6 @@ use Rattle.rules.specs.Calls.Repair.{repairOf}
 use Rattle.rules.specs.declared.Layout.{Layout}
 use Rattle.rules.specs.declared.Answer.{Answer}
 use Rattle.rules.specs.declared.Answer.the-variants as answer
-use Rattle.input.specs.Mark.{markOf}
 use Rattle.input.specs.declared.Received.the-variants.{Bytes}
 use Rattle.input.proofs.Receiving.{counted}
 use Rattle.mend.specs.Mending.{fateOf, mendedOver, SoundNow}
