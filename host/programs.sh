@@ -10,6 +10,7 @@ set -euo pipefail
 host=$(cd "$(dirname "${BASH_SOURCE[0]}")" && pwd)
 . "$host/common.sh"
 work=$out/program-files
+belt_data=$top/crates/belt/data
 steps=0
 
 fail() {
@@ -53,6 +54,7 @@ lay_out() {
     { head -c 780 sound.dsk && printf '\x98' && tail -c +782 sound.dsk; } >locked.dsk
     cp sound.dsk ./--marks
     lay_out_directories
+    lay_out_damage
 }
 
 # directories.dsk; the same with a mark on LETTER, whose status is byte 1804, with one index for two entries,
@@ -72,8 +74,29 @@ lay_out_directories() {
     put_at no-name.dsk 20 '\x00\x00\x00\x00\x00\x00\x00\x00\x00\x00'
     cp directories.dsk status.dsk
     put_at status.dsk 1804 '\x04'
-    cp "$top/crates/belt/data/0-carried.dsk" carried.dsk
+    cp "$belt_data/0-carried.dsk" carried.dsk
     cp directories.dsk ./--directories
+}
+
+# What mend is given beside the images of crates/belt/data: 4-order with a bit of the map cleared, and with a
+# sector that two files hold; a byte of the map cleared on both images with a mark on them; directories.dsk with a
+# second program in GAMES, that with the two numbers of GAMES' index exchanged, which is sector 4, and with the map
+# of what the root holds alone, which is case M's.
+lay_out_damage() {
+    cp "$belt_data/4-order.dsk" order-map.dsk
+    put_at order-map.dsk 60 '\xf8'
+    cp "$belt_data/4-order.dsk" order-holders.dsk
+    put_at order-holders.dsk 540 '\x23'
+    cp marked.dsk marked-map.dsk
+    put_at marked-map.dsk 60 '\x00'
+    cp marked-directories.dsk marked-directories-map.dsk
+    put_at marked-directories-map.dsk 60 '\x00'
+    cp directories.dsk games.dsk
+    "${emulator[@]}" "$out/example" -d 1 games.dsk store BETA "$work/program"
+    cp games.dsk games-order.dsk
+    put_at games-order.dsk 1024 '\x00\x08\x00\x05'
+    cp games.dsk games-root.dsk
+    dd if=sound.dsk of=games-root.dsk bs=1 skip=56 seek=56 count=200 conv=notrunc status=none
 }
 
 missing='No such file or directory'
@@ -124,7 +147,7 @@ try_belt() {
     step 2 '- missing.dsk: not read' "missing.dsk: $missing
 1 image: 0 sound, 1 unread" belt -v missing.dsk
     for ground in "${grounds[@]}"; do
-        image=$top/crates/belt/data/${ground%% *}.dsk
+        image=$belt_data/${ground%% *}.dsk
         words+=("$image")
         lines+=${lines:+$'\n'}"$number $image: ${ground#* }"
         number=$((number + 1))
@@ -435,13 +458,315 @@ try_past_the_table() {
     must_be "$(cat "$work/told")" '131076 images: 131076 sound' 'the count of images past the table'
 }
 
+# FILE MODEL...: copies of the models, in a folder that has nothing else. All of it is of an old date, so that
+# what is written there later is seen.
+lay_copies() {
+    rm -rf "$work/mend"
+    mkdir "$work/mend"
+    cd "$work/mend"
+    while [ $# -gt 0 ]; do
+        cp "$2" "./$1"
+        shift 2
+    done
+    find . -depth -exec touch -d '2001-02-03 04:05:06' {} +
+}
+
+# FILE MODEL...: the folder has these files and nothing else, each with the bytes of its model.
+must_hold() {
+    local files=$(($# / 2))
+    while [ $# -gt 0 ]; do
+        cmp "./$1" "$2" >&2 || fail "$1 is not as ${2##*/}"
+        shift 2
+    done
+    must_be "$(find . -mindepth 1 -printf . | wc -c)" "$files" 'files where mend was run'
+}
+
+# Inode and time of every file, and of the folder, which a file that comes and goes leaves another time.
+file_states() {
+    find . -printf '%P %i %m %s %T@\n' | sort
+}
+
+# A step of mend that touches no file.
+step_aside() {
+    local before
+    before=$(file_states)
+    step "$@"
+    must_be "$(file_states)" "$before" "files that are to be left alone: ${*:4}"
+}
+
+# Each damaged image becomes the one that it was made from. Then it is sound, and left alone. The page's count is
+# the last step's.
+try_mend() {
+    local empty=$belt_data/25-small-3-empty.dsk mix=$belt_data/17-small-252-mix.dsk
+    lay_copies set.dsk "$belt_data/6-set.dsk"
+    step 0 '6 set.dsk: mended' '1 image: 1 sound' mend set.dsk
+    must_hold set.dsk "$empty"
+    step_aside 0 '0 set.dsk: sound' '1 image: 1 sound' mend set.dsk
+    must_hold set.dsk "$empty"
+    # The second is shorter than the first: what is left of that in memory is not written.
+    lay_copies cleared.dsk "$belt_data/6-cleared.dsk" set.dsk "$belt_data/6-set.dsk" \
+        order.dsk "$belt_data/4-order.dsk"
+    step 0 '6 cleared.dsk: mended
+6 set.dsk: mended
+4 order.dsk: mended
+0 set.dsk: sound' '4 images: 4 sound' mend cleared.dsk set.dsk order.dsk set.dsk
+    must_hold cleared.dsk "$mix" set.dsk "$empty" order.dsk "$mix"
+    step_aside 0 '0 order.dsk: sound
+0 cleared.dsk: sound' '2 images: 2 sound' mend order.dsk cleared.dsk
+    must_hold cleared.dsk "$mix" set.dsk "$empty" order.dsk "$mix"
+    lay_copies two.dsk "$belt_data/5-two-files.dsk"
+    step_aside 1 '5 two.dsk: not mended' '1 image: 0 sound, 1 of number 5' mend two.dsk
+    must_hold two.dsk "$belt_data/5-two-files.dsk"
+    lay_copies map.dsk "$work/images/order-map.dsk" holders.dsk "$work/images/order-holders.dsk"
+    step 0 '4 map.dsk: mended' '1 image: 1 sound' mend map.dsk
+    step_aside 1 '4 holders.dsk: not mended' '1 image: 0 sound, 1 of number 4' mend holders.dsk
+    must_hold map.dsk "$mix" holders.dsk "$work/images/order-holders.dsk"
+    lay_copies set.dsk "$belt_data/6-set.dsk" two.dsk "$belt_data/5-two-files.dsk" mix.dsk "$mix"
+    step 1 '6 set.dsk: mended
+5 two.dsk: not mended
+0 mix.dsk: sound' '3 images: 2 sound, 1 of number 5' mend set.dsk two.dsk mix.dsk
+    must_hold set.dsk "$empty" two.dsk "$belt_data/5-two-files.dsk" mix.dsk "$mix"
+    cd "$work/images"
+}
+
+# A mark is number 4 by the old rule, which is never mended, and stays by the new one. By the first edition the
+# map is made of what the root holds, and by the second it is the directories' again.
+try_mend_by_layouts() {
+    local images=$work/images
+    lay_copies map.dsk "$images/marked-map.dsk" --marks "$images/sound.dsk"
+    step_aside 1 '4 map.dsk: not mended
+0 --marks: sound' '2 images: 1 sound, 1 of number 4' mend map.dsk --marks
+    must_hold map.dsk "$images/marked-map.dsk" --marks "$images/sound.dsk"
+    step 0 '6 map.dsk: mended' '1 image: 1 sound' mend --marks map.dsk
+    must_hold map.dsk "$images/marked.dsk" --marks "$images/sound.dsk"
+    lay_copies games.dsk "$images/games-order.dsk"
+    step 0 '4 games.dsk: mended' '1 image: 1 sound' mend --directories games.dsk
+    must_hold games.dsk "$images/games.dsk"
+    step_aside 0 '0 games.dsk: sound' '1 image: 1 sound' mend --directories games.dsk
+    step 0 '6 games.dsk: mended' '1 image: 1 sound' mend games.dsk
+    must_hold games.dsk "$images/games-root.dsk"
+    step 0 '6 games.dsk: mended' '1 image: 1 sound' mend --directories games.dsk
+    must_hold games.dsk "$images/games.dsk"
+    step 0 '6 games.dsk: mended' '1 image: 1 sound' mend --marks games.dsk
+    must_hold games.dsk "$images/games-root.dsk"
+    lay_copies map.dsk "$images/marked-directories-map.dsk"
+    step_aside 1 '4 map.dsk: not mended' '1 image: 0 sound, 1 of number 4' mend --directories map.dsk
+    must_hold map.dsk "$images/marked-directories-map.dsk"
+    step 0 '6 map.dsk: mended' '1 image: 1 sound' mend --directories --marks map.dsk
+    must_hold map.dsk "$images/marked-directories.dsk"
+    step_aside 0 '0 map.dsk: sound' '1 image: 1 sound' mend --marks --directories map.dsk
+    cd "$images"
+}
+
+# What cannot be read or written has its reason, and the images after it are mended. Neither an image nor what
+# stands where the file beside it would is touched then.
+try_mend_failing() {
+    local set=$belt_data/6-set.dsk empty=$belt_data/25-small-3-empty.dsk order=$belt_data/4-order.dsk
+    lay_copies set.dsk "$set"
+    step_aside 2 '- missing.dsk: not read
+- .: not read' "missing.dsk: $missing
+.: Is a directory
+2 images: 0 sound, 2 unread" mend missing.dsk .
+    must_hold set.dsk "$set"
+    lay_copies b.dsk "$set" b.dsk.mending "$order" c.dsk "$set"
+    step_aside 2 '6 b.dsk: not written' 'b.dsk.mending: File exists
+1 image: 0 sound, 1 unread' mend b.dsk
+    must_hold b.dsk "$set" b.dsk.mending "$order" c.dsk "$set"
+    step 2 '- missing.dsk: not read
+6 b.dsk: not written
+6 c.dsk: mended' "missing.dsk: $missing
+b.dsk.mending: File exists
+3 images: 1 sound, 2 unread" mend missing.dsk b.dsk c.dsk
+    must_hold b.dsk "$set" b.dsk.mending "$order" c.dsk "$empty"
+    # A link that leads nowhere has the name too, and no file comes to be where it leads.
+    lay_copies b.dsk "$set"
+    ln -s nowhere b.dsk.mending
+    step_aside 2 '6 b.dsk: not written' 'b.dsk.mending: File exists
+1 image: 0 sound, 1 unread' mend b.dsk
+    rm b.dsk.mending
+    must_hold b.dsk "$set"
+    try_mend_too_large
+    try_mend_too_long
+    try_mend_links
+    cd "$work/images"
+}
+
+# Of the file beside the image 8,192 bytes can be written, and no more. The image's inode and time stay.
+try_mend_too_large() {
+    local order=$belt_data/4-order.dsk state
+    lay_copies a.dsk "$order"
+    state=$(stat -c '%i %y' a.dsk)
+    (
+        trap '' XFSZ
+        ulimit -f 8
+        step 2 '4 a.dsk: not written' 'a.dsk.mending: File too large
+1 image: 0 sound, 1 unread' mend a.dsk
+    )
+    steps=$((steps + 1))
+    must_be "$(stat -c '%i %y' a.dsk)" "$state" 'an image that could not be written'
+    must_hold a.dsk "$order"
+}
+
+# A path may have 4,095 bytes, which is that of the file beside the first image. The second is two bytes longer.
+try_mend_too_long() {
+    local set=$belt_data/6-set.dsk path
+    path=$(printf './%.0s' {1..2041})a.dsk
+    lay_copies a.dsk "$set"
+    step_aside 2 "6 ./$path: not written" "./$path.mending: File name too long
+1 image: 0 sound, 1 unread" mend "./$path"
+    must_hold a.dsk "$set"
+    step 0 "6 $path: mended" '1 image: 1 sound' mend "$path"
+    must_hold a.dsk "$belt_data/25-small-3-empty.dsk"
+}
+
+# The mended image is a new file, of the caller's mode. So another name of the image's file still leads to the
+# image as it was, and a link is replaced.
+try_mend_links() {
+    local set=$belt_data/6-set.dsk empty=$belt_data/25-small-3-empty.dsk
+    lay_copies a.dsk "$set"
+    chmod 600 a.dsk
+    ln a.dsk other.dsk
+    ln -s other.dsk link.dsk
+    (
+        umask 027
+        step 0 '6 a.dsk: mended
+6 link.dsk: mended' '2 images: 2 sound' mend a.dsk link.dsk
+    )
+    steps=$((steps + 1))
+    must_hold a.dsk "$empty" other.dsk "$set" link.dsk "$empty"
+    must_be "$(stat -c '%a' a.dsk link.dsk other.dsk | tr '\n' ' ')" '640 640 600 ' 'modes of mended images'
+}
+
+# Makes $work/faults.so of faults.c: loaded before a program, it does to mend what that does to the example host.
+compile_faults() {
+    cat >"$work/calls.c" <<'END'
+#define _GNU_SOURCE
+#include <errno.h>
+#include <stdlib.h>
+#include <string.h>
+#include <sys/syscall.h>
+#include <unistd.h>
+
+static char *fault_of_mend(const char *name) {
+    return strcmp(program_invocation_short_name, "mend") == 0 ? getenv(name) : NULL;
+}
+
+#define getenv fault_of_mend
+#define __wrap_write write
+#define __wrap_fsync fsync
+#define __wrap_close close
+#define __wrap_rename rename
+#define __real_pwrite pwrite
+#define __real_fchmod fchmod
+#include "faults.c"
+
+ssize_t __real_write(int file, const void *bytes, size_t length) {
+    return syscall(SYS_write, file, bytes, length);
+}
+
+int __real_fsync(int file) {
+    return syscall(SYS_fsync, file);
+}
+
+int __real_close(int file) {
+    return syscall(SYS_close, file);
+}
+
+int __real_rename(const char *from, const char *to) {
+    return syscall(SYS_rename, from, to);
+}
+END
+    "${compiler[@]}" -std=c11 -O2 -Wall -Wextra -Werror -pedantic -shared -fPIC -I"$host" "$work/calls.c" \
+        -o "$work/faults.so"
+}
+
+# FAULT STATUS OUTPUT ERRORS: a step of mend on a.dsk with this fault.
+faulty_step() {
+    LD_PRELOAD=$work/faults.so FAULT=$1 step "${@:2}" mend a.dsk
+}
+
+# Calls to the system that fail while an image is mended, by their place among the calls of that name: the first
+# close is that of the image, once it is read. The image stays and the new file goes. Where mend is ended before
+# one of them the new file is left, and stands in the way until it is removed.
+try_mend_faults() {
+    local order=$belt_data/4-order.dsk mix=$belt_data/17-small-252-mix.dsk fault reason
+    if [ ${#emulator[@]} -gt 0 ]; then
+        echo "failing calls of mend are not tried: it is emulated here"
+        return
+    fi
+    compile_faults
+    while IFS=: read -r fault reason; do
+        lay_copies a.dsk "$order"
+        faulty_step "$fault" 2 '4 a.dsk: not written' "$reason
+1 image: 0 sound, 1 unread"
+        must_hold a.dsk "$order"
+    done <<'END'
+write 1 28:a.dsk.mending: No space left on device
+fsync 1 122:a.dsk.mending: Disk quota exceeded
+close 2 5:a.dsk.mending: Input/output error
+rename 1 16:a.dsk: Device or resource busy
+END
+    for fault in 'write 1 end' 'fsync 1 end' 'close 2 end' 'rename 1 end'; do
+        lay_copies a.dsk "$order"
+        faulty_step "$fault" 2 '' ''
+        cp a.dsk.mending "$work/left"
+        step_aside 2 '4 a.dsk: not written' 'a.dsk.mending: File exists
+1 image: 0 sound, 1 unread' mend a.dsk
+        must_hold a.dsk "$order" a.dsk.mending "$work/left"
+    done
+    must_hold a.dsk "$order" a.dsk.mending "$mix"
+    rm a.dsk.mending
+    faulty_step 'write 1 short' 0 '4 a.dsk: mended' '1 image: 1 sound'
+    must_hold a.dsk "$mix"
+    cd "$work/images"
+}
+
+# A newline is shown as another byte, and the file of the shown name is not meant. With no image, or with an
+# option of another program, the usage comes and nothing is done.
+try_mend_words() {
+    local set=$belt_data/6-set.dsk empty=$belt_data/25-small-3-empty.dsk usage
+    lay_copies $'two\nlines.dsk' "$set" 'two?lines.dsk' "$set"
+    step 0 '6 two?lines.dsk: mended' '1 image: 1 sound' mend $'two\nlines.dsk'
+    must_hold $'two\nlines.dsk' "$empty" 'two?lines.dsk' "$set"
+    lay_copies $'two\nlines.dsk' "$set" $'two\nlines.dsk.mending' "$empty"
+    step_aside 2 '6 two?lines.dsk: not written' 'two?lines.dsk.mending: File exists
+1 image: 0 sound, 1 unread' mend $'two\nlines.dsk'
+    must_hold $'two\nlines.dsk' "$set" $'two\nlines.dsk.mending' "$empty"
+    lay_copies -h "$set" -v "$set"
+    usage=$("$top/run" mend -h)
+    must_be "${usage%%$'\n'*}" 'usage: mend [--marks] [--directories] [--] IMAGE...' 'mend -h'
+    step_aside 2 '' "$usage" mend
+    step_aside 2 '' "$usage" mend <./-h
+    step_aside 2 '' "$usage" mend --marks --directories --
+    step_aside 2 '' "$usage" mend -v ./-h
+    step_aside 2 '' "$usage" mend --sums ./-h
+    step_aside 0 "$usage" '' mend -h
+    step_aside 0 "$usage" '' mend -h ./-v
+    must_hold -h "$set" -v "$set"
+    step 0 '6 -h: mended' '1 image: 1 sound' mend -- -h
+    must_hold -h "$empty" -v "$set"
+    cd "$work/images"
+}
+
+# The run ends with the first line that cannot be written, behind what was done for that line.
+try_mend_full() {
+    local set=$belt_data/6-set.dsk ended=0
+    lay_copies a.dsk "$set" b.dsk "$set"
+    "$top/run" mend a.dsk b.dsk >/dev/full 2>"$work/told" || ended=$?
+    must_be "$ended" 2 'status of mend on a full output'
+    must_be "$(cat "$work/told")" 'standard output: No space left on device' 'mend on a full output'
+    must_hold a.dsk "$belt_data/25-small-3-empty.dsk" b.dsk "$set"
+    cd "$work/images"
+}
+
 # Every program has its usage, on standard output where it is asked for, and on standard error where its
 # words are not those.
 try_usage() {
     local program usage option
     for program in belt 'belt [-v] [--marks] [--directories] [--] [IMAGE...]' \
         listings 'listings [--marks] [--directories] [--] IMAGE...' \
-        masters 'masters [--sums] [--marks] [--directories] [--] IMAGE...' catalogue 'catalogue < IMAGE' \
+        masters 'masters [--sums] [--marks] [--directories] [--] IMAGE...' \
+        mend 'mend [--marks] [--directories] [--] IMAGE...' catalogue 'catalogue < IMAGE' \
         catalogue_marks 'catalogue_marks < IMAGE' bench bench; do
         if [ -z "${usage:-}" ]; then
             usage=$program
@@ -473,7 +798,7 @@ try_outputs() {
     for program in 'belt sound.dsk' 'belt -h' 'listings sound.dsk' 'masters sound.dsk' 'catalogue sound.dsk' \
         'belt --marks marked.dsk' 'listings --marks marked.dsk' 'masters --marks marked.dsk' \
         'belt --directories directories.dsk' 'listings --directories directories.dsk' \
-        'masters --directories directories.dsk' 'catalogue_marks marked.dsk' bench; do
+        'masters --directories directories.dsk' 'mend sound.dsk' 'catalogue_marks marked.dsk' bench; do
         ended=0
         # shellcheck disable=SC2086
         "$top/run" $program >/dev/full 2>"$work/told" || ended=$?
@@ -596,6 +921,12 @@ try_masters
 try_masters_by_marks
 try_masters_by_directories
 try_past_the_table
+try_mend
+try_mend_by_layouts
+try_mend_failing
+try_mend_faults
+try_mend_words
+try_mend_full
 try_usage
 try_outputs
 try_shelf_commands
