@@ -342,7 +342,7 @@ struct pno_changes {
  *
  * Writes: descriptor, sector 0, index.
  * Numbers: 1 to 6; 7; 8 for no such directory; 9; 15 for another status; 11; 12.
- * Stack: at most 988 bytes.
+ * Stack: at most 1,004 bytes.
  */
 uint32_t pno_create(uint8_t *image, size_t image_len, uint32_t layout, size_t directory, const uint8_t *name,
                     size_t name_len, uint8_t status, uint8_t record_length, uint8_t records_per_sector,
@@ -356,7 +356,7 @@ uint32_t pno_create(uint8_t *image, size_t image_len, uint32_t layout, size_t di
  * Writes: the sector, sector 0, descriptor.
  * Numbers: 1 to 6; 7; 8; 10; 14 for a program; 15 where data_len is not PNO_SECTOR_BYTES; 12; 13, which is
  * not due where the sector that is taken follows the file's last one.
- * Stack: at most 1,228 bytes.
+ * Stack: at most 1,244 bytes.
  */
 uint32_t pno_append(uint8_t *image, size_t image_len, uint32_t layout, size_t directory, const uint8_t *name,
                     size_t name_len, const uint8_t *data, size_t data_len, size_t *wrong,
@@ -369,7 +369,7 @@ uint32_t pno_append(uint8_t *image, size_t image_len, uint32_t layout, size_t di
  * Writes: the sector; with PNO_MARKS descriptor, the sector.
  * Numbers: 1 to 6; 7; 8; 10; 14 for a program; 15 for an offset past the last sector, or where data_len is
  * not PNO_SECTOR_BYTES.
- * Stack: at most 620 bytes.
+ * Stack: at most 636 bytes.
  */
 uint32_t pno_overwrite(uint8_t *image, size_t image_len, uint32_t layout, size_t directory,
                        const uint8_t *name, size_t name_len, size_t offset, const uint8_t *data,
@@ -409,7 +409,7 @@ uint32_t pno_delete(uint8_t *image, size_t image_len, uint32_t layout, size_t di
  * Writes: descriptor, index.
  * Numbers: 1 to 6; 7 for the old name (which is 0), then for the new one (which is 1); 8 for no such
  * directory, then for the old name; 9 for the new one, also where it is the old one; 10.
- * Stack: at most 1,164 bytes.
+ * Stack: at most 1,180 bytes.
  */
 uint32_t pno_rename(uint8_t *image, size_t image_len, uint32_t layout, size_t directory, const uint8_t *old,
                     size_t old_len, const uint8_t *new_name, size_t new_len, size_t *which, size_t *wrong,
@@ -421,7 +421,7 @@ uint32_t pno_rename(uint8_t *image, size_t image_len, uint32_t layout, size_t di
  *
  * Writes: descriptor.
  * Numbers: 1 to 6; 7; 8.
- * Stack: at most 604 bytes.
+ * Stack: at most 620 bytes.
  */
 uint32_t pno_protect(uint8_t *image, size_t image_len, uint32_t layout, size_t directory, const uint8_t *name,
                      size_t name_len, size_t *wrong, struct pno_changes *changes);
@@ -435,7 +435,7 @@ uint32_t pno_unprotect(uint8_t *image, size_t image_len, uint32_t layout, size_t
  *
  * Writes: descriptor.
  * Numbers: 1 to 6; 7; 8.
- * Stack: at most 604 bytes.
+ * Stack: at most 620 bytes.
  */
 uint32_t pno_clear_mark(uint8_t *image, size_t image_len, uint32_t layout, size_t directory,
                         const uint8_t *name, size_t name_len, size_t *wrong, struct pno_changes *changes);
@@ -456,7 +456,7 @@ uint32_t pno_clear_mark(uint8_t *image, size_t image_len, uint32_t layout, size_
  * Writes: sector 1, with PNO_DIRECTORIES the index sectors of the entries that are there in their order,
  * sector 0; always all of them.
  * Numbers: 1 to 5.
- * Stack: at most 1,500 bytes.
+ * Stack: at most 684 bytes.
  */
 uint32_t pno_repair(uint8_t *image, size_t image_len, uint32_t layout, struct pno_changes *changes);
 
