@@ -284,7 +284,8 @@ A mended image is written to a new file, IMAGE.mending, which takes the image's 
 How many there are of each number now is the last line on standard error; an image that could not be
 read or written counts as unread.
   --marks        by the rule with marks: status bit 10 hex, changed since backup, is allowed
-  --directories  by the second edition: sector 0 has entries of directories
+  --directories  by the second edition: sector 0 has entries of directories. Without it a disk that
+                 has them is number 6, and mended to one whose map frees what they hold
   -h, --help     this text
 ",
     ) {
