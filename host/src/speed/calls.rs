@@ -1,13 +1,16 @@
 //! The calls on full volumes of 1,440 sectors.
 
 use super::row::{self, Row};
-use super::volume::Volume;
+use super::volume::{Before, Volume};
 use super::{is_held, ratio, Table};
-use crate::table::{Call, Rules, CALLS};
+use crate::table::{Rules, CALLS};
 
-/// What the library may take, as a multiple of the reference, and what it may for a repair.
+/// What the library may take, as a multiple of the reference; what it may for a repair; and for that of an
+/// index in the opposite order. No stop leaves one, and what puts a number in its place from behind, as the
+/// library does, goes past all others there.
 const BOUND: f64 = 2.0;
 const BOUND_OF_REPAIR: f64 = 1.5;
+const BOUND_OF_REVERSED: f64 = 7.5;
 
 pub(super) const TABLE: Table = Table {
     name: "calls",
@@ -31,9 +34,10 @@ fn rows() -> Vec<Row> {
     rows
 }
 
-fn bound(call: &Call) -> f64 {
-    match call.rules {
-        Rules::ToRepair => BOUND_OF_REPAIR,
+fn bound(row: &Row) -> f64 {
+    match (&row.call.rules, row.volume.before) {
+        (Rules::ToRepair, Before::Reversed) => BOUND_OF_REVERSED,
+        (Rules::ToRepair, _) => BOUND_OF_REPAIR,
         _ => BOUND,
     }
 }
@@ -48,7 +52,7 @@ fn write(figures: &[Vec<f64>]) -> Vec<String> {
         let ratio = ratio(library, reference, held);
         let (call, volume) = (row.call_title(), row.volume.what);
         println!("| {} | {} | {:.0} | {:.0} | {} |", call, volume, library, reference, ratio);
-        if held && library > bound(row.call) * reference {
+        if held && library > bound(row) * reference {
             missed.push(row.title());
         }
     }
