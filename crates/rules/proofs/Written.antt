@@ -64,7 +64,7 @@ written-length image (write ∷ writes) = written-length (splice image (256 * wr
 pub written_both : (image : List ℕ) (first second : List Write) → written (written image first) second ≡ written image (first ++ second)
 unfolding written
 written_both image [] second = refl
-written_both image (write ∷ first) second = written_both _ first second
+written_both image (write ∷ first) second = written_both (splice image (256 * write.sector) write.bytes) first second
 
 -- a sector that none of them names stands as it stood
 unfoldable pub Apart : ℕ → List Write → Type 0

@@ -3,7 +3,7 @@
 
 // The rules that an image is read by: whether status bit 10 hex is the backup mark, "changed since backup", or forbidden; and
 // whether sector 0 has entries of directories, as in the second edition, or bytes that are carried there, as in the first.
-#[derive(Drop)]
+#[derive(Clone, Copy)]
 pub struct Layout {
     pub marks: bool,
     pub directories: bool,
