@@ -9,9 +9,7 @@ use borrow.Rule.Slice.PartMut.{put_mid}
 use Rattle.rules.specs.Bytes.{part, splice}
 use Rattle.rules.proofs.Bytes.{part_length}
 use Rattle.rules.proofs.Splice.{splice_past, splice_cut, put_back}
-use borrow.Author.Rules.{rules}
-use Rattle.sector.proofs.buffer.lay_fill.Statement.{statement}
-use Rattle.sector.proofs.buffer.lay_fill.Tie as tie
+use Rattle.sector.proofs.buffer.lay_fill.Goals as goal
 
 -- a part of that length, filled
 filled : (buffer bytes : List ℕ) (at many value : ℕ) → at + many ≤ length buffer → bytes ≡ replicate (length (part buffer at many)) value → put_mid at many buffer bytes ≡ splice buffer at (replicate many value)
@@ -27,40 +25,20 @@ no_more buffer at room many value full less =
     ap (splice buffer at) (sym (take_at (replicate room value) (replicate (many - room) value) room (length-replicate room value)) ∙ ap (take room) all)
     ∙ splice_cut buffer at (replicate many value) room full
 
-returns : tie.Need-returns
-returns c = sym (splice_past _ _ _ c.if1.true)
+pub returns-then-at-buffer : goal.returns-then-at-buffer
+returns-then-at-buffer c = sym (splice_past _ _ _ c.if-at-buffer.true)
 
-returns-2 : tie.Need-returns-2
-returns-2 c =
-    let a = c.before.before.before.before.before.before.before.args in
-    let f = c.before.before.fill in
+pub returns-then-many-room : goal.returns-then-many-room
+returns-then-many-room c =
+    let a = c.args in
+    let f = c.fill in
     let z : a.at + a.many - a.at ≡ a.many = omega arith in
-    rw z (filled a.buffer.now f.new.0 a.at a.many a.value (omega arith) (rw z at f.ensures))
+    rw z (filled a.buffer.now f.new.target a.at a.many a.value (omega arith) (rw z at f.ensures))
 
-returns-3 : tie.Need-returns-3
-returns-3 c =
-    let a = c.before.before.before.before.before.before.before.args in
-    let f = c.before.before.fill2 in
+pub returns : goal.returns
+returns c =
+    let a = c.args in
+    let f = c.fill-2 in
     let room = length a.buffer.now - a.at in
-    filled a.buffer.now f.new.0 a.at room a.value (omega arith) f.ensures
+    filled a.buffer.now f.new.target a.at room a.value (omega arith) f.ensures
     ∙ no_more a.buffer.now a.at room a.many a.value (omega arith) (omega arith)
-
-pub lay-fill-spec : {M : Type 1} → statement M
-lay-fill-spec =
-    tie.close
-    (tie.spec
-    returns
-    (λ c. search rules)
-    (λ c. search rules)
-    (λ c. search rules)
-    (λ c. search rules)
-    (λ c. search rules)
-    (λ c κs. search rules)
-    (λ c. search rules)
-    returns-2
-    (λ c. search rules)
-    (λ c. search rules)
-    (λ c. search rules)
-    (λ c κs. search rules)
-    (λ c. search rules)
-    returns-3)
