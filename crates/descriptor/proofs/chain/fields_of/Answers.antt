@@ -7,11 +7,9 @@ use borrow.Author.Tests.{eq-eqb, eqb-true}
 use Rattle.rules.specs.Chain.{block_of, ends_chain}
 use Rattle.rules.proofs.Tests.{both, same_test}
 use Rattle.rules.proofs.Chain.{same_block}
-use borrow.Author.Rules.{rules}
-use Rattle.descriptor.proofs.chain.fields_of.Statement.{statement}
-use Rattle.descriptor.proofs.chain.fields_of.Tie as tie
+use Rattle.descriptor.proofs.chain.fields_of.Goals as goal
 
-returns : tie.Need-returns
+pub returns : goal.returns
 unfolding block_of ends_chain
 returns c =
     let a = c.args.a in
@@ -29,6 +27,3 @@ returns c =
       same_block _ _ _ _ (omega arith) (omega arith),
       omega arith,
     )
-
-pub fields-of-spec : {M : Type 1} → statement M
-fields-of-spec = tie.close (tie.spec (λ c. search rules) (λ c. search rules) (λ c. search rules) (λ c. search rules) returns)

@@ -7,9 +7,7 @@ use lib.ListN.{length, set, drop, replicate}
 use Rattle.rules.specs.Bytes.{splice}
 use Rattle.rules.specs.Descriptor.{new_descriptor}
 use Rattle.rules.proofs.Formatted.{laid_front}
-use borrow.Author.Rules.{rules}
-use Rattle.descriptor.proofs.header.new_descriptor.Statement.{statement}
-use Rattle.descriptor.proofs.header.new_descriptor.Tie as tie
+use Rattle.descriptor.proofs.header.new_descriptor.Goals as goal
 
 set_behind : (front back : List ℕ) (at i v : ℕ) → length front + i ≡ at → set (front ++ back) at v ≡ front ++ set back i v
 set_behind [] back at i v e = let z : at ≡ i = omega arith in rw z
@@ -23,18 +21,7 @@ fields name status records_per_sector end_offset record_length ten laid e =
     let front : laid ≡ name ++ drop 10 (replicate 256 0) = e ∙ laid_front (replicate 256 0) name (omega arith) ∙ ap (λ (m : ℕ). name ++ drop m (replicate 256 0)) ten in
     rw (front, set_behind name (drop 10 (replicate 256 0)) 12 2 status (omega arith), set_behind name _ 13 3 records_per_sector (omega arith), set_behind name _ 16 6 end_offset (omega arith), set_behind name _ 17 7 record_length (omega arith))
 
-returns : tie.Need-returns
+pub returns : goal.returns
 returns c =
-    let a = c.before.before.before.args in
-    fields a.name.now a.status _ _ _ c.before.before.before.requires.1 _ (c.lay.ensures ∙ ap (λ (d : List ℕ). splice d 0 a.name.now) c.before.before.before.requires.0)
-
-pub new-descriptor-spec : {M : Type 1} → statement M
-new-descriptor-spec =
-    tie.close
-    (tie.spec
-    (λ c κs. search rules)
-    (λ c. search rules)
-    (λ c. search rules)
-    (λ c. search rules)
-    (λ c. search rules)
-    returns)
+    let a = c.args in
+    fields a.name.now a.status _ _ _ c.requires.1 _ (c.lay.ensures ∙ ap (λ (d : List ℕ). splice d 0 a.name.now) c.requires.0)

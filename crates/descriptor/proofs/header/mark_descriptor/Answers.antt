@@ -5,18 +5,12 @@ use Rattle.rules.specs.Kind.{marking}
 use Rattle.rules.specs.Sectors.{sector_of}
 use Rattle.rules.specs.Descriptor.{status_of, marked_by}
 use Rattle.rules.proofs.Sectors.{sector_byte, sector_set}
-use borrow.Author.Rules.{rules}
-use Rattle.descriptor.proofs.header.mark_descriptor.Statement.{statement}
-use Rattle.descriptor.proofs.header.mark_descriptor.Tie as tie
+use Rattle.descriptor.proofs.header.mark_descriptor.Goals as goal
 
-returns : tie.Need-returns
+pub returns : goal.returns
 unfolding marked_by
 returns c =
-    let a = c.before.before.before.args in
+    let a = c.args in
     let image = a.image.now in
     let status = c.marking.ensures ∙ ap (marking a.layout) (sym (sector_byte image a.k 12 (omega arith))) in
     rw status (sym (sector_set image a.k 12 (marking a.layout (status_of (sector_of image a.k))) (omega arith)))
-
-pub mark-descriptor-spec : {M : Type 1} → statement M
-mark-descriptor-spec =
-    tie.close (tie.spec (λ c. search rules) (λ c. search rules) (λ c. search rules) (λ c κs. search rules) (λ c. search rules) (λ c. search rules) returns)
