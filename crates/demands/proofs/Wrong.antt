@@ -27,7 +27,6 @@ use Rattle.rules.proofs.Verdict.{sound}
 use Rattle.rules.proofs.Formatted.{formatted-length}
 use Rattle.rules.proofs.Indexes.{root_at}
 use Rattle.rules.proofs.Altered.{own_inside, own_other}
-use Rattle.demands.specs.Catalogue.{named}
 use Rattle.demands.specs.Call as call
 use Rattle.demands.specs.Call.{Change, Call, Result, Version, form_of, number_in, number_of, change_rule}
 use Rattle.demands.specs.Ours.{seen, outcome, ours}
