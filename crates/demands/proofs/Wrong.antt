@@ -160,7 +160,7 @@ there layout version all {change} some =
 
 abbrev this_file : (layout : Layout) {version : Version} {change : Change} → (some : Instance layout version change)
     → Has some.image (index_at (change_rule layout change) some.image some.directory) some.name (λ k. Unit {0})
-this_file layout some = record { sector = some.k; listed = some.listed; named = some.is_named_lem; so = tt }
+this_file layout some = record { sector = some.k; listed = some.listed; named = some.is_named; so = tt }
 
 wipes : (layout : Layout) (version : Version) → Wipes layout version → Demand2 layout version → ⊥
 unfolding TouchesIn
