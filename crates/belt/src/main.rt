@@ -7,6 +7,8 @@
 // and writes the lines, and of that only safety is proved, since no contract can say what is read or
 // written. An image that cannot be read has `-` in the number's place and the reason on standard error,
 // and the images after it are judged all the same.
+#![tactic(auto)]
+
 ghost use Rattle.std.specs.Prelude.{◌≡◌, ◌+◌, ◌<◌, length};
 ghost use Rattle.rules.specs.Bytes.{splice};
 ghost use Rattle.line.specs.Laid.{Laid};
