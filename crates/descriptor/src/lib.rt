@@ -1,5 +1,7 @@
 // The leaves of a descriptor: names, status and kind, blocks, and the cursor over a chain. Each answers for any bytes with
 // what the rules' definition of the same name says; those with a `requires` ask a bound on a number alone.
+#![tactic(auto)]
+
 pub mod chain;
 pub mod header;
 pub mod kind;

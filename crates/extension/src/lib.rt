@@ -9,7 +9,7 @@ use sector::buffer::lay;
 
 // How many blocks a chain has; where the last one starts, the first file sector that it covers, and the first file sector
 // behind it. All are 0 for a chain without blocks.
-#[derive(Drop)]
+#[derive(Clone, Copy)]
 pub struct Tip {
     pub used: usize,
     pub start: usize,

@@ -1,5 +1,7 @@
 // The pieces of a line of text: bytes and numbers. Each lays its bytes over the buffer from `at` on, as far as there is
 // room, and answers the place after them, which has to be a usize.
+#![tactic(auto)]
+
 ghost use Rattle.std.specs.Prelude.{◌≡◌, [], ◌∷◌, ◌++◌, ◌+◌, ◌<◌, length};
 ghost use Rattle.rules.specs.Calls.Listing.{decimal};
 ghost use Rattle.line.specs.Laid.{Laid};

@@ -18,7 +18,7 @@ pub struct Block {
 
 // A file's kind, each case with its own numbers: a program with its length in bytes, a fixed and a
 // variable file with its record length and whether it is internal (else display).
-#[derive(Drop)]
+#[derive(Clone, Copy)]
 pub enum Kind {
     Program {
         length: usize,

@@ -1,14 +1,12 @@
 -- The indexes that are there, from a directory's number on: at the root, a directory further, and behind the last.
 use mathlib.Core.Path.{◌≡◌, refl, sym, ap, ◌∙◌}
-use mathlib.Core.Bool.{Bool, true, false, cond}
-use mathlib.Core.List.{List, [], ◌∷◌, map}
+use mathlib.Core.Bool.{Bool, true, false}
+use mathlib.Core.List.{List, [], ◌∷◌}
 use Prim.Native.Nat.{ℕ, zero, suc, ◌+◌, ◌≤◌}
 use native.Mathlib.Omega.{arith}
 use native.Mathlib.Numerals.{add-one}
 use lib.ListN.{length, drop, get_or, drop_of_length-le}
-use Rattle.rules.specs.Bytes.{part}
-use Rattle.rules.specs.Sectors.{sector_of}
-use Rattle.rules.specs.Directory.{entries, entry_index}
+use Rattle.rules.specs.Directory.{entries}
 use Rattle.rules.specs.Volume.{directories, index_at, present, indexes}
 use Rattle.rules.specs.declared.Layout.{Layout}
 use Rattle.rules.proofs.Indexes.{present_absent, present_there, root_first}

@@ -1,0 +1,11 @@
+use mathlib.Core.Path.{◌≡◌}
+use Prim.Native.Nat.{◌-◌}
+use lib.ListN.{length, drop}
+use Rattle.rules.specs.Name.{precedes}
+use Rattle.descriptor.proofs.name.precedes.Given as goal
+
+abbrev pub invariant-loop-i : goal.invariant-loop-i
+invariant-loop-i l = precedes (drop l.i l.first) (drop l.i l.second) ≡ precedes l.first l.second
+
+abbrev pub decreases-loop-i : goal.decreases-loop-i
+decreases-loop-i l = length l.first - l.i
