@@ -8,6 +8,7 @@ use line::{put, put_number};
 use sector::bytes::part;
 
 // The place of a mark among the counts: that of its digit, or the last for any other.
+#[tactic(auto, unfolding(crate::specs::Tally::place_of))]
 fn place_of(mark: u8) -> usize
     ensures { (result ≡ place_of mark) × (result ≤ 7) }
 {
