@@ -28,6 +28,8 @@ pub first_after : (tests : List Test) (gs more : List {1} Ground) (number : ℕ)
     → (first_of tests ≡ 0 → First number more) → First number (gs ++ more)
 unfolding first_of Decide First
 first_after [] [] more number decide refused passed = passed refl
+first_after [] (g ∷ gs) more number decide refused passed = elim decide [ ]
+first_after (test ∷ tests) [] more number decide refused passed = elim decide [ ]
 first_after (test ∷ tests) (g ∷ gs) more number decide refused passed =
     go test.met refl refused passed (λ is. first_after tests gs more number (decide.2 is))
   where
@@ -46,6 +48,8 @@ first_ground tests gs decide = rw (append-nil gs) at (first_after tests gs [] (f
 pub decide_both : (first second : List Test) (gs more : List {1} Ground) → Decide first gs → (first_of first ≡ 0 → Decide second more) → Decide (first ++ second) (gs ++ more)
 unfolding first_of Decide
 decide_both [] second [] more decide behind = behind refl
+decide_both [] second (g ∷ gs) more decide behind = elim decide [ ]
+decide_both (test ∷ first) second [] more decide behind = elim decide [ ]
 decide_both (test ∷ first) second (g ∷ gs) more decide behind = (decide.0, decide.1, λ is. decide_both first second gs more (decide.2 is) (λ zero. behind (rw is zero)))
 
 -- tests that decide: a rule is broken, numbers are equal or not, below or at most

@@ -279,7 +279,7 @@ module _ (layout : Layout) (image : List ℕ) (is : Sound layout image) where
           protection_is = rw (header_at image k 12 (omega arith)) (protection_is (status_of (sector_of image k)));
           marks = mark_words layout (status_of (sector_of image k));
           marks_are = rw (header_at image k 12 (omega arith)) (marks_are layout (status_of (sector_of image k)));
-          is = rw (kind_in, ← kind_word_lem (file_kind (sector_of image k)), marks_parted layout (status_of (sector_of image k)));
+          is = rw (kind_in, ← kind_word_lem (file_kind (sector_of image k)), marks_parted layout (status_of (sector_of image k)) (cond (is_protected (status_of (sector_of image k))) 0x50 0x55 ∷ []));
         }
 
   lines_are : (i : ℕ) → IsIndexed layout image i → (p : ℕ) → p < length (files_in image i) → IsFileLine layout (file_of image i p) (get_or (map (line_in layout image) (files_in image i)) p [])

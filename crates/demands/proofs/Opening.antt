@@ -1,6 +1,6 @@
 -- Numbers 7, 8 and 9, after the faults of the image: the name is none, there is no such directory, no file of it has the name, or one has. On a sound volume the names differ, so what a ground says of the file of
 -- that name is said of the one that the search found.
-use mathlib.Core.Path.{◌≡◌, refl, sym, ap, ◌∙◌}
+use mathlib.Core.Path.{◌≡◌, refl, sym, ap, subst, ◌∙◌}
 use mathlib.Core.Bool.{Bool, true}
 use mathlib.Core.List.{List, ◌∷◌, ◌++◌}
 use mathlib.Core.Logic.{inl, inr}
@@ -74,7 +74,7 @@ module _ (layout : Layout) (result : Opened → ℕ) where
   directory_first image directory name more eight passed =
       elim (ℕ_discrete (index_at layout image directory) 0) [
         | yes none ↦ inl (none, ap result (in_none layout image directory name none) ∙ eight)
-        | no some ↦ inr (some, rw (in_there layout image directory name some) (passed (directory_indexed layout image directory some)))
+        | no some ↦ inr (some, subst (λ (o : Opened). First (result o) more) (sym (in_there layout image directory name some)) (passed (directory_indexed layout image directory some)))
       ]
 
   -- what a search in index i finds, or not
@@ -91,7 +91,7 @@ module _ (layout : Layout) (result : Opened → ℕ) where
         go : (o : Opened) → find_in image i name ≡ o → First (result o) (ground 8 (Present image i name → ⊥) ∷ more)
         go (At h p k) e =
             let f = found_is layout image name i h p k is indexed kept e in
-            rw (← f.0) (inr ((λ absent. absent (found_has layout image name i p k f.1 (λ j. Unit {0}) tt)), found p k f.1))
+            inr ((λ absent. absent (found_has layout image name i p k f.1 (λ j. Unit {0}) tt)), subst (λ (j : ℕ). First (result (At j p k)) more) f.0 (found p k f.1))
         go (Absent h) e = inl ((λ there. unfound image i name (rw (← absent_index image i name h e) at e) there.sector there.listed there.named), eight h)
         go (Refused number) e = absurd_test (sym (unseen (Refused number) e))
         go (Misnamed place) e = absurd_test (sym (unseen (Misnamed place) e))
@@ -107,6 +107,6 @@ module _ (layout : Layout) (result : Opened → ℕ) where
         go (Absent h) e =
             let same = absent_index image i name h e in
             let e' = rw (← same) at e in
-            rw (← same) (inr ((λ there. unfound image i name e' there.sector there.listed there.named), absent e'))
+            inr ((λ there. unfound image i name e' there.sector there.listed there.named), subst (λ (j : ℕ). First (result (Absent j)) more) same (absent e'))
         go (Refused number) e = absurd_test (sym (unseen (Refused number) e))
         go (Misnamed place) e = absurd_test (sym (unseen (Misnamed place) e))

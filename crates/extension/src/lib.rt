@@ -1,5 +1,7 @@
 // The last block of a chain, and one sector more written into the chain's bytes: into that block where the sector follows it,
 // otherwise into a block of its own.
+#![tactic(auto)]
+
 ghost use Rattle.std.specs.Prelude.{◌≡◌, ◌<◌};
 ghost use Rattle.extension.specs.Tip.{is_next, tip_with, IsTip};
 ghost use Rattle.extension.specs.Built.{Extendable, Extends};

@@ -1,5 +1,7 @@
 // An index anew: with a number taken out, with one put in its place by name, and with all of them in the order of their names. Each answers for any bytes with what the
 // rules' definitions say; numbers that do not fit into the sector are left out.
+#![tactic(auto)]
+
 ghost use Rattle.std.specs.Prelude.{◌≡◌, true, not, List, [], ◌∷◌, ◌++◌, ℕ, ◌+◌, ◌*◌, ◌%◌, ◌≤◌, ◌<◌, length, drop, replicate};
 ghost use Rattle.rules.specs.Bytes.{splice};
 ghost use Rattle.rules.specs.Index.{numbers, numbers_bytes, index_of, without, IsIndex};

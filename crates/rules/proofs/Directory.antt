@@ -1,15 +1,15 @@
 -- The entries of directories: their rule as a test and as facts; and that they stand where the label stands.
 use mathlib.Core.Path.{◌≡◌, refl, sym, ap, ◌∙◌}
 use mathlib.Core.Logic.{◌⊎◌, inl, inr}
-use mathlib.Core.Bool.{Bool, true, false, not, cond, ◌&&◌, ◌||◌}
+use mathlib.Core.Bool.{Bool, true, false, not, ◌&&◌, ◌||◌}
 use mathlib.Core.List.{List, [], ◌∷◌}
-use Prim.Native.Nat.{ℕ, zero, suc, ◌≤◌, ◌<◌}
+use Prim.Native.Nat.{ℕ, zero, suc, ◌<◌}
 use native.Mathlib.Omega.{arith}
 use lib.Dec.{leb, ltb}
 use lib.ListN.{length, get_or}
-use borrow.Author.Tests.{le-leb, leb-true, lt-ltb, ltb-true, not-false}
-use Rattle.rules.specs.Bytes.{byte_at, part, all_are, same}
-use Rattle.rules.specs.Name.{name_rule, IsName}
+use borrow.Author.Tests.{le-leb, leb-true, lt-ltb, ltb-true}
+use Rattle.rules.specs.Bytes.{byte_at, same}
+use Rattle.rules.specs.Name.{name_rule}
 use Rattle.rules.specs.Directory.{entries, entry_name, entry_index, is_absent, is_named, entry_rule, entries_rule, IsEntry, IsAbsent, AreEntries}
 use Rattle.rules.specs.declared.Layout.{Layout}
 use Rattle.rules.proofs.Tests.{absurd_test, both, neither}

@@ -2,7 +2,7 @@
 use mathlib.Core.Path.{◌≡◌, refl, sym, ap, ◌∙◌, fun_ext}
 use mathlib.Core.Bool.{true}
 use mathlib.Core.List.{List, [], ◌∷◌, ◌++◌}
-use Prim.Native.Nat.{ℕ, zero, suc, ◌+◌, ◌-◌, ◌*◌, ◌/◌, ◌%◌, ◌≤◌, ◌<◌}
+use Prim.Native.Nat.{ℕ, zero, suc, ◌+◌, ◌*◌, ◌/◌, ◌%◌, ◌≤◌, ◌<◌}
 use native.Mathlib.Omega.{arith}
 use native.Mathlib.Nat.{mod-lt}
 use native.Mathlib.Decide.{dec_lt, ℕ_discrete}
@@ -74,7 +74,7 @@ count_append k (h ∷ as') bs = omega (arith, count_append k as' bs)
 -- what bit k is to be
 pub taken_below : (n : ℕ) (holders : List ℕ) (k : ℕ) → k < n → taken n holders k ≡ count k holders
 unfolding taken
-taken_below n holders k h = rw (lt-ltb k n h)
+taken_below n holders k h = grind (arith, lt-ltb)
 
 pub taken_past : (n : ℕ) (holders : List ℕ) (k : ℕ) → n ≤ k → taken n holders k ≡ 1
 unfolding taken

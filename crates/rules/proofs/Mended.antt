@@ -153,7 +153,7 @@ module _ (layout : Layout) (image : List ℕ) (is : Mendable layout image) where
 
   pub mended_label : (b : ℕ) → b < 56 → byte_at (sector_of after 0) b ≡ byte_at (sector_of image 0) b
   unfolding map_anew
-  mended_label b h = ap (λ (s : List ℕ). byte_at s b) mended_map ∙ splice_below (sector_of image 0) 56 (map_of n (holders layout image)) b h
+  mended_label b h = ap (λ (s : List ℕ). byte_at s b) mended_map ∙ splice_below (sector_of image 0) 56 _ b h
 
   -- what the files hold stands as it stood
   pub held_stands : (j : ℕ) → 1 ≤ count j held → sector_of after j ≡ sector_of image j

@@ -1,5 +1,6 @@
 // The value types of the rules. What they mean is said in specs/, which holds the paper as definitions;
 // proofs/ holds the laws about them.
+#![tactic(auto)]
 
 // The rules that an image is read by: whether status bit 10 hex is the backup mark, "changed since backup", or forbidden; and
 // whether sector 0 has entries of directories, as in the second edition, or bytes that are carried there, as in the first.
