@@ -1,14 +1,12 @@
 -- The entries, by their places, and the indexes: a turn of each loop over them.
-use mathlib.Core.Path.{◌≡◌, refl, sym, ap, ◌∙◌}
-use mathlib.Core.Bool.{Bool, true, false, not, cond, ◌&&◌, ◌||◌}
-use mathlib.Core.List.{List, [], ◌∷◌, map}
+use mathlib.Core.Path.{◌≡◌, refl, ◌∙◌}
+use mathlib.Core.Bool.{Bool, true, false, ◌&&◌, ◌||◌}
+use mathlib.Core.List.{List, [], ◌∷◌}
 use Prim.Native.Nat.{ℕ, zero, suc, ◌+◌, ◌*◌, ◌≤◌, ◌<◌}
 use native.Mathlib.Omega.{arith}
-use native.Mathlib.Numerals.{add-one}
-use lib.ListN.{length, drop, get_or, drop_of_length-le}
+use lib.ListN.{drop, drop_of_length-le}
 use Rattle.rules.specs.Bytes.{part, same}
-use Rattle.rules.specs.Sectors.{sector_of}
-use Rattle.rules.specs.Directory.{entries, entry_name, entry_index, is_absent, is_named, entry_rule, entries_rule}
+use Rattle.rules.specs.Directory.{entries, entry_name, is_absent, is_named, entry_rule, entries_rule}
 use Rattle.rules.specs.Volume.{index_at, every}
 use Rattle.rules.specs.Sound.{IsIndexed}
 use Rattle.rules.specs.declared.Layout.{Layout}

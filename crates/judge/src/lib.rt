@@ -1,5 +1,7 @@
 // The judge: the number 0 to 6 of any image. Each test answers what the rules' definition of the same name says; `judge` puts
 // them in the table's order, and a test may ask for what those before it have found.
+#![tactic(auto)]
+
 ghost use Rattle.std.specs.Prelude.{◌≡◌};
 ghost use Rattle.rules.specs.Verdict.{verdict};
 

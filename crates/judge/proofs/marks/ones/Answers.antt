@@ -4,15 +4,11 @@ use mathlib.Core.List.{List, [], ◌∷◌}
 use Prim.Native.Nat.{ℕ, ◌+◌, ◌-◌, ◌^◌}
 use lib.ListN.{get_or}
 use Rattle.rules.proofs.Map.{by_eight}
-use borrow.Author.Rules.{rules}
-use Rattle.judge.proofs.marks.ones.Statement.{statement}
-use Rattle.judge.proofs.marks.ones.Tie as tie
+use Rattle.std.proofs.Common.{rules}
+use Rattle.judge.proofs.marks.ones.Goals as goal
 
 abbrev table : List ℕ
 table = 1 ∷ (3 ∷ (7 ∷ (15 ∷ (31 ∷ (63 ∷ (127 ∷ (255 ∷ [])))))))
 
-returns : tie.Need-returns
+pub returns : goal.returns
 returns c = by_eight (λ (more : ℕ). get_or table more 0 ≡ 2 ^ (more + 1) - 1) refl refl refl refl refl refl refl refl c.args.more (search rules)
-
-pub ones-spec : {M : Type 1} → statement M
-ones-spec = tie.close (tie.spec (λ c. search rules) returns)
