@@ -9,7 +9,7 @@
 // and the images after it are judged all the same.
 #![tactic(auto)]
 
-ghost use Rattle.std.specs.Prelude.{◌≡◌, ◌+◌, ◌<◌, length};
+ghost use Rattle.std.specs.Prelude.{◌≡◌, ◌+◌, ◌<◌, ◌≤◌, length};
 ghost use Rattle.rules.specs.Bytes.{splice};
 ghost use Rattle.line.specs.Laid.{Laid};
 ghost use Rattle.belt.specs.Line.{reason_of, line_of, bare_line};
@@ -135,7 +135,8 @@ fn judge_standard_input(
     rt.stdout().write_all(part(buffer, 0, size))
 }
 
-// Judges what the command line names, and gives the count of the images. Argument 0 is the program's own name.
+// Judges what the command line names, or what comes on standard input where it names nothing. The answer is
+// how many images that were.
 fn judge_all(
     rt: HostRuntime,
     layout: Layout,
@@ -156,7 +157,7 @@ fn judge_all(
     Ok(end - first)
 }
 
-// A line that cannot be written ends the run: no later one would
+// Argument 0 is the program's own name. A line that cannot be written ends the run: no later one would
 // do better. The buffers are arrays down to the loop, which keeps their lengths by their types; of a
 // slice of a large array the prover would count them.
 fn run(rt: HostRuntime, argument: &mut [u8; ARGUMENT_ROOM], buffer: &mut [u8; IMAGE_ROOM]) {
