@@ -1,5 +1,7 @@
 // The one opener of all calls that name a file: at a place of a directory, absent from it, or refused with a number from 1 to 7, and with 7 where the name is
 // wrong, or with 8 where there is no such directory.
+#![tactic(auto)]
+
 ghost use Rattle.std.specs.Prelude.{◌≡◌, ◌<◌};
 ghost use Rattle.rules.specs.Opening.{find_in, in_directory, open_of};
 

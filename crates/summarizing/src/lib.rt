@@ -1,5 +1,7 @@
 // The free count, and a volume's summary. Each call takes any image, and gives what the rules' definition of it says: its number first, in
 // the table's order, and with 0 its values and bytes. A refusal writes nothing.
+#![tactic(auto)]
+
 ghost use Rattle.std.specs.Prelude.{◌≡◌, ◌≤◌, length};
 ghost use Rattle.rules.specs.Index.{numbers};
 ghost use Rattle.rules.specs.Volume.{indexes, files_of};

@@ -17,9 +17,9 @@ use Rattle.rules.specs.declared.NamedAnswer.TheVariants.{Done, Refused, Misnamed
 use Rattle.rules.proofs.Name.{name_is}
 use Rattle.rules.proofs.Misnamed.{none_rule, place_wrong, wrong_unnamed}
 use Rattle.rules.proofs.Outcome.{bare, made_refused, made_done}
-use borrow.Author.Rules.{rules}
-use Rattle.formatting.proofs.format.format.Statement.{statement}
-use Rattle.formatting.proofs.format.format.Tie as tie
+use Rattle.std.proofs.Common.{rules}
+use Rattle.formatting.proofs.format.format.Goals as goal
+use Rattle.formatting.proofs.format.format.Goals.{Else-sectors-gt1600, In-None}
 
 -- a name that is wrong somewhere breaks the rule
 unruled : (name : List ℕ) (place : ℕ) → wrong_place name ≡ At place → name_rule name ≡ false
@@ -52,65 +52,45 @@ module _ (image : List ℕ) (n : ℕ) (name : List ℕ) where
   unfolding NamedSays
   refused whole e = made_refused (NamedSays (wrong_place name)) (Refused 1) (format_tests image n name) whole image 1 (λ z. omega (arith, z)) (bare 1 refl) e
 
-returns : tie.Need-returns
+pub returns-then-image-ne0 : goal.returns-then-image-ne0
 unfolding size_rule after_format
-returns c = refused _ _ _ _ (missized _ _ _ (rw (ne_eqb _ _ c.if1.true)))
+returns-then-image-ne0 c = let both = refused _ _ _ _ (missized _ _ _ (rw (ne_eqb _ _ c.if-image-ne0.true))) in
+    record { named_says = both.0; image_after = both.1 }
 
-returns-2 : tie.Need-returns-2
+pub returns-then-sectors-lt3 : goal.returns-then-sectors-lt3
 unfolding size_rule after_format
-returns-2 c = refused _ _ _ _ (missized _ _ _ (rw (eq-eqb _ _ c.before.if1.false, lt-leb _ _ c.if2.true)))
+returns-then-sectors-lt3 c = let both = refused _ _ _ _ (missized _ _ _ (rw (eq-eqb _ _ c.if-image-ne0.false, lt-leb _ _ c.if-sectors-lt3.true))) in
+    record { named_says = both.0; image_after = both.1 }
 
-returns-3 : tie.Need-returns-3
+pub returns-then-sectors-gt1600 : goal.returns-then-sectors-gt1600
 unfolding size_rule after_format
-returns-3 c = refused _ _ _ _ (missized _ _ _ (rw (eq-eqb _ _ c.before.before.if1.false, le-leb _ _ c.before.if2.false, lt-leb _ _ c.if3.true)))
+returns-then-sectors-gt1600 c = let both = refused _ _ _ _ (missized _ _ _ (rw (eq-eqb _ _ c.if-image-ne0.false, le-leb _ _ c.if-sectors-lt3.false, lt-leb _ _ c.if-sectors-gt1600.true))) in
+    record { named_says = both.0; image_after = both.1 }
 
-abbrev start : tie.Else3 → tie.Start
-start c = c.before.before.before.before.before
-
-sized : (c : tie.Else3) → size_rule (start c).args.image.now ≡ true
+sized : (c : Else-sectors-gt1600) → size_rule c.args.image.now ≡ true
 unfolding size_rule
-sized c = rw (eq-eqb _ _ c.before.before.if1.false, le-leb _ _ c.before.if2.false, le-leb _ _ c.if3.false)
+sized c = rw (eq-eqb _ _ c.if-image-ne0.false, le-leb _ _ c.if-sectors-lt3.false, le-leb _ _ c.if-sectors-gt1600.false)
 
-returns-4 : tie.Need-returns-4
+pub returns-then-n-sectors : goal.returns-then-n-sectors
 unfolding after_format
-returns-4 c = refused _ _ _ _ (misasked _ _ _ c.if4.true (sized c.before))
+returns-then-n-sectors c = let both = refused _ _ _ _ (misasked _ _ _ c.if-n-sectors.true (sized (goal.at.returns-then-n-sectors c).Else-sectors-gt1600)) in
+    record { named_says = both.0; image_after = both.1 }
 
-returns-5 : tie.Need-returns-5
+pub returns-in-At : goal.returns-in-At
 unfolding after_format NamedSays
-returns-5 c =
-    let w = c.before in
-    let p = w.before.before in
-    let asked = p.before in
-    let there = sym p.wrong-place.ensures ∙ w.wrong.given.1 in
-    made_refused (NamedSays _) (Misnamed _) _ _ _ 7 (λ z. omega (arith, z)) (refl, there) (misnamed _ _ _ asked.if4.false (sized asked.before) (unruled _ _ there))
+returns-in-At c =
+    let there = sym c.wrong_place-wrong.ensures ∙ c.in-At.is in
+    let both = made_refused (NamedSays _) (Misnamed _) _ _ _ 7 (λ z. omega (arith, z)) (refl, there) (misnamed _ _ _ c.if-n-sectors.false (sized (goal.at.returns-in-At c).Else-sectors-gt1600) (unruled _ _ there)) in
+    record { named_says = both.0; image_after = both.1 }
 
-named : (c : tie.After-enum-told) → name_rule (start c.before.before.before.before).args.name.now ≡ true
-named c = none_rule _ (sym c.before.before.wrong-place.ensures ∙ c.enum_told.given.1)
+named : (c : In-None) → name_rule c.args.name.now ≡ true
+named c = none_rule _ (sym c.wrong_place-wrong.ensures ∙ c.in-None.is)
 
-write-volume-requires : tie.Need-write-volume-requires
-write-volume-requires c κs = (search rules, search rules, search rules, (name_is _ (named c.before)).ten)
+pub write_volume-requires : goal.write_volume-requires
+write_volume-requires c = (search rules, search rules, search rules, (name_is _ (named (goal.at.write_volume-requires c).In-None)).ten)
 
-returns-6 : tie.Need-returns-6
+pub returns-in-None : goal.returns-in-None
 unfolding after_format NamedSays
-returns-6 c =
-    let written = c.before.before in
-    let ruled = written.before.before in
-    let asked = ruled.before.before.before in
-    let whole = made_done (NamedSays (wrong_place (start asked.before).args.name.now)) Done _ _ _ refl (passed _ _ _ asked.if4.false (sized asked.before) (named ruled)) in
-    (whole.0, written.write-volume.ensures ∙ whole.1)
-
-pub format-spec : {M : Type 1} → statement M
-format-spec =
-    tie.close
-    (tie.spec
-    returns
-    returns-2
-    returns-3
-    returns-4
-    (λ c κs. search rules)
-    (λ c. search rules)
-    (λ c. search rules)
-    write-volume-requires
-    returns-5
-    (λ c. search rules)
-    returns-6)
+returns-in-None c =
+    let whole = made_done (NamedSays (wrong_place c.args.name.now)) Done _ _ _ refl (passed _ _ _ c.if-n-sectors.false (sized (goal.at.returns-in-None c).Else-sectors-gt1600) (named (goal.at.returns-in-None c).In-None)) in
+    record { named_says = whole.0; image_after = c.write_volume.ensures ∙ whole.1 }

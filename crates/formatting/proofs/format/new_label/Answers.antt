@@ -7,9 +7,7 @@ use lib.ListN.{length, drop, replicate, length-append}
 use Rattle.rules.specs.Bytes.{splice}
 use Rattle.rules.specs.Calls.Format.{new_label}
 use Rattle.rules.proofs.Formatted.{laid_front, laid_next}
-use borrow.Author.Rules.{rules}
-use Rattle.formatting.proofs.format.new_label.Statement.{statement}
-use Rattle.formatting.proofs.format.new_label.Tie as tie
+use Rattle.formatting.proofs.format.new_label.Goals as goal
 
 -- what the two calls leave in a label of zeros
 laid : (name behind : List ℕ) → length name ≡ 10 → length behind ≡ 10
@@ -20,22 +18,8 @@ laid name behind ten ten' =
     ∙ laid_front (replicate 56 0) (name ++ behind) (omega (arith, long))
     ∙ rw (long, append_assoc name behind (drop 20 (replicate 56 0)))
 
-returns : tie.Need-returns
+pub returns : goal.returns
 unfolding new_label
 returns c =
-    let first = c.before.before.before.before.before.lay.ensures in
-    let start = c.before.before.before.before.before.before.before.before in
-    rw first at c.before.lay2.ensures ∙ laid start.args.name.now _ start.requires.1 refl
-
-pub new-label-spec : {M : Type 1} → statement M
-new-label-spec =
-    tie.close
-    (tie.spec
-    (λ c. search rules)
-    (λ c. search rules)
-    (λ c. search rules)
-    (λ c κs. search rules)
-    (λ c. search rules)
-    (λ c. search rules)
-    (λ c κs. search rules)
-    returns)
+    let first = c.lay.ensures in
+    rw first at c.lay-2.ensures ∙ laid c.args.name.now _ c.requires.1 refl

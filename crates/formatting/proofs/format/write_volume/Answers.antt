@@ -10,9 +10,8 @@ use Rattle.rules.proofs.Bytes.{part_length}
 use Rattle.rules.proofs.Splice.{splice-length, splice_whole, put_back}
 use Rattle.rules.proofs.Formatted.{put_next, sector0_length, formatted_parts}
 use Rattle.formatting.specs.Geometry.{geometry_of}
-use borrow.Author.Rules.{rules}
-use Rattle.formatting.proofs.format.write_volume.Statement.{statement}
-use Rattle.formatting.proofs.format.write_volume.Tie as tie
+use Rattle.formatting.proofs.format.write_volume.Goals as goal
+use Rattle.formatting.proofs.format.write_volume.Goals.{After-lay_sector0}
 
 -- what the three calls leave: each writes right behind the one before, and the last to the end of the image
 module _ (image sector0 : List ℕ) (n : ℕ) (large : 3 ≤ n) (long : length image ≡ 256 * n) (whole : length sector0 ≡ 256) where
@@ -42,57 +41,22 @@ module _ (image sector0 : List ℕ) (n : ℕ) (large : 3 ≤ n) (long : length i
 three_parts : {a b c a' b' c' : List ℕ} → a ≡ a' → b ≡ b' → c ≡ c' → a ++ (b ++ c) ≡ a' ++ (b' ++ c')
 three_parts e f g = rw (e, f, g)
 
--- the ways back: from the end to the zeros, from there to sector 0, and to the start of the call
-abbrev zeroed : tie.After-fill2 → tie.After-fill
-zeroed c = c.before.before.before.before
-
-abbrev first : tie.After-fill → tie.After-lay-sector0
-first c = c.before.before.before.before
-
-abbrev start : tie.After-lay-sector0 → tie.Start
-start c = c.before.before.before.before
-
 -- sector 0, and the image with it
-whole : (c : tie.After-lay-sector0) → length c.lay-sector0.new.0 ≡ 256
+whole : (c : After-lay_sector0) → length c.lay_sector0.new.sector0 ≡ 256
 whole c =
-    let s = start c in
-    ap length c.lay-sector0.ensures ∙ sector0_length s.args.n s.args.name.now (geometry_of s.args.geometry) s.pre.3
+    ap length c.lay_sector0.ensures ∙ sector0_length c.args.n c.args.name.now (geometry_of c.args.geometry) c.requires.3
 
-laid : (c : tie.After-lay-sector0) → put_mid 0 256 (start c).args.image.now c.lay-sector0.new.0 ≡ splice (start c).args.image.now 0 c.lay-sector0.new.0
+laid : (c : After-lay_sector0) → put_mid 0 256 c.args.image.now c.lay_sector0.new.sector0 ≡ splice c.args.image.now 0 c.lay_sector0.new.sector0
 laid c =
-    let s = start c in
-    put_back s.args.image.now c.lay-sector0.new.0 0 256 (whole c) (omega (arith, s.pre.0, s.pre.2))
+    put_back c.args.image.now c.lay_sector0.new.sector0 0 256 (whole c) (omega (arith, c.requires.0, c.requires.2))
 
-returns : tie.Need-returns
+pub returns : goal.returns
 returns c =
-    let last = c.before.before in
-    let filled = zeroed last in
-    let labelled = first filled in
-    let s = start labelled in
-    let n = s.args.n in
-    let image = s.args.image.now in
-    let sector0 = labelled.lay-sector0.last.0 in
-    let parts = formatted_parts n s.args.name.now (geometry_of s.args.geometry) s.pre.3 in
-    let zeros = filled.fill.last.0 in
-    let one = filled_one image sector0 n s.pre.0 s.pre.2 (whole labelled) _ zeros (laid labelled) filled.fill.ensures in
-    let rest = filled_rest image sector0 n s.pre.0 s.pre.2 (whole labelled) _ zeros last.fill2.new.0 (ap length one.0) one.1 last.fill2.ensures in
-    rest.1 ∙ three_parts labelled.lay-sector0.ensures one.0 rest.0 ∙ sym parts
-
-pub write-volume-spec : {M : Type 1} → statement M
-write-volume-spec =
-    tie.close
-    (tie.spec
-    (λ c. search rules)
-    (λ c. search rules)
-    (λ c. search rules)
-    (λ c κs. search rules)
-    (λ c. search rules)
-    (λ c. search rules)
-    (λ c. search rules)
-    (λ c κs. search rules)
-    (λ c. search rules)
-    (λ c. search rules)
-    (λ c. search rules)
-    (λ c κs. search rules)
-    (λ c. search rules)
-    returns)
+    let n = c.args.n in
+    let image = c.args.image.now in
+    let sector0 = c.lay_sector0.new.sector0 in
+    let parts = formatted_parts n c.args.name.now (geometry_of c.args.geometry) c.requires.3 in
+    let zeros = c.fill.new.target in
+    let one = filled_one image sector0 n c.requires.0 c.requires.2 (whole (goal.at.returns c).After-lay_sector0) _ zeros (laid (goal.at.returns c).After-lay_sector0) c.fill.ensures in
+    let rest = filled_rest image sector0 n c.requires.0 c.requires.2 (whole (goal.at.returns c).After-lay_sector0) _ zeros c.fill-2.new.target (ap length one.0) one.1 c.fill-2.ensures in
+    rest.1 ∙ three_parts c.lay_sector0.ensures one.0 rest.0 ∙ sym parts
