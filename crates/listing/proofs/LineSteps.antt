@@ -9,7 +9,6 @@ use Rattle.rules.specs.Index.{numbers}
 use Rattle.rules.specs.Volume.{files_in}
 use Rattle.rules.specs.Calls.Listing.{file_line, file_lines}
 use Rattle.rules.specs.declared.Layout.{Layout}
-use Rattle.rules.proofs.Bytes.{part_short}
 use Rattle.rules.proofs.Pieces.{Pieces, pieces_first, pieces_next, pieces_last}
 use Rattle.sector.specs.Numbers.{NumbersFrom}
 use Rattle.line.specs.Laid.{Laid}

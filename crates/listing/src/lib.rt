@@ -1,5 +1,7 @@
 // The catalogue program's text: the listing of a directory of a sound volume, the line that stands for any other image, and the one or the
 // other.
+#![tactic(auto)]
+
 ghost use Rattle.std.specs.Prelude.{◌≡◌, length};
 ghost use Rattle.rules.specs.Bytes.{splice};
 ghost use Rattle.rules.specs.Outcome.{AmountSays, Gives};

@@ -1,5 +1,7 @@
 // Packing: the one laid down form of a volume. The call takes any source and any target and answers with its number. With 0 it writes
 // every byte of the target, each part in one pass; a refusal writes nothing. The source is only read.
+#![tactic(auto)]
+
 ghost use Rattle.std.specs.Prelude.{◌≡◌, length, replicate};
 ghost use Rattle.rules.specs.Sectors.{sector_count};
 ghost use Rattle.rules.specs.Volume.{catalogues};

@@ -8,9 +8,8 @@ use Rattle.rules.specs.Bytes.{over, splice}
 use Rattle.rules.specs.Chain.{block_bytes, blocks_bytes}
 use Rattle.rules.specs.Calls.Pack.{one_block}
 use Rattle.rules.proofs.Formatted.{laid_front, laid_next}
-use borrow.Author.Rules.{rules}
-use Rattle.packing.proofs.files.packed_descriptor.Statement.{statement}
-use Rattle.packing.proofs.files.packed_descriptor.Tie as tie
+use Rattle.packing.proofs.files.packed_descriptor.Goals as goal
+use Rattle.packing.proofs.files.packed_descriptor.Goals.{After-lay}
 
 -- without a block, and with one
 empty : (header : List ℕ) (start : ℕ) → length header ≡ 28 → splice (replicate 256 0) 0 header ≡ header ++ over (replicate 228 0) (blocks_bytes (one_block start 0))
@@ -30,41 +29,18 @@ one header start sectors long some =
     ∙ append_assoc header block (replicate 225 0)
     ∙ ap (λ (m : ℕ). header ++ over (replicate 228 0) (blocks_bytes (one_block start m))) (sym e)
 
--- the start of the call, and the header laid in front of zeros
-abbrev start : tie.After-lay → tie.Start
-start c = c.before.before.before.before
+headed : (c : After-lay) → c.lay.new.buffer ≡ splice (replicate 256 0) 0 c.args.header.now
+headed c = c.lay.ensures ∙ ap (λ (d : List ℕ). splice d 0 c.args.header.now) c.requires.0
 
-headed : (c : tie.After-lay) → c.lay.new.0 ≡ splice (replicate 256 0) 0 (start c).args.header.now
-headed c = c.lay.ensures ∙ ap (λ (d : List ℕ). splice d 0 (start c).args.header.now) (start c).requires.0
+pub returns-then-sectors-eq0 : goal.returns-then-sectors-eq0
+returns-then-sectors-eq0 c =
+    let a = c.args in
+    rw c.if-sectors-eq0.true (headed (goal.at.returns-then-sectors-eq0 c).After-lay ∙ empty a.header.now a.start c.requires.1)
 
-returns : tie.Need-returns
+pub returns : goal.returns
 returns c =
-    let y = c.before.before.before in
-    let a = (start y).args in
-    rw c.if1.true (headed y ∙ empty a.header.now a.start (start y).requires.1)
-
-returns-2 : tie.Need-returns-2
-returns-2 c =
-    let z = c.before.before in
-    let block = z.before.before.before in
-    let e = block.before in
-    let y = e.before.before.before in
-    let a = (start y).args in
-    z.lay2.ensures
-    ∙ ap (splice y.lay.new.0 28) block.block-bytes.ensures
-    ∙ ap (λ (d : List ℕ). splice d 28 (block_bytes (record { start = a.start; last = a.sectors - 1 }))) (headed y)
-    ∙ one a.header.now a.start a.sectors (start y).requires.1 e.if1.false
-
-pub packed-descriptor-spec : {M : Type 1} → statement M
-packed-descriptor-spec =
-    tie.close
-    (tie.spec
-    (λ c κs. search rules)
-    (λ c. search rules)
-    returns
-    (λ c. search rules)
-    (λ c κs. search rules)
-    (λ c. search rules)
-    (λ c κs. search rules)
-    (λ c. search rules)
-    returns-2)
+    let a = c.args in
+    c.lay-2.ensures
+    ∙ ap (splice c.lay.new.buffer 28) c.block_bytes-block.ensures
+    ∙ ap (λ (d : List ℕ). splice d 28 (block_bytes (record { start = a.start; last = a.sectors - 1 }))) (headed (goal.at.returns c).After-lay)
+    ∙ one a.header.now a.start a.sectors c.requires.1 c.if-sectors-eq0.false
