@@ -28,6 +28,7 @@ const TEXT_ROOM: usize = 4466;
 
 // Puts what the program writes for an image at the front of the text, and gives its length. The
 // length is tested here, since the library takes images that are longer than the program's.
+#[tactic(auto, using(crate::proofs::Outputs::long_size, crate::proofs::Outputs::long_left, crate::proofs::Outputs::long_front))]
 fn put_text(layout: Layout, image: &[u8], text: &mut [u8]) -> usize
     requires { 4466 ≤ length text.old }
     ensures result_after { part text.new 0 result ≡ output layout image.now }
