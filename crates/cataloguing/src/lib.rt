@@ -1,5 +1,7 @@
 // A catalogue entry: the 28 header bytes and the row of the file at a place of a directory. The call takes any image and any arguments, and
 // gives what the rules' definition of it says: its number first, in the table's order, and with 0 its row and bytes. A refusal writes nothing.
+#![tactic(auto)]
+
 ghost use Rattle.std.specs.Prelude.{◌≡◌, length};
 ghost use Rattle.rules.specs.Outcome.{Gives};
 ghost use Rattle.rules.specs.Calls.Entry.{no_row, entry_of, entry_row, EntrySays};

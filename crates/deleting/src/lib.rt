@@ -1,6 +1,8 @@
 // Deleting: the file's number leaves its index, and its sectors are free; they keep their bytes. The call takes any image and any arguments,
 // answers with its number, and leaves the image with the writes of the rules' definition laid over it, and their order in a list that is lent
 // for it; a refusal has none.
+#![tactic(auto)]
+
 ghost use Rattle.std.specs.Prelude.{◌≡◌, ◌∷◌, ℕ, length};
 ghost use Rattle.rules.specs.Name.{wrong_place};
 ghost use Rattle.rules.specs.Sectors.{sector_of};

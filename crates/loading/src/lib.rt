@@ -1,5 +1,7 @@
 // A load: the bytes of a program. The call takes any image and any arguments, and gives what the rules' definition of it says: its number
 // first, in the table's order, and with 0 its bytes. A refusal writes nothing.
+#![tactic(auto)]
+
 ghost use Rattle.std.specs.Prelude.{◌≡◌, map, ◌<◌, length, take};
 ghost use Rattle.rules.specs.Name.{wrong_place};
 ghost use Rattle.rules.specs.Bytes.{splice};

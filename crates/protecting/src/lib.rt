@@ -1,5 +1,7 @@
 // Protecting and unprotecting, and clearing a mark: the 08 bit and the 10 bit of a file's status, set where it stands, in byte 12 of the descriptor. Each call takes any image and
 // any arguments, answers with its number, and leaves the image with the writes of the rules' definition laid over it, and their order in a list that is lent for it; a refusal has none.
+#![tactic(auto)]
+
 ghost use Rattle.std.specs.Prelude.{◌≡◌, ◌<◌};
 ghost use Rattle.rules.specs.Name.{wrong_place};
 ghost use Rattle.rules.specs.Outcome.{listed, NamedSays, Meets};

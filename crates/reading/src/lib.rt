@@ -1,5 +1,7 @@
 // A sector read: one sector of a file, by its offset in the file. The call takes any image and any arguments, and gives what the rules'
 // definition of it says: its number first, in the table's order, and with 0 its bytes. A refusal writes nothing.
+#![tactic(auto)]
+
 ghost use Rattle.std.specs.Prelude.{length};
 ghost use Rattle.rules.specs.Name.{wrong_place};
 ghost use Rattle.rules.specs.Outcome.{Gives, ReadSays};

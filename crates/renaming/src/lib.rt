@@ -1,5 +1,7 @@
 // Renaming: the ten name bytes, and the file's place in its index. The call takes any image and any arguments, answers with its number, and
 // leaves the image with the writes of the rules' definition laid over it, and their order in a list that is lent for it; a refusal has none.
+#![tactic(auto)]
+
 ghost use Rattle.std.specs.Prelude.{◌≡◌, true, replicate};
 ghost use Rattle.rules.specs.Name.{name_rule, wrong_place};
 ghost use Rattle.rules.specs.Index.{index_of, without};

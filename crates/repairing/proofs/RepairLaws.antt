@@ -39,7 +39,7 @@ unfolding written ordered_index
 indexes_apart names image [] j none = refl
 indexes_apart names image (i ∷ is) j none =
     let parts = count_apart j i is none in
-    indexes_apart names _ is j parts.1 ∙ sector_other image i _ (index_length (ordered names (files_in names i))) j parts.0
+    indexes_apart names (splice image (256 * i) (ordered names (files_in names i))) is j parts.1 ∙ sector_other image i _ (index_length (ordered names (files_in names i))) j parts.0
 
 module _ (layout : Layout) (image : List ℕ) (between : List ℕ) (written-indexes : between ≡ written image (map (ordered_index image) (indexes layout image))) where
   zero_stands : sector_of between 0 ≡ sector_of image 0

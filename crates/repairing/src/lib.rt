@@ -1,5 +1,7 @@
 // Repair, after a stop between two writes of a call: every index ordered by name, then the map made anew. It takes any image, answers with its number, and leaves
 // the image with the writes of the rules' definition laid over it, and their order in a list that is lent for it; a refusal has none.
+#![tactic(auto)]
+
 ghost use Rattle.std.specs.Prelude.{◌≡◌, true, ◌&&◌, [], map, ◌*◌, ◌≤◌, ◌<◌, length};
 ghost use Rattle.rules.specs.Bytes.{splice};
 ghost use Rattle.rules.specs.Sectors.{sector_of, sector_count, written};
