@@ -61,6 +61,7 @@ fn put_unread(text: &mut [u8]) -> Listed
     }
 }
 
+#[tactic(auto, using(crate::proofs::Parting::none_laid, crate::proofs::Parting::none_long, crate::proofs::Parting::one_laid))]
 fn put_parting(first: bool, page: &mut [u8]) -> usize
     ensures { Laid 1 page.old page.new 0 result (parting_of first) }
 {
