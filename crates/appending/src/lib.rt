@@ -1,5 +1,7 @@
 // Appending: one sector more of a file. The call takes any image and any arguments, answers with its number, and leaves the image with the
 // writes of the rules' definition laid over it, and their order in a list that is lent for it; a refusal has none.
+#![tactic(auto)]
+
 ghost use Rattle.std.specs.Prelude.{◌≡◌, ℕ, ◌+◌, length};
 ghost use Rattle.rules.specs.Name.{wrong_place};
 ghost use Rattle.rules.specs.Chain.{blocks, extended};

@@ -1,5 +1,7 @@
 // Creating: a file without sectors. The call takes any image and any arguments, answers with its number, and leaves the image with the
 // writes of the rules' definition laid over it, and their order in a list that is lent for it; a refusal has none.
+#![tactic(auto)]
+
 ghost use Rattle.std.specs.Prelude.{◌≡◌, true, ◌*◌, ◌<◌, length};
 ghost use Rattle.rules.specs.Bytes.{splice};
 ghost use Rattle.rules.specs.Name.{name_rule, wrong_place};

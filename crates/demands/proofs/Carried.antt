@@ -33,7 +33,7 @@ use Rattle.rules.proofs.Outcome.{by_cases, wrong_cases}
 use Rattle.demands.specs.Call as call
 use Rattle.demands.specs.Call.{Names, Form, Look, Change, Call, names_of, change_rule, rule_of, form_of, number_of, number_in, answer_number, amount_number, summary_number, named_number, loaded_number, NamedCarries, LoadCarries, Carries}
 use Rattle.demands.specs.Ours.{answered, seen, outcome, ours}
-use Rattle.demands.specs.Grounds.{Ground, ground, First, faults, look_grounds, change_grounds, name_grounds, grounds}
+use Rattle.demands.specs.Grounds.{Ground, First, faults, look_grounds, change_grounds, name_grounds, grounds}
 
 pub answer_number_lem : (number : ℕ) → answer_number (answer_of number) ≡ number
 unfolding answer_of answer_number
@@ -138,14 +138,14 @@ named_carries : (names : Names) (number : ℕ) → (number ≡ 7 → Misnamed na
 unfolding answered named_answer_of rename_answer_of NamedCarries
 named_carries (call.one name) number wrong =
     by_cases number _ _ _ (NamedCarries (call.one name)) (λ zero. tt)
-    (λ seven. wrong_cases (NamedCarries (call.one name)) (wrong_place name) _ _ (place_wrong name) (λ none. absurd (wrong seven (name_is name (none_rule name none)))))
+    (λ seven. wrong_cases (NamedCarries (call.one name)) (wrong_place name) _ _ (λ place there. assumption (place_wrong name place there)) (λ none. absurd (wrong seven (name_is name (none_rule name none)))))
     (λ some other. (some, other))
 named_carries (call.both old new) number wrong =
     by_cases number _ _ _ (NamedCarries (call.both old new)) (λ zero. tt)
     (λ seven.
     wrong_cases (NamedCarries (call.both old new)) (wrong_place old) _ _ (place_wrong old)
     (λ kept.
-    wrong_cases (NamedCarries (call.both old new)) (wrong_place new) _ _ (λ place there. (is_old kept, place_wrong new place there)) (λ none. absurd (neither_wrong (wrong seven) kept none))))
+    wrong_cases (NamedCarries (call.both old new)) (wrong_place new) _ _ (λ place there. assumption (is_old kept, place_wrong new place there)) (λ none. absurd (neither_wrong (wrong seven) kept none))))
     (λ some other. (some, other))
   where
     is_old : wrong_place old ≡ None → IsName old

@@ -92,8 +92,8 @@ module _ (layout : Layout) (image : List ℕ) (i : ℕ) (name : List ℕ) (k : �
         map = sector0;
         numbers = numbers_after layout replaced index_now;
         others = λ j inside apart.
-            let some = count_apart j 0 (i ∷ []) apart in
-            others j some.0 (count_apart j i [] some.1).0;
+            let some = count_apart j 0 _ apart in
+            others j some.0 (count_apart j i _ some.1).0;
       }
 
   -- and its writes are the index and sector 0

@@ -1,13 +1,13 @@
 -- The two editions: where no entry is there, both have the root's index alone, and so the same holders; a directory's index is a holder of the second edition and not of the first, and its map bit is one.
-use mathlib.Core.Path.{◌≡◌, refl, sym, ap, ◌∙◌}
-use mathlib.Core.Bool.{Bool, true, false, cond}
+use mathlib.Core.Path.{◌≡◌, refl, sym, ◌∙◌}
+use mathlib.Core.Bool.{Bool, true, false}
 use mathlib.Core.Logic.{inl}
-use mathlib.Core.List.{List, [], ◌∷◌, ◌++◌, map, append-nil}
+use mathlib.Core.List.{List, [], ◌∷◌, map, append-nil}
 use Prim.Native.Nat.{ℕ, zero, suc, ◌+◌, ◌≤◌, ◌<◌}
 use native.Mathlib.Omega.{arith}
 use native.Mathlib.Decide.{dec_lt}
 use lib.ListN.{length, get_or, get_or-eq_default}
-use Rattle.rules.specs.Bytes.{byte_at, part}
+use Rattle.rules.specs.Bytes.{part}
 use Rattle.rules.specs.Sectors.{sector_of, sector_count}
 use Rattle.rules.specs.Map.{count, map_rule}
 use Rattle.rules.specs.Kind.{allowed_bits}
@@ -17,7 +17,6 @@ use Rattle.rules.specs.Tests.{first_of}
 use Rattle.rules.specs.Verdict.{volume_tests, verdict}
 use Rattle.rules.specs.Sound.{Sound}
 use Rattle.rules.specs.declared.Layout.{Layout}
-use Rattle.rules.proofs.Tests.{absurd_test}
 use Rattle.rules.proofs.Bytes.{part_at, part_short}
 use Rattle.rules.proofs.Label.{is_label}
 use Rattle.rules.proofs.Map.{count_here, count_append, map_at, taken_below}

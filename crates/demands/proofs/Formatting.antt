@@ -9,6 +9,7 @@ use native.Mathlib.Decide.{dec_lt}
 use lib.ListN.{length, take, drop, get_or, replicate, get_or-replicate, get_or-append, get_or-eq_default}
 use lib.Seq.{take_at, drop_at, take_all, drop-drop, get_or-append-add}
 use borrow.Author.Tests.{not-false, eqb-true}
+use Rattle.std.proofs.lemmas.List.{drop-replicate}
 use Rattle.rules.specs.Bytes.{byte_at, word_at, part}
 use Rattle.rules.specs.Sectors.{sector_of, sector_count}
 use Rattle.rules.specs.Name.{name_rule, IsName}
@@ -147,25 +148,39 @@ module _ (n : ℕ) (name : List ℕ) (g : Geometry) (large : 3 ≤ n) (small : n
   unfolding formatted new_label
   name_at = rw (append_assoc name (fields ++ replicate 36 0) volume) (take_at name ((fields ++ replicate 36 0) ++ volume) 10 named.ten)
 
+  -- from sector 2 on, and so from any byte behind it
+  fresh_from : (from : ℕ) → 512 ≤ from → drop from (formatted n name g) ≡ replicate (length (formatted n name g) - from) 0xE5
+  fresh_from from behind =
+      let image = formatted n name g in
+      let zeros : List ℕ = replicate 256 0 in
+      let rest : List ℕ = replicate (256 * (n - 2)) 0xE5 in
+      let sector0 = new_label n name g ++ map_of n (0 ∷ (1 ∷ [])) in
+      let fresh : drop 512 image ≡ rest =
+      rw (formatted_parts n name g named.ten)
+      (sym (drop-drop 256 256 (sector0 ++ (zeros ++ rest)))
+      ∙ ap (drop 256) (drop_at sector0 (zeros ++ rest) 256 (sector0_length n name g named.ten))
+      ∙ drop_at zeros rest 256 refl)
+      in
+      let split : from ≡ 512 + (from - 512) = omega arith in
+      let left : 256 * (n - 2) - (from - 512) ≡ length image - from = omega (arith, formatted-length n name g named.ten (omega arith)) in
+      ap (λ (m : ℕ). drop m image) split
+      ∙ sym (drop-drop (from - 512) 512 image)
+      ∙ ap (drop (from - 512)) fresh
+      ∙ drop-replicate (from - 512) (256 * (n - 2)) 0xE5
+      ∙ ap (λ (m : ℕ). replicate m 0xE5) left
+
   pub formatted_bytes : Formats n name g (formatted n name g)
   unfolding sector_of
   formatted_bytes =
       let zeros : List ℕ = replicate 256 0 in
       let rest : List ℕ = replicate (256 * (n - 2)) 0xE5 in
-      let sector0 = new_label n name g ++ map_of n (0 ∷ (1 ∷ [])) in
-      let left : 256 * (n - 2) ≡ 256 * n - 512 = omega arith in
       record {
         name_is = name_at;
         fields = fields_at 0 10;
         reserved = fields_at 10 36;
         map = fields_at 46 200 ∙ take_at (map_of n (0 ∷ (1 ∷ []))) (zeros ++ rest) 200 (map_length n (0 ∷ (1 ∷ [])));
         index = formatted_sector1 n name g named.ten;
-        rest =
-            rw (formatted-length n name g named.ten (omega arith), formatted_parts n name g named.ten)
-            (sym (drop-drop 256 256 (sector0 ++ (zeros ++ rest)))
-            ∙ ap (drop 256) (drop_at sector0 (zeros ++ rest) 256 (sector0_length n name g named.ten))
-            ∙ drop_at zeros rest 256 refl
-            ∙ ap (λ (m : ℕ). replicate m 0xE5) left);
+        rest = fresh_from _ (omega arith);
       }
 
 pub formatting : (layout : Layout) → Formatting layout

@@ -10,7 +10,7 @@ use Rattle.rules.specs.Sectors.{sector_of, sector_count, sectors_in, written}
 use Rattle.rules.specs.Map.{count, taken, map_of}
 use Rattle.rules.specs.Descriptor.{name_of}
 use Rattle.rules.specs.Index.{index_of}
-use Rattle.rules.specs.Volume.{indexes, files_in, files_of, name_in, places_in, file_holders, holders, catalogues}
+use Rattle.rules.specs.Volume.{indexes, files_in, files_of, name_in, places_in, file_holders, holders}
 use Rattle.rules.specs.Sound.{file_at, IsIndexed}
 use Rattle.rules.specs.Calls.Repair.{repair_tests, map_anew, mending, repair_of, Mendable}
 use Rattle.rules.specs.declared.Layout.{Layout}

@@ -152,7 +152,7 @@ judged_first layout image = first_after (volume_tests layout image) (faults layo
 look_first : (layout : Layout) {form : Form} (look : Look form) (buffer image : List ℕ) → First (number_in form (seen layout look buffer image).answer) (faults layout image ++ look_grounds layout look buffer image)
 unfolding seen look_grounds Decide verdict free_count_of entry_tests entry_of read_tests reading read_of load_tests length_in loading load_of listing_tests listing_of pack_tests
 look_first layout call.judge buffer image = judged_first layout image
-look_first layout call.free_count buffer image = rw (amount_number_lem (free_count_of layout image)) (judged_first layout image)
+look_first layout call.free_count buffer image = rw amount_number_lem (judged_first layout image)
 look_first layout call.summarize buffer image = rw (summary_number_lem layout image) (judged_first layout image)
 look_first layout (call.entry directory place) buffer image =
     rw (answer_number_lem (entry_of layout image directory place (length buffer)).number)

@@ -10,7 +10,7 @@ use lib.Seq.{set-get_or}
 use Rattle.rules.specs.Bytes.{bit_of, with_bit}
 use Rattle.rules.specs.Sectors.{sector_of, sector_count, written}
 use Rattle.rules.specs.Kind.{allowed_bits, with_marks, IsStatus}
-use Rattle.rules.specs.Descriptor.{status_of, IsDescriptor}
+use Rattle.rules.specs.Descriptor.{status_of}
 use Rattle.rules.specs.Directory.{entries, AreEntries}
 use Rattle.rules.specs.Volume.{indexes, files_in, files_of, file_holders, holders}
 use Rattle.rules.specs.Sound.{file_at, IsIndexed, SoundIndex, Sound}

@@ -50,7 +50,7 @@ lowest_one image taken from k j one two =
     ]
 
 pub data_one : (image taken : List ℕ) (k j : ℕ) → ForData image taken k → ForData image taken j → k ≡ j
-data_one image taken k j (inl one) (inl two) = lowest_one image taken 34 k j one two
+data_one image taken k j (inl one) (inl two) = lowest_one image taken _ k j one two
 data_one image taken k j (inl one) (inr two) = absurd (two.0 k one.up one.is)
 data_one image taken k j (inr one) (inl two) = absurd (one.0 j two.up two.is)
 data_one image taken k j (inr one) (inr two) = lowest_one image taken 2 k j one.1 two.1

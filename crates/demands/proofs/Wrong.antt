@@ -27,7 +27,6 @@ use Rattle.rules.proofs.Verdict.{sound}
 use Rattle.rules.proofs.Formatted.{formatted-length}
 use Rattle.rules.proofs.Indexes.{root_at}
 use Rattle.rules.proofs.Altered.{own_inside, own_other}
-use Rattle.demands.specs.Catalogue.{named}
 use Rattle.demands.specs.Call as call
 use Rattle.demands.specs.Call.{Change, Call, Result, Version, form_of, number_in, number_of, change_rule}
 use Rattle.demands.specs.Ours.{seen, outcome, ours}
@@ -161,7 +160,7 @@ there layout version all {change} some =
 
 abbrev this_file : (layout : Layout) {version : Version} {change : Change} → (some : Instance layout version change)
     → Has some.image (index_at (change_rule layout change) some.image some.directory) some.name (λ k. Unit {0})
-this_file layout some = record { sector = some.k; listed = some.listed; named = some.is_named_lem; so = tt }
+this_file layout some = record { sector = some.k; listed = some.listed; named = some.is_named; so = tt }
 
 wipes : (layout : Layout) (version : Version) → Wipes layout version → Demand2 layout version → ⊥
 unfolding TouchesIn

@@ -14,7 +14,7 @@ use Rattle.rules.specs.Map.{map_bit, count, taken, bits_rule, map_rule, byte_of,
 use Rattle.rules.specs.Descriptor.{IsDescriptor}
 use Rattle.rules.specs.Index.{numbers, range_rule, index_rule}
 use Rattle.rules.specs.Directory.{entries, entry_name, is_absent, is_named, entry_rule, entries_rule}
-use Rattle.rules.specs.Volume.{directories, present, indexes, every, files_in, files_of, file_holders, holders, catalogues}
+use Rattle.rules.specs.Volume.{directories, present, indexes, every, files_in, files_of, file_holders, holders}
 use Rattle.rules.specs.Verdict.{size_rule, descriptors_rule, held_twice, volume_tests, verdict}
 use Rattle.rules.specs.Sound.{IsIndexed, Sound}
 use Rattle.rules.specs.Tests.{first_of}

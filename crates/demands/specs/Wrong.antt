@@ -46,7 +46,7 @@ pub record Instance (layout : Layout) (version : Version) (change : Change) : Ty
   pub k : ℕ
   pub sound : Sound (change_rule layout change) image
   pub listed : 1 ≤ count k (files_in image (index_at (change_rule layout change) image directory))
-  pub is_named_lem : name_in image k ≡ name
+  pub is_named : name_in image k ≡ name
   pub done : number_of version (call.change directory name change) image ≡ 0
 
 abbrev pub after : {layout : Layout} {version : Version} {change : Change} → Instance layout version change → List ℕ

@@ -1,30 +1,20 @@
 -- A search that did not find a file found that there is none of that name; and where a directory was to be searched, a change of that file is refused with 8.
 use mathlib.Core.Path.{◌≡◌, refl, sym, subst, ◌∙◌}
-use mathlib.Core.Logic.{inl, inr}
 use mathlib.Core.Bool.{Bool, true, false, cond}
 use mathlib.Core.List.{List, [], ◌∷◌}
 use Prim.Native.Nat.{ℕ, ◌+◌}
-use native.Mathlib.Omega.{arith}
-use denote.Enum.Declared.{tag_of}
-use types.Run.{OneOf}
 use Rattle.rules.specs.Bytes.{same}
 use Rattle.rules.specs.Volume.{files_in, name_in}
 use Rattle.rules.specs.Outcome.{Outcome, refusal}
 use Rattle.rules.specs.Opening.{find_from, find_in, in_directory, changing}
 use Rattle.rules.specs.declared.Layout.{Layout}
 use Rattle.rules.specs.declared.Opened.{Opened}
-use Rattle.rules.specs.contracts.Opened.{the_type}
 use Rattle.rules.specs.declared.Opened.TheVariants.{At, Absent}
 use Rattle.rules.proofs.Opening.{InDirectory, in_index, nowhere, directory_looked, changing_refused, changing_absent}
 
--- by the code's own numbering of the cases: 0 is a file that is there
+-- no file that is there
 abbrev pub Lost : Opened → Type 0
-Lost opened = OneOf (1 ∷ (2 ∷ (3 ∷ []))) (tag_of the_type opened)
-
-found_not_lost : (i p k : ℕ) → Lost (At i p k) → ⊥
-found_not_lost i p k (inl e) = omega (arith, e)
-found_not_lost i p k (inr (inl e)) = omega (arith, e)
-found_not_lost i p k (inr (inr e)) = omega (arith, e)
+Lost opened = (i p k : ℕ) → opened ≡ At i p k → ⊥
 
 lost_from : (image : List ℕ) (i : ℕ) (name : List ℕ) (p : ℕ) (ks : List ℕ) → Lost (find_from image i name p ks) → find_from image i name p ks ≡ Absent i
 unfolding find_from
@@ -33,7 +23,7 @@ lost_from image i name p (k ∷ ks) lost = go (same name (name_in image k)) lost
   where
     go : (t : Bool) → Lost (cond t (At i p k) (find_from image i name (p + 1) ks)) → (Lost (find_from image i name (p + 1) ks) → find_from image i name (p + 1) ks ≡ Absent i)
         → cond t (At i p k) (find_from image i name (p + 1) ks) ≡ Absent i
-    go true lost more = absurd (found_not_lost i p k lost)
+    go true lost more = absurd (lost i p k refl)
     go false lost more = more lost
 
 pub lost_absent : (image : List ℕ) (i : ℕ) (name : List ℕ) (opened : Opened) → opened ≡ find_in image i name → Lost opened → opened ≡ Absent i

@@ -1,11 +1,12 @@
 -- What repair gives by its number; and that the indexes written, the map laid into sector 0 where it stands, and the list of both are its writes and their order.
 use mathlib.Core.Path.{◌≡◌, refl, sym, ap, ◌∙◌}
 use mathlib.Core.List.{List, [], ◌∷◌, map}
-use Prim.Native.Nat.{ℕ, ◌+◌, ◌≤◌}
+use Prim.Native.Nat.{ℕ, ◌+◌, ◌*◌, ◌≤◌}
 use native.Mathlib.Omega.{arith}
 use native.Mathlib.Decide.{dec_lt}
 use lib.ListN.{length, length-append, length-map}
 use borrow.Rule.Slice.PartMut.{put_mid}
+use Rattle.rules.specs.Index.{index_of}
 use Rattle.rules.specs.Bytes.{splice}
 use Rattle.rules.specs.Sectors.{sector_of, sector_count, written}
 use Rattle.rules.specs.Map.{count, map_of}
@@ -39,7 +40,7 @@ unfolding written ordered_index
 indexes_apart names image [] j none = refl
 indexes_apart names image (i ∷ is) j none =
     let parts = count_apart j i is none in
-    indexes_apart names (splice image (256 * i) (ordered names (files_in names i))) is j parts.1 ∙ sector_other image i _ (index_length (ordered names (files_in names i))) j parts.0
+    indexes_apart names (splice image (256 * i) (index_of (ordered names (files_in names i)))) is j parts.1 ∙ sector_other image i _ (index_length (ordered names (files_in names i))) j parts.0
 
 module _ (layout : Layout) (image : List ℕ) (between : List ℕ) (written-indexes : between ≡ written image (map (ordered_index image) (indexes layout image))) where
   zero_stands : sector_of between 0 ≡ sector_of image 0

@@ -1,6 +1,8 @@
 // Storing: a program's bytes become a file. All its sectors are chosen before the first is written. The call takes any image and any
 // arguments, answers with its number, and leaves the image with the writes of the rules' definition laid over it, and their order in a list that is
 // lent for it; a refusal has none.
+#![tactic(auto)]
+
 ghost use Rattle.std.specs.Prelude.{◌≡◌, true, cond, [], ◌*◌, ◌%◌, ◌≤◌, ◌<◌, leb, length, replicate};
 ghost use Rattle.rules.specs.Bytes.{word_bytes, over, splice};
 ghost use Rattle.rules.specs.Sectors.{sector_of, written};

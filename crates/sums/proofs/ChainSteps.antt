@@ -30,7 +30,9 @@ module _ (sum : ℕ) (earlier sums : List ℕ) where
   unfolding chain
   enough zero zero place h k = refl
   enough zero (suc more) zero h k = refl
+  enough zero (suc more) (suc p) h k = absurd (omega arith)
   enough (suc steps) zero zero h k = refl
+  enough (suc steps) zero (suc p) h k = absurd (omega arith)
   enough (suc steps) (suc more) zero h k = refl
   enough (suc steps) (suc more) (suc p) h k =
       let falls = link_falls earlier p in

@@ -12,14 +12,14 @@ use Rattle.rules.specs.declared.Layout.{Layout}
 use Rattle.rules.specs.declared.WrongPlace.TheVariants as wrong
 use Rattle.rules.specs.declared.RenameAnswer.TheVariants as renamed
 use Rattle.rules.specs.declared.Opened.{Opened}
-use Rattle.rules.specs.declared.Opened.TheVariants.{At, Refused, Misnamed}
+use Rattle.rules.specs.declared.Opened.TheVariants.{Refused, Misnamed}
 use Rattle.rules.proofs.Verdict.{verdict_small}
 use Rattle.rules.proofs.Misnamed.{none_rule}
 use Rattle.rules.proofs.Outcome.{bare, meets_refusal}
 use Rattle.rules.proofs.Opening.{on_unsound, on_sound_lem, under_wrong, under_kept, open_looked, is_file, changing_refused, changing_misnamed, changing_found}
 use Rattle.renaming.proofs.Lost.{lost_eight}
 use Rattle.renaming.proofs.rename.Goals as goal
-use Rattle.renaming.proofs.rename.Goals.{After-in_directory, Else-number-ne0, In_default, In_default-wrong_place}
+use Rattle.renaming.proofs.rename.Goals.{In-At-in_directory, After-in_directory, Else-number-ne0, In_default, In_default-wrong_place}
 
 -- what is opened, test by test
 module _ (layout : Layout) (image : List ℕ) (directory : ℕ) (old new : List ℕ) where
@@ -88,14 +88,23 @@ unfolding rename_of RenameSays
 returns-in_default-in_directory c =
     let a = c.args in
     let both = meets_refusal (RenameSays _ _) (renamed.Refused 8) a.image.now _ _ 8 (bare 8 refl)
-    (ap (λ (o : Opened). changing o (renaming a.layout a.image.now a.new.now)) (opens (goal.at.returns-in_default-in_directory c).After-in_directory) ∙ lost_eight _ _ _ _ _ _ c.in_directory.ensures c.in_default-in_directory-own.keys2) in
+    (ap (λ (o : Opened). changing o (renaming a.layout a.image.now a.new.now)) (opens (goal.at.returns-in_default-in_directory c).After-in_directory) ∙ lost_eight _ _ _ _ _ _ c.in_directory.ensures c.in_default-in_directory.not-At) in
     record { meets = both.0; order = both.1 }
 
 pub rename_at-requires : goal.rename_at-requires
 rename_at-requires c =
     (is_file _ _ _ _ _ _ _ (open_looked _ _ _ _ (sound (goal.at.rename_at-requires c).Else-number-ne0) (kept (goal.at.rename_at-requires c).In_default) ∙ sym c.in_directory.ensures ∙ c.in-At-in_directory.is), none_rule _ (kept_new (goal.at.rename_at-requires c).In_default-wrong_place))
 
-pub returns : goal.returns
+-- what the call is, once both names passed and the file is there
+renames : (c : In-At-in_directory) →
+    let a = c.args in
+    rename_of a.layout a.image.now a.directory a.old.now a.new.now ≡ renaming a.layout a.image.now a.new.now c.in-At-in_directory.i c.in-At-in_directory.k
 unfolding rename_of
+renames c = changing_found _ _ _ _ _ (opens (goal.at.In-At-in_directory c).After-in_directory ∙ c.in-At-in_directory.is)
+
+pub returns : goal.returns
 returns c =
-    record { meets = rw (kept (goal.at.returns c).In_default, kept_new (goal.at.returns c).In_default-wrong_place, changing_found _ _ _ _ _ (opens (goal.at.returns c).After-in_directory ∙ c.in-At-in_directory.is)) c.rename_at.ensures.meets; order = rw (kept (goal.at.returns c).In_default, kept_new (goal.at.returns c).In_default-wrong_place, changing_found _ _ _ _ _ (opens (goal.at.returns c).After-in_directory ∙ c.in-At-in_directory.is)) c.rename_at.ensures.order }
+    let is = renames (goal.at.returns c).In-At-in_directory in
+    let kept_old = kept (goal.at.returns c).In_default in
+    let kept_second = kept_new (goal.at.returns c).In_default-wrong_place in
+    record { meets = rw (kept_old, kept_second, is) c.rename_at.ensures.meets; order = rw is c.rename_at.ensures.order }

@@ -49,7 +49,7 @@ small c =
 absent : (c : In_default) →
     let a = c.args in
     find_in a.image.now a.i a.new.now ≡ Absent a.i
-absent c = let is = c.find_in.ensures in sym is ∙ lost_absent _ _ _ _ is c.in_default-own.keys2
+absent c = let is = c.find_in.ensures in sym is ∙ lost_absent _ _ _ _ is c.in_default.not-At
 
 status_is : (c : After-byte) → c.byte.result ≡ status_of (sector_of c.args.image.now c.args.k)
 status_is c = c.byte.ensures.0 ∙ ap (λ (s : List ℕ). byte_at s 12) c.sector_of.ensures

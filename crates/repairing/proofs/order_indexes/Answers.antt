@@ -1,7 +1,7 @@
 -- `repairing::order_indexes` meets its contract. The loop's invariant: the indexes of the directories before this one are written and listed, and what the others need of the image stands.
 -- The measure is how many numbers there could be left. Assumes nothing.
 use mathlib.Core.Path.{refl}
-use Prim.Native.Nat.{◌-◌, ◌≤◌}
+use Prim.Native.Nat.{◌≤◌}
 use native.Mathlib.Omega.{arith}
 use Rattle.repairing.proofs.Going.{none_written, none_there, index_ready, one_written, all_written}
 use Rattle.std.proofs.Common.{rules}
