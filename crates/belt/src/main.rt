@@ -7,19 +7,22 @@
 // and writes the lines, and of that only safety is proved, since no contract can say what is read or
 // written. An image that cannot be read has `-` in the number's place and the reason on standard error,
 // and the images after it are judged all the same.
-ghost use Rattle.std.specs.Prelude.{◌≡◌, ◌+◌, ◌<◌, length};
+#![tactic(auto)]
+
+ghost use Rattle.std.specs.Prelude.{◌≡◌, ◌+◌, ◌<◌, ◌≤◌, length};
 ghost use Rattle.rules.specs.Bytes.{splice};
 ghost use Rattle.line.specs.Laid.{Laid};
 ghost use Rattle.belt.specs.Line.{reason_of, line_of, bare_line};
 
 use console::ground::put_ground;
-use console::options::{ARGUMENT_ROOM, read_options, usage};
+use console::options::{ARGUMENT_ROOM, count_arguments, read_argument, read_options, usage};
+use console::reason::fail;
 use console::tally::{count, tell};
 use input::{IMAGE_ROOM, mark_of, read_file, read_or_tell};
-use libc::{STDIN_FILENO, STDOUT_FILENO};
 use line::put;
 use rules::Layout;
 use sector::bytes::part;
+use std::io;
 
 // The ground in words, where it is asked for.
 fn put_reason(text: &mut [u8], at: usize, verbose: bool, mark: u8) -> usize
@@ -56,44 +59,54 @@ fn put_bare_line(verbose: bool, mark: u8, buffer: &mut [u8]) -> usize
 
 // The line is put together where the image was, and written at once, so that the lines of several
 // processes on one output do not mix.
-fn write_line(verbose: bool, mark: u8, path: &[u8], buffer: &mut [u8]) -> bool {
+fn write_line(
+    rt: HostRuntime,
+    verbose: bool,
+    mark: u8,
+    path: &[u8],
+    buffer: &mut [u8],
+) -> io::Result<()> {
     let size = put_line(verbose, mark, path, buffer);
-    io::write_all(STDOUT_FILENO, part(buffer, 0, size))
+    rt.stdout().write_all(part(buffer, 0, size))
 }
 
 // Judges the image of that path, counts it and writes its line. The answer, here and below, is whether
 // the line could be written.
 fn judge_file(
+    rt: HostRuntime,
     layout: Layout,
     verbose: bool,
     path: &mut [u8],
     buffer: &mut [u8],
     tally: &mut [usize; 8],
-) -> bool {
-    let received = read_file(path, buffer);
+) -> io::Result<()> {
+    let received = read_file(rt, path, buffer);
     let mark = mark_of(layout, received, buffer);
     count(tally, mark);
-    write_line(verbose, mark, path, buffer)
+    write_line(rt, verbose, mark, path, buffer)
 }
 
 fn judge_argument(
+    rt: HostRuntime,
     layout: Layout,
     position: usize,
     verbose: bool,
     argument: &mut [u8],
     buffer: &mut [u8],
     tally: &mut [usize; 8],
-) -> bool {
-    let length = os::arg(position, argument);
-    if os::errno() != 0 {
-        os::fail(b"argument");
-        count(tally, b'-');
-        return write_line(verbose, b'-', b"", buffer);
+) -> io::Result<()> {
+    match read_argument(rt, position, argument) {
+        Ok(length) => judge_file(rt, layout, verbose, &mut argument[..length], buffer, tally),
+        Err(error) => {
+            fail(rt, b"argument", error);
+            count(tally, b'-');
+            write_line(rt, verbose, b'-', b"", buffer)
+        }
     }
-    judge_file(layout, verbose, &mut argument[..length], buffer, tally)
 }
 
 fn judge_arguments(
+    rt: HostRuntime,
     layout: Layout,
     first: usize,
     end: usize,
@@ -101,35 +114,57 @@ fn judge_arguments(
     argument: &mut [u8; ARGUMENT_ROOM],
     buffer: &mut [u8; IMAGE_ROOM],
     tally: &mut [usize; 8],
-) -> bool {
+) -> io::Result<()> {
     for position in first..end {
-        if !judge_argument(layout, position, verbose, argument, buffer, tally) {
-            return false;
-        }
+        judge_argument(rt, layout, position, verbose, argument, buffer, tally)?;
     }
-    true
+    Ok(())
 }
 
 fn judge_standard_input(
+    rt: HostRuntime,
     layout: Layout,
     verbose: bool,
     buffer: &mut [u8],
     tally: &mut [usize; 8],
-) -> bool {
-    let received = read_or_tell(STDIN_FILENO, b"standard input", buffer);
+) -> io::Result<()> {
+    let received = read_or_tell(rt, &mut rt.stdin(), b"standard input", buffer);
     let mark = mark_of(layout, received, buffer);
     count(tally, mark);
     let size = put_bare_line(verbose, mark, buffer);
-    io::write_all(STDOUT_FILENO, part(buffer, 0, size))
+    rt.stdout().write_all(part(buffer, 0, size))
+}
+
+// Judges what the command line names, or what comes on standard input where it names nothing. The answer is
+// how many images that were.
+fn judge_all(
+    rt: HostRuntime,
+    layout: Layout,
+    first: usize,
+    end: usize,
+    verbose: bool,
+    argument: &mut [u8; ARGUMENT_ROOM],
+    buffer: &mut [u8; IMAGE_ROOM],
+    tally: &mut [usize; 8],
+) -> io::Result<usize>
+    requires { first ≤ end }
+{
+    if first == end {
+        judge_standard_input(rt, layout, verbose, buffer, tally)?;
+        return Ok(1);
+    }
+    judge_arguments(rt, layout, first, end, verbose, argument, buffer, tally)?;
+    Ok(end - first)
 }
 
 // Argument 0 is the program's own name. A line that cannot be written ends the run: no later one would
 // do better. The buffers are arrays down to the loop, which keeps their lengths by their types; of a
 // slice of a large array the prover would count them.
-fn run(argument: &mut [u8; ARGUMENT_ROOM], buffer: &mut [u8; IMAGE_ROOM]) {
-    let end = os::arg_count();
-    let options = read_options(end, argument);
+fn run(rt: HostRuntime, argument: &mut [u8; ARGUMENT_ROOM], buffer: &mut [u8; IMAGE_ROOM]) {
+    let end = count_arguments(rt);
+    let options = read_options(rt, end, argument);
     if usage(
+        rt,
         options.help,
         options.unknown || options.sums,
         b"usage: belt [-v] [--marks] [--directories] [--] [IMAGE...]
@@ -149,30 +184,24 @@ How many there were of each number is the last line on standard error.
         directories: options.directories,
     };
     let mut tally = [0usize; 8];
-    let first = options.first;
-    if first == end {
-        if judge_standard_input(layout, options.verbose, buffer, &mut tally) {
-            tell(1, &tally);
-            return;
-        }
-    } else if judge_arguments(
+    match judge_all(
+        rt,
         layout,
-        first,
+        options.first,
         end,
         options.verbose,
         argument,
         buffer,
         &mut tally,
     ) {
-        tell(end - first, &tally);
-        return;
+        Ok(images) => tell(rt, images, &tally),
+        Err(error) => fail(rt, b"standard output", error),
     }
-    os::fail(b"standard output");
 }
 
 // The buffers are lent from here, once; every function below the loop works on plain slices.
-fn main() {
+fn main(rt: HostRuntime) {
     let mut argument = [0u8; ARGUMENT_ROOM];
     let mut buffer = [0u8; IMAGE_ROOM];
-    run(&mut argument, &mut buffer);
+    run(rt, &mut argument, &mut buffer);
 }

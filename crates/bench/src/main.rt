@@ -6,46 +6,48 @@
 // A case is a function that makes its volume in an array of its own, so no case leans on another; the
 // order of the writes goes to another one, and is not looked at. Its answer is whether its lines could be
 // written.
+#![tactic(auto)]
+
 use appending::append;
-use console::options::{ARGUMENT_ROOM, read_options, usage};
+use console::options::{ARGUMENT_ROOM, count_arguments, read_options, usage};
+use console::reason::fail;
 use creating::create;
 use deleting::delete;
 use descriptor::chain::place_at;
 use formatting::format::{Geometry, format};
 use judge::judge;
-use libc::STDOUT_FILENO;
 use listing::listing;
 use packing::pack;
 use protecting::clear_mark;
 use renaming::rename;
 use rules::{Amount, Answer, Layout, NamedAnswer, RenameAnswer};
 use sector::bytes::{all_are, part, sector_of};
+use std::io;
 use storing::store;
 
-fn write_line(words: &[u8], unit: &[u8], number: u64) -> bool {
-    io::write_all(STDOUT_FILENO, words)
-        && io::write_all(STDOUT_FILENO, unit)
-        && io::print_decimal(STDOUT_FILENO, number)
-        && io::write_all(STDOUT_FILENO, b"\n")
+fn write_line(rt: HostRuntime, words: &[u8], unit: &[u8], number: u64) -> io::Result<()> {
+    let output = rt.stdout();
+    output.write_all(words)?;
+    output.write_all(unit)?;
+    output.println(number)
 }
 
 // The number that a call gives back.
-fn write_number(words: &[u8], number: u32) -> bool {
-    write_line(words, b": number ", number as u64)
+fn write_number(rt: HostRuntime, words: &[u8], number: u32) -> io::Result<()> {
+    write_line(rt, words, b": number ", number as u64)
 }
 
-fn write_sector(words: &[u8], sector: u32) -> bool {
-    write_line(words, b": sector ", sector as u64)
+fn write_sector(rt: HostRuntime, words: &[u8], sector: u32) -> io::Result<()> {
+    write_line(rt, words, b": sector ", sector as u64)
 }
 
-fn write_answer(words: &[u8], yes: bool) -> bool {
-    if !io::write_all(STDOUT_FILENO, words) {
-        return false;
-    }
+fn write_answer(rt: HostRuntime, words: &[u8], yes: bool) -> io::Result<()> {
+    let output = rt.stdout();
+    output.write_all(words)?;
     if yes {
-        return io::write_all(STDOUT_FILENO, b": yes\n");
+        return output.write_all(b": yes\n");
     }
-    io::write_all(STDOUT_FILENO, b": no\n")
+    output.write_all(b": no\n")
 }
 
 // What a case does not say of the layout: the rule of document 01, and its edition.
@@ -95,15 +97,16 @@ fn number_after(number: u32, image: &[u8]) -> u32 {
     judge(OLD_RULE, image)
 }
 
-fn case_10_two_sectors() -> bool {
+fn case_10_two_sectors(rt: HostRuntime) -> io::Result<()> {
     let image = [0u8; 512];
-    write_number(b"10 512 bytes", judge(OLD_RULE, &image))
+    write_number(rt, b"10 512 bytes", judge(OLD_RULE, &image))
 }
 
-fn case_10_three_sectors() -> bool {
+fn case_10_three_sectors(rt: HostRuntime) -> io::Result<()> {
     let mut image = [0u8; 768];
     let answer = format(&mut image, 3, b"BENCH     ", one_side(3, 1));
     write_number(
+        rt,
         b"10 768 bytes, formatted",
         number_after(number_of(answer), &image),
     )
@@ -114,7 +117,7 @@ fn place_in_file(image: &[u8], offset: usize) -> u32 {
     place_at(part(sector_of(image, 2), 28, 228), offset) as u32
 }
 
-fn case_11() -> bool {
+fn case_11(rt: HostRuntime) -> io::Result<()> {
     let mut image = [0u8; 8960];
     let mut changes = [0u32; 133];
     let formatted = format(&mut image, 35, b"BENCH     ", one_side(5, 7));
@@ -127,13 +130,14 @@ fn case_11() -> bool {
         &bytes,
         &mut changes,
     );
-    write_number(b"11 35 sectors, formatted", number_of(formatted))
-        && write_number(
-            b"11 two sectors stored",
-            number_after(number_of(stored), &image),
-        )
-        && write_sector(b"11 the first lies in", place_in_file(&image, 0))
-        && write_sector(b"11 the second lies in", place_in_file(&image, 1))
+    write_number(rt, b"11 35 sectors, formatted", number_of(formatted))?;
+    write_number(
+        rt,
+        b"11 two sectors stored",
+        number_after(number_of(stored), &image),
+    )?;
+    write_sector(rt, b"11 the first lies in", place_in_file(&image, 0))?;
+    write_sector(rt, b"11 the second lies in", place_in_file(&image, 1))
 }
 
 fn digit(i: usize) -> u8 {
@@ -166,30 +170,30 @@ fn create_files(image: &mut [u8], changes: &mut [u32; 133]) -> u32 {
 }
 
 // With 127 files and one free sector: the next create, that sector appended, another one, and the next create on the full disk.
-fn full_disk(image: &mut [u8; 33280], changes: &mut [u32; 133]) -> bool {
+fn full_disk(rt: HostRuntime, image: &mut [u8; 33280], changes: &mut [u32; 133]) -> io::Result<()> {
     let next = create(OLD_RULE, image, ROOT, b"NEXT      ", 0x80, 80, 3, changes);
     let bytes = [0x42u8; 256];
     let last = append(OLD_RULE, image, ROOT, b"F000      ", &bytes, changes);
     let full = append(OLD_RULE, image, ROOT, b"F001      ", &bytes, changes);
     let after = create(OLD_RULE, image, ROOT, b"NEXT      ", 0x80, 80, 3, changes);
-    write_number(b"12 the next create", number_of(next))
-        && write_number(b"12 the last free sector appended", number_of(last))
-        && write_number(b"12 another one", number_of(full))
-        && write_number(b"12 the next create on the full disk", number_of(after))
+    write_number(rt, b"12 the next create", number_of(next))?;
+    write_number(rt, b"12 the last free sector appended", number_of(last))?;
+    write_number(rt, b"12 another one", number_of(full))?;
+    write_number(rt, b"12 the next create on the full disk", number_of(after))
 }
 
 // 130 sectors: two of the system, 127 descriptors, and one that is free until it is appended.
-fn case_12() -> bool {
+fn case_12(rt: HostRuntime) -> io::Result<()> {
     let mut image = [0u8; 33280];
     let mut changes = [0u32; 133];
     let formatted = format(&mut image, 130, b"BENCH     ", one_side(10, 13));
     let made = create_files(&mut image, &mut changes);
-    write_number(b"12 130 sectors, formatted", number_of(formatted))
-        && write_number(b"12 127 files created", made)
-        && full_disk(&mut image, &mut changes)
+    write_number(rt, b"12 130 sectors, formatted", number_of(formatted))?;
+    write_number(rt, b"12 127 files created", made)?;
+    full_disk(rt, &mut image, &mut changes)
 }
 
-fn case_13() -> bool {
+fn case_13(rt: HostRuntime) -> io::Result<()> {
     let mut image = [0u8; 51200];
     let mut changes = [0u32; 133];
     let formatted = format(&mut image, 200, b"BENCH     ", one_side(10, 20));
@@ -210,15 +214,16 @@ fn case_13() -> bool {
         &bytes,
         &mut changes,
     );
-    write_number(b"13 200 sectors, formatted", number_of(formatted))
-        && write_number(
-            b"13 32768 bytes stored",
-            number_after(number_of(stored), &image),
-        )
-        && write_number(b"13 32769 bytes stored", number_of(refused))
+    write_number(rt, b"13 200 sectors, formatted", number_of(formatted))?;
+    write_number(
+        rt,
+        b"13 32768 bytes stored",
+        number_after(number_of(stored), &image),
+    )?;
+    write_number(rt, b"13 32769 bytes stored", number_of(refused))
 }
 
-fn case_14() -> bool {
+fn case_14(rt: HostRuntime) -> io::Result<()> {
     let mut image = [0u8; 8960];
     let mut changes = [0u32; 133];
     let formatted = format(&mut image, 35, b"BENCH     ", one_side(5, 7));
@@ -234,28 +239,37 @@ fn case_14() -> bool {
     let deleted = delete(OLD_RULE, &mut image, ROOT, b"GONE      ", &mut changes);
     let mut target = [0u8; 8960];
     let packed = pack(OLD_RULE, &image, &mut target);
-    write_number(b"14 35 sectors, formatted", number_of(formatted))
-        && write_number(b"14 a program stored", number_of(stored))
-        && write_number(b"14 and deleted", number_after(number_of(deleted), &image))
-        && write_answer(b"14 all E5 from sector 2 on", all_are(0xE5, &image, 512))
-        && write_number(b"14 packed", number_after(pack_number(packed), &target))
-        && write_answer(
-            b"14 all E5 from sector 2 on, packed",
-            all_are(0xE5, &target, 512),
-        )
+    write_number(rt, b"14 35 sectors, formatted", number_of(formatted))?;
+    write_number(rt, b"14 a program stored", number_of(stored))?;
+    write_number(
+        rt,
+        b"14 and deleted",
+        number_after(number_of(deleted), &image),
+    )?;
+    write_answer(
+        rt,
+        b"14 all E5 from sector 2 on",
+        all_are(0xE5, &image, 512),
+    )?;
+    write_number(rt, b"14 packed", number_after(pack_number(packed), &target))?;
+    write_answer(
+        rt,
+        b"14 all E5 from sector 2 on, packed",
+        all_are(0xE5, &target, 512),
+    )
 }
 
 // The listing of an image, or its number.
-fn write_listing(layout: Layout, image: &[u8]) -> bool {
+fn write_listing(rt: HostRuntime, layout: Layout, image: &[u8]) -> io::Result<()> {
     let mut text = [0u8; 4466];
     let listed = listing(layout, image, ROOT, &mut text);
     match listed {
-        Amount::Refused(number) => write_number(b"M refused", number),
-        Amount::Given(size) => io::write_all(STDOUT_FILENO, part(&text, 0, size)),
+        Amount::Refused(number) => write_number(rt, b"M refused", number),
+        Amount::Given(size) => rt.stdout().write_all(part(&text, 0, size)),
     }
 }
 
-fn case_m() -> bool {
+fn case_m(rt: HostRuntime) -> io::Result<()> {
     let mut image = [0u8; 16384];
     let mut changes = [0u32; 133];
     let formatted = format(&mut image, 64, b"SHELF     ", one_side(8, 8));
@@ -287,18 +301,19 @@ fn case_m() -> bool {
         &bytes,
         &mut changes,
     );
-    write_number(b"M formatted", number_of(formatted))
-        && write_number(b"M ALPHA stored", number_of(stored))
-        && write_number(b"M NOTES created", number_of(created))
-        && write_number(
-            b"M a sector appended",
-            number_after(number_of(appended), &image),
-        )
-        && write_listing(OLD_RULE, &image)
+    write_number(rt, b"M formatted", number_of(formatted))?;
+    write_number(rt, b"M ALPHA stored", number_of(stored))?;
+    write_number(rt, b"M NOTES created", number_of(created))?;
+    write_number(
+        rt,
+        b"M a sector appended",
+        number_after(number_of(appended), &image),
+    )?;
+    write_listing(rt, OLD_RULE, &image)
 }
 
 // Programs that end on a full sector, and one of no bytes; their sectors and lengths are in the listing of the volume packed.
-fn ask_2() -> bool {
+fn ask_2(rt: HostRuntime) -> io::Result<()> {
     let mut image = [0u8; 51200];
     let mut changes = [0u32; 133];
     let formatted = format(&mut image, 200, b"BENCH     ", one_side(10, 20));
@@ -329,41 +344,46 @@ fn ask_2() -> bool {
     );
     let mut target = [0u8; 51200];
     let packed = pack(OLD_RULE, &image, &mut target);
-    write_number(b"Ask 2 200 sectors, formatted", number_of(formatted))
-        && write_number(b"Ask 2 512 bytes stored", number_of(full))
-        && write_number(b"Ask 2 no bytes stored", number_of(none))
-        && write_number(
-            b"Ask 2 32768 bytes stored",
-            number_after(number_of(long), &image),
-        )
-        && write_number(b"Ask 2 packed", number_after(pack_number(packed), &target))
-        && write_listing(OLD_RULE, &target)
+    write_number(rt, b"Ask 2 200 sectors, formatted", number_of(formatted))?;
+    write_number(rt, b"Ask 2 512 bytes stored", number_of(full))?;
+    write_number(rt, b"Ask 2 no bytes stored", number_of(none))?;
+    write_number(
+        rt,
+        b"Ask 2 32768 bytes stored",
+        number_after(number_of(long), &image),
+    )?;
+    write_number(
+        rt,
+        b"Ask 2 packed",
+        number_after(pack_number(packed), &target),
+    )?;
+    write_listing(rt, OLD_RULE, &target)
 }
 
 // What a call that takes a name says: where the name is wrong, or its number.
-fn write_named(words: &[u8], answer: NamedAnswer) -> bool {
+fn write_named(rt: HostRuntime, words: &[u8], answer: NamedAnswer) -> io::Result<()> {
     match answer {
-        NamedAnswer::Misnamed(place) => write_line(words, b": wrong at ", place as u64),
-        NamedAnswer::Done => write_number(words, 0),
-        NamedAnswer::Refused(number) => write_number(words, number),
+        NamedAnswer::Misnamed(place) => write_line(rt, words, b": wrong at ", place as u64),
+        NamedAnswer::Done => write_number(rt, words, 0),
+        NamedAnswer::Refused(number) => write_number(rt, words, number),
     }
 }
 
-fn write_renamed(words: &[u8], answer: RenameAnswer) -> bool {
+fn write_renamed(rt: HostRuntime, words: &[u8], answer: RenameAnswer) -> io::Result<()> {
     match answer {
         RenameAnswer::OldMisnamed(place) => {
-            write_line(words, b": the old name wrong at ", place as u64)
+            write_line(rt, words, b": the old name wrong at ", place as u64)
         }
         RenameAnswer::NewMisnamed(place) => {
-            write_line(words, b": the new name wrong at ", place as u64)
+            write_line(rt, words, b": the new name wrong at ", place as u64)
         }
-        RenameAnswer::Done => write_number(words, 0),
-        RenameAnswer::Refused(number) => write_number(words, number),
+        RenameAnswer::Done => write_number(rt, words, 0),
+        RenameAnswer::Refused(number) => write_number(rt, words, number),
     }
 }
 
 // Names that break the rule, by formatting, and by a rename, which tests its old name wholly before the new one.
-fn ask_4() -> bool {
+fn ask_4(rt: HostRuntime) -> io::Result<()> {
     let mut image = [0u8; 768];
     let mut changes = [0u32; 133];
     let led = format(&mut image, 3, b" A        ", one_side(3, 1));
@@ -395,19 +415,19 @@ fn ask_4() -> bool {
         b"NEW       ",
         &mut changes,
     );
-    write_named(b"Ask 4 a space and A", led)
-        && write_named(b"Ask 4 A, a space and a dot", dotted)
-        && write_named(b"Ask 4 ten spaces", blank)
-        && write_named(b"Ask 4 five bytes", short)
-        && write_named(b"Ask 4 a name", formatted)
-        && write_renamed(b"Ask 4 OLD. to NEW NAME", both)
-        && write_renamed(b"Ask 4 OLD to NEW NAME", new)
-        && write_renamed(b"Ask 4 OLD to NEW", absent)
+    write_named(rt, b"Ask 4 a space and A", led)?;
+    write_named(rt, b"Ask 4 A, a space and a dot", dotted)?;
+    write_named(rt, b"Ask 4 ten spaces", blank)?;
+    write_named(rt, b"Ask 4 five bytes", short)?;
+    write_named(rt, b"Ask 4 a name", formatted)?;
+    write_renamed(rt, b"Ask 4 OLD. to NEW NAME", both)?;
+    write_renamed(rt, b"Ask 4 OLD to NEW NAME", new)?;
+    write_renamed(rt, b"Ask 4 OLD to NEW", absent)
 }
 
 // By the rule with marks: a program stored and a file created are marked, and the first one's mark is cleared. The rule of document 01
 // refuses what the other allows.
-fn ask_11() -> bool {
+fn ask_11(rt: HostRuntime) -> io::Result<()> {
     let mut image = [0u8; 16384];
     let mut changes = [0u32; 133];
     let formatted = format(&mut image, 64, b"SHELF     ", one_side(8, 8));
@@ -431,32 +451,33 @@ fn ask_11() -> bool {
         &mut changes,
     );
     let cleared = clear_mark(OLD_RULE, &mut image, ROOT, b"ALPHA     ", &mut changes);
-    write_number(b"Ask 11 formatted", number_of(formatted))
-        && write_number(b"Ask 11 ALPHA stored", number_of(stored))
-        && write_number(b"Ask 11 NOTES created", number_of(created))
-        && write_number(b"Ask 11 the mark of ALPHA cleared", number_of(cleared))
-        && write_number(b"Ask 11 by the old rule", judge(OLD_RULE, &image))
-        && write_listing(WITH_MARKS, &image)
+    write_number(rt, b"Ask 11 formatted", number_of(formatted))?;
+    write_number(rt, b"Ask 11 ALPHA stored", number_of(stored))?;
+    write_number(rt, b"Ask 11 NOTES created", number_of(created))?;
+    write_number(rt, b"Ask 11 the mark of ALPHA cleared", number_of(cleared))?;
+    write_number(rt, b"Ask 11 by the old rule", judge(OLD_RULE, &image))?;
+    write_listing(rt, WITH_MARKS, &image)
 }
 
-fn write_cases() -> bool {
-    case_10_two_sectors()
-        && case_10_three_sectors()
-        && case_11()
-        && case_12()
-        && case_13()
-        && case_14()
-        && case_m()
-        && ask_2()
-        && ask_4()
-        && ask_11()
+fn write_cases(rt: HostRuntime) -> io::Result<()> {
+    case_10_two_sectors(rt)?;
+    case_10_three_sectors(rt)?;
+    case_11(rt)?;
+    case_12(rt)?;
+    case_13(rt)?;
+    case_14(rt)?;
+    case_m(rt)?;
+    ask_2(rt)?;
+    ask_4(rt)?;
+    ask_11(rt)
 }
 
 // Whether the cases are to be run: no argument is one.
-fn begins(argument: &mut [u8; ARGUMENT_ROOM]) -> bool {
-    let end = os::arg_count();
-    let options = read_options(end, argument);
+fn begins(rt: HostRuntime, argument: &mut [u8; ARGUMENT_ROOM]) -> bool {
+    let end = count_arguments(rt);
+    let options = read_options(rt, end, argument);
     !usage(
+        rt,
         options.help,
         end > 1,
         b"usage: bench
@@ -468,11 +489,11 @@ gives back, a sector, or yes or no.
 }
 
 // A line that cannot be written ends the run: no later one would do better.
-fn main() {
+fn main(rt: HostRuntime) {
     let mut argument = [0u8; ARGUMENT_ROOM];
-    if begins(&mut argument) {
-        if !write_cases() {
-            os::fail(b"standard output");
+    if begins(rt, &mut argument) {
+        if let Err(error) = write_cases(rt) {
+            fail(rt, b"standard output", error);
         }
     }
 }

@@ -1,9 +1,12 @@
 // The catalogue program: the listing of the image on standard input, by the rule of document 01.
+#![tactic(auto)]
+
 use printing::print;
 use rules::Layout;
 
-fn main() {
+fn main(rt: HostRuntime) {
     print(
+        rt,
         Layout {
             marks: false,
             directories: false,

@@ -1,10 +1,13 @@
 // The catalogue program by the rule with marks: the lines of the first one, each file's with a last field, M for one that has
 // changed since its backup or else a hyphen.
+#![tactic(auto)]
+
 use printing::print;
 use rules::Layout;
 
-fn main() {
+fn main(rt: HostRuntime) {
     print(
+        rt,
         Layout {
             marks: true,
             directories: false,

@@ -1,9 +1,13 @@
 // The options that stand in front of the images on a command line.
 ghost use Rattle.std.specs.Prelude.{◌≡◌, true, cond, ◌≤◌};
+ghost use Rattle.std.specs.Io.{ReadsAtMost};
 ghost use Rattle.console.specs.Options.{word_of};
 
-use libc::{STDERR_FILENO, STDOUT_FILENO};
+use crate::reason::fail;
 use sector::bytes::{byte, same};
+use std::env::FillError;
+use std::io;
+use std::rt::Env;
 
 // One byte more than the longest argument that Linux passes where a page has 4,096 bytes.
 pub const ARGUMENT_ROOM: usize = 131072;
@@ -67,17 +71,45 @@ fn word_of(argument: &[u8]) -> Word
     Word::Image
 }
 
-// An argument that is too long to be read is taken for an image: what is done with it tells the reason.
-fn word_at(position: usize, argument: &mut [u8]) -> Word {
-    let length = os::arg(position, argument);
-    if os::errno() != 0 {
-        return Word::Image;
+// How many arguments the program was started with, its own name among them.
+pub fn count_arguments(rt: HostRuntime) -> usize {
+    for position in 0..usize::MAX {
+        if let Err(FillError::NotPresent) = rt.arg(position, &mut []) {
+            return position;
+        }
     }
-    word_of(&argument[..length])
+    usize::MAX
+}
+
+// The error that the system has for an argument that was not read: one that is longer than the buffer is a name that is too long (ENAMETOOLONG), and
+// one that is missing an invalid place (EINVAL).
+fn argument_error(error: FillError) -> io::Error {
+    match error {
+        FillError::TooLong => io::Error::from_raw_os_error(36),
+        FillError::NotPresent => io::Error::from_raw_os_error(22),
+    }
+}
+
+// Puts an argument at the start of the buffer and gives its length. Of the argument, and of a buffer that has no room for it, nothing can be said.
+pub fn read_argument(rt: HostRuntime, position: usize, argument: &mut [u8]) -> io::Result<usize>
+    ensures { ReadsAtMost result argument.new }
+{
+    match rt.arg(position, argument) {
+        Ok(length) => Ok(length),
+        Err(error) => Err(argument_error(error)),
+    }
+}
+
+// An argument that is too long to be read is taken for an image: what is done with it tells the reason.
+fn word_at(rt: HostRuntime, position: usize, argument: &mut [u8]) -> Word {
+    match read_argument(rt, position, argument) {
+        Ok(length) => word_of(&argument[..length]),
+        Err(_) => Word::Image,
+    }
 }
 
 // Argument 0 is the program's own name.
-pub fn read_options(count: usize, argument: &mut [u8; ARGUMENT_ROOM]) -> Options
+pub fn read_options(rt: HostRuntime, count: usize, argument: &mut [u8; ARGUMENT_ROOM]) -> Options
     ensures { result.first ≤ count }
 {
     let mut options = Options {
@@ -90,7 +122,7 @@ pub fn read_options(count: usize, argument: &mut [u8; ARGUMENT_ROOM]) -> Options
         first: 1,
     };
     for position in 1..count {
-        let word = word_at(position, argument);
+        let word = word_at(rt, position, argument);
         options.first = position;
         match word {
             Word::Help => options.help = true,
@@ -112,17 +144,17 @@ pub fn read_options(count: usize, argument: &mut [u8; ARGUMENT_ROOM]) -> Options
 
 // Writes the usage where it is asked for, or, to standard error, where the command line is wrong: an option is none of the
 // program's, or an image is missing that it needs. The answer is whether it did: then there is nothing else to do.
-pub fn usage(help: bool, wrong: bool, text: &[u8]) -> bool
+pub fn usage(rt: HostRuntime, help: bool, wrong: bool, text: &[u8]) -> bool
     ensures { result ≡ cond help true wrong }
 {
     if help {
-        if !io::write_all(STDOUT_FILENO, text) {
-            os::fail(b"standard output");
+        if let Err(error) = rt.stdout().write_all(text) {
+            fail(rt, b"standard output", error);
         }
         return true;
     }
     if wrong {
-        io::write_all(STDERR_FILENO, text);
+        let _ = rt.stderr().write_all(text);
     }
     wrong
 }

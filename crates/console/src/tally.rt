@@ -4,11 +4,11 @@ ghost use Rattle.std.specs.Prelude.{◌≡◌, ◌≤◌, length};
 ghost use Rattle.line.specs.Laid.{Laid};
 ghost use Rattle.console.specs.Tally.{place_of, counted, count_text, numbers_text, images_text, sound_text, tally_text};
 
-use libc::STDERR_FILENO;
 use line::{put, put_number};
 use sector::bytes::part;
 
 // The place of a mark among the counts: that of its digit, or the last for any other.
+#[tactic(auto, unfolding(crate::specs::Tally::place_of))]
 fn place_of(mark: u8) -> usize
     ensures { (result ≡ place_of mark) × (result ≤ 7) }
 {
@@ -88,8 +88,8 @@ fn put_tally(text: &mut [u8], images: usize, tally: &[usize; 8]) -> usize
 }
 
 // Writes the last line of a run to standard error.
-pub fn tell(images: usize, tally: &[usize; 8]) {
+pub fn tell(rt: HostRuntime, images: usize, tally: &[usize; 8]) {
     let mut text = [0u8; 294];
     let size = put_tally(&mut text, images, tally);
-    io::write_all(STDERR_FILENO, part(&text, 0, size));
+    let _ = rt.stderr().write_all(part(&text, 0, size));
 }

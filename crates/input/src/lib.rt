@@ -1,82 +1,86 @@
-// The image that a descriptor gives, read until it ends, or that a file has, and its mark. Of what is read nothing can be said; that it was put at
+// The image that a reader gives, read until it ends, or that a file has, and its mark. Of what is read nothing can be said; that it was put at
 // the start of the buffer, and how much of it, is proved, and that the mark is that of these bytes.
-ghost use Rattle.std.specs.Prelude.{◌≡◌};
+#![tactic(auto)]
+
+ghost use Rattle.std.specs.Prelude.{◌≡◌, length, OnErr};
 ghost use Rattle.console.specs.Name.{one_line};
-ghost use Rattle.input.specs.Filled.{Filled};
+ghost use Rattle.input.specs.Filled.{Filled, received_of};
 ghost use Rattle.input.specs.Mark.{mark_of};
 
-use console::name::one_line;
+use console::name::{one_line, path_text};
+use console::reason::fail;
 use judge::judge;
 use rules::Layout;
 use sector::bytes::part;
+use std::fs::File;
+use std::io::Read;
+use std::{fs, io};
 
 // One byte more than the longest image that can be sound. An image that is too long fills the buffer and is refused for its length, whatever
 // comes after the bytes that were read.
 pub const IMAGE_ROOM: usize = 409601;
 
 // What a reading gives: how many bytes it put at the start of the buffer.
-#[derive(Drop)]
+#[derive(Clone, Copy)]
 pub enum Received {
     Bytes(usize),
     Failed,
 }
 
-// One read. At the end of the input it gives 0 bytes.
-fn read_once(descriptor: i32, buffer: &mut [u8]) -> Received
-    ensures { Filled result buffer.new }
-{
-    let got = libc::read(descriptor, buffer);
-    if got < 0 {
-        return Received::Failed;
-    }
-    Received::Bytes(io::count(got, buffer))
-}
-
-// Reads until the input ends or the buffer is full. `io::read_full` answers a short count where a
-// read fails, as if the input ended there, and the bytes before a failure are no image.
-pub fn read_image(descriptor: i32, buffer: &mut [u8]) -> Received
-    ensures { Filled result buffer.new }
+// Reads until the input ends or the buffer is full. `Read::read_exact` has an input that ends early as an error and `Read::read_to_end` has no
+// bound, and the bytes before a failure are no image: of them nothing is said.
+pub fn read_image<R: Read>(reader: &mut R, buffer: &mut [u8]) -> io::Result<usize>
+    ensures filled { Filled (received_of result) buffer.new }
+    ensures err { OnErr result (length buffer.new ≡ length buffer.old) }
 {
     let mut filled = 0;
     while filled < buffer.len() {
-        let reading = read_once(descriptor, &mut buffer[filled..]);
-        let Received::Bytes(more) = reading else {
-            return Received::Failed;
-        };
+        let more = reader.read(&mut buffer[filled..])?;
         if more == 0 {
-            return Received::Bytes(filled);
+            return Ok(filled);
         }
         filled += more;
     }
-    Received::Bytes(filled)
+    Ok(filled)
 }
 
 // The same, with the reason on standard error where it fails, which begins with `name`.
-pub fn read_or_tell(descriptor: i32, name: &[u8], buffer: &mut [u8]) -> Received
+pub fn read_or_tell<R: Read>(
+    rt: HostRuntime,
+    reader: &mut R,
+    name: &[u8],
+    buffer: &mut [u8],
+) -> Received
     ensures { Filled result buffer.new }
 {
-    let reading = read_image(descriptor, buffer);
-    if let Received::Failed = reading {
-        os::fail(name);
+    match read_image(reader, buffer) {
+        Ok(count) => Received::Bytes(count),
+        Err(error) => {
+            fail(rt, name, error);
+            Received::Failed
+        }
     }
-    reading
 }
 
-// The image in a file. Once that is open its path is only shown, so it becomes one line. A reason is written before the descriptor is closed,
-// since closing can set errno anew.
-pub fn read_file(path: &mut [u8], buffer: &mut [u8]) -> Received
+// Opens a file for reading.
+fn open_image(rt: HostRuntime, path: &[u8]) -> io::Result<File> {
+    fs::open(&rt, path_text(path)?)
+}
+
+// The image in a file. Once that is open its path is only shown, so it becomes one line.
+pub fn read_file(rt: HostRuntime, path: &mut [u8], buffer: &mut [u8]) -> Received
     ensures filled { Filled result buffer.new }
     ensures path_after { path.new ≡ one_line path.old }
 {
-    let descriptor = os::open_read(path);
+    let opened = open_image(rt, path);
     one_line(path);
-    if descriptor < 0 {
-        os::fail(path);
-        return Received::Failed;
+    match opened {
+        Ok(mut file) => read_or_tell(rt, &mut file, path, buffer),
+        Err(error) => {
+            fail(rt, path, error);
+            Received::Failed
+        }
     }
-    let reading = read_or_tell(descriptor, path, buffer);
-    libc::close(descriptor);
-    reading
 }
 
 // The judge's number, which has one digit, or that there was no image to judge.

@@ -6,6 +6,8 @@
 // not one of the library. The rest reads the images and writes the pages, and of that only safety is
 // proved, since no contract can say what is read or written. For an image that cannot be read there is a
 // line `-`, with the reason on standard error, and the images after it are listed all the same.
+#![tactic(auto)]
+
 ghost use Rattle.std.specs.Prelude.{◌≡◌, [], ◌∷◌, ◌+◌, length};
 ghost use Rattle.rules.specs.Bytes.{part, splice};
 ghost use Rattle.rules.specs.Verdict.{verdict};
@@ -13,15 +15,16 @@ ghost use Rattle.rules.specs.Calls.Listing.{listed};
 ghost use Rattle.line.specs.Laid.{Laid};
 ghost use Rattle.listings.specs.Page.{text_of, parting_of, page_of};
 
-use console::options::{ARGUMENT_ROOM, read_options, usage};
+use console::options::{ARGUMENT_ROOM, count_arguments, read_argument, read_options, usage};
+use console::reason::fail;
 use console::tally::{count, tell};
 use input::{IMAGE_ROOM, Received, read_file};
-use libc::STDOUT_FILENO;
 use line::put;
 use listing::show;
 use rules::Layout;
 use sector::buffer::lay;
 use sector::bytes::part;
+use std::io;
 
 // Room for every listing: a line of at most 21 bytes and at most 127 of at most 35.
 const TEXT_ROOM: usize = 4466;
@@ -58,6 +61,7 @@ fn put_unread(text: &mut [u8]) -> Listed
     }
 }
 
+#[tactic(auto, using(crate::proofs::Parting::none_laid, crate::proofs::Parting::none_long, crate::proofs::Parting::one_laid))]
 fn put_parting(first: bool, page: &mut [u8]) -> usize
     ensures { Laid 1 page.old page.new 0 result (parting_of first) }
 {
@@ -92,31 +96,40 @@ fn put_received(layout: Layout, received: Received, buffer: &[u8], text: &mut [u
 // The page is put together where the image was, and written at once, so that the pages of several
 // processes on one output do not mix; on a pipe this holds for 4,096 bytes. The answer, here and below,
 // is whether it could be written.
-fn write_page(first: bool, path: &[u8], size: usize, buffer: &mut [u8], text: &[u8]) -> bool
+fn write_page(
+    rt: HostRuntime,
+    first: bool,
+    path: &[u8],
+    size: usize,
+    buffer: &mut [u8],
+    text: &[u8],
+) -> io::Result<()>
     requires { length text.now ≡ 4466 }
 {
     let end = put_page(first, path, text, size, buffer);
-    io::write_all(STDOUT_FILENO, part(buffer, 0, end))
+    rt.stdout().write_all(part(buffer, 0, end))
 }
 
 // Lists the image of that path, counts it and writes its page.
 fn list_file(
+    rt: HostRuntime,
     layout: Layout,
     first: bool,
     path: &mut [u8],
     buffer: &mut [u8],
     text: &mut [u8],
     tally: &mut [usize; 8],
-) -> bool
+) -> io::Result<()>
     requires { length text.old ≡ 4466 }
 {
-    let received = read_file(path, buffer);
+    let received = read_file(rt, path, buffer);
     let listed = put_received(layout, received, buffer, text);
     count(tally, listed.mark);
-    write_page(first, path, listed.size, buffer, text)
+    write_page(rt, first, path, listed.size, buffer, text)
 }
 
 fn list_argument(
+    rt: HostRuntime,
     layout: Layout,
     first: bool,
     position: usize,
@@ -124,20 +137,30 @@ fn list_argument(
     buffer: &mut [u8],
     text: &mut [u8],
     tally: &mut [usize; 8],
-) -> bool
+) -> io::Result<()>
     requires { length text.old ≡ 4466 }
 {
-    let length = os::arg(position, argument);
-    if os::errno() != 0 {
-        os::fail(b"argument");
-        let listed = put_unread(text);
-        count(tally, listed.mark);
-        return write_page(first, b"", listed.size, buffer, text);
+    match read_argument(rt, position, argument) {
+        Ok(length) => list_file(
+            rt,
+            layout,
+            first,
+            &mut argument[..length],
+            buffer,
+            text,
+            tally,
+        ),
+        Err(error) => {
+            fail(rt, b"argument", error);
+            let listed = put_unread(text);
+            count(tally, listed.mark);
+            write_page(rt, first, b"", listed.size, buffer, text)
+        }
     }
-    list_file(layout, first, &mut argument[..length], buffer, text, tally)
 }
 
 fn list_arguments(
+    rt: HostRuntime,
     layout: Layout,
     first: usize,
     end: usize,
@@ -145,9 +168,10 @@ fn list_arguments(
     buffer: &mut [u8; IMAGE_ROOM],
     text: &mut [u8; TEXT_ROOM],
     tally: &mut [usize; 8],
-) -> bool {
+) -> io::Result<()> {
     for position in first..end {
-        if !list_argument(
+        list_argument(
+            rt,
             layout,
             position == first,
             position,
@@ -155,24 +179,24 @@ fn list_arguments(
             buffer,
             text,
             tally,
-        ) {
-            return false;
-        }
+        )?;
     }
-    true
+    Ok(())
 }
 
 // Argument 0 is the program's own name. A page that cannot be written ends the run: no later one would
 // do better. The buffers are arrays down to the loop, which keeps their lengths by their types; of a
 // slice of a large array the prover would count them.
 fn run(
+    rt: HostRuntime,
     argument: &mut [u8; ARGUMENT_ROOM],
     buffer: &mut [u8; IMAGE_ROOM],
     text: &mut [u8; TEXT_ROOM],
 ) {
-    let end = os::arg_count();
-    let options = read_options(end, argument);
+    let end = count_arguments(rt);
+    let options = read_options(rt, end, argument);
     if usage(
+        rt,
         options.help,
         options.unknown || options.verbose || options.sums,
         b"usage: listings [--marks] [--directories] [--] IMAGE...
@@ -193,17 +217,16 @@ How many there were of each number is the last line on standard error.
     };
     let first = options.first;
     let mut tally = [0usize; 8];
-    if list_arguments(layout, first, end, argument, buffer, text, &mut tally) {
-        tell(end - first, &tally);
-        return;
+    match list_arguments(rt, layout, first, end, argument, buffer, text, &mut tally) {
+        Ok(()) => tell(rt, end - first, &tally),
+        Err(error) => fail(rt, b"standard output", error),
     }
-    os::fail(b"standard output");
 }
 
 // The buffers are lent from here, once; every function below the loop works on plain slices.
-fn main() {
+fn main(rt: HostRuntime) {
     let mut argument = [0u8; ARGUMENT_ROOM];
     let mut buffer = [0u8; IMAGE_ROOM];
     let mut text = [0u8; TEXT_ROOM];
-    run(&mut argument, &mut buffer, &mut text);
+    run(rt, &mut argument, &mut buffer, &mut text);
 }

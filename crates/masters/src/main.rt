@@ -10,6 +10,8 @@
 // An image is compared, byte by byte, with those earlier ones that have its sum, which are found in a table. So each image is packed
 // once, and once more for each later one of equal sum; the sum is a hint and never the answer. An image past the end of the table is
 // compared with all others that are past it.
+#![tactic(auto)]
+
 ghost use Rattle.std.specs.Prelude.{◌≡◌, ◌+◌, ◌<◌, length};
 ghost use Rattle.rules.specs.Bytes.{splice};
 ghost use Rattle.line.specs.Laid.{Laid};
@@ -18,15 +20,15 @@ ghost use Rattle.masters.specs.Packed.{master_of, packed_over};
 ghost use Rattle.masters.specs.Line.{mark_of, hex_digit, sum_text, middle_of, line_of};
 
 use console::name::one_line;
-use console::options::{ARGUMENT_ROOM, read_options, usage};
+use console::options::{ARGUMENT_ROOM, count_arguments, read_argument, read_options, usage};
+use console::reason::fail;
 use console::tally::{count, tell};
 use input::{IMAGE_ROOM, Received, read_file};
-use libc::STDOUT_FILENO;
 use line::{put, put_number};
 use packing::pack;
 use rules::{Answer, Layout};
 use sector::bytes::{part, same};
-use std::num::wrapping_add_usize;
+use std::io;
 use sums::sum::sum_of;
 use sums::table::{enter, first_under, next_under};
 
@@ -37,7 +39,7 @@ const PACKED_ROOM: usize = 409600;
 const PLACES: usize = 131072;
 
 // What packing an image gives: how many bytes its packed form has, its number, or that there was no image.
-#[derive(Drop)]
+#[derive(Clone, Copy)]
 enum Master {
     Packed(usize),
     Refused(u32),
@@ -45,7 +47,7 @@ enum Master {
 }
 
 // What stands in the middle of a line.
-#[derive(Drop)]
+#[derive(Clone, Copy)]
 enum Middle {
     Nothing,
     Place(usize),
@@ -149,6 +151,7 @@ fn put_line(mark: u8, middle: Middle, path: &[u8], buffer: &mut [u8]) -> usize
 
 // Packs the image that an argument names. There are `skipped` options in front of the images, so the sum is an argument's position.
 fn pack_argument(
+    rt: HostRuntime,
     layout: Layout,
     place: usize,
     skipped: usize,
@@ -156,17 +159,21 @@ fn pack_argument(
     source: &mut [u8],
     packed: &mut [u8],
 ) -> Master {
-    let length = os::arg(wrapping_add_usize(skipped, place), argument);
-    if os::errno() != 0 {
-        os::fail(b"argument");
-        return Master::Unread;
+    match read_argument(rt, skipped.wrapping_add(place), argument) {
+        Ok(length) => {
+            let received = read_file(rt, &mut argument[..length], source);
+            pack_received(layout, received, source, packed)
+        }
+        Err(error) => {
+            fail(rt, b"argument", error);
+            Master::Unread
+        }
     }
-    let received = read_file(&mut argument[..length], source);
-    pack_received(layout, received, source, packed)
 }
 
 // Whether the image at a place has this packed form.
 fn has_form(
+    rt: HostRuntime,
     layout: Layout,
     place: usize,
     skipped: usize,
@@ -175,7 +182,7 @@ fn has_form(
     source: &mut [u8],
     other: &mut [u8],
 ) -> bool {
-    let master = pack_argument(layout, place, skipped, argument, source, other);
+    let master = pack_argument(rt, layout, place, skipped, argument, source, other);
     match master {
         Master::Packed(length) => same(form, part(other, 0, length)),
         Master::Refused(_) => false,
@@ -185,6 +192,7 @@ fn has_form(
 
 // The place of the image in the table that has this sum and this packed form, or 0.
 fn entered_with(
+    rt: HostRuntime,
     layout: Layout,
     sum: u64,
     skipped: usize,
@@ -198,7 +206,7 @@ fn entered_with(
 ) -> usize {
     let mut place = first_under(sum, last, earlier, sums);
     while place != 0 {
-        if has_form(layout, place, skipped, form, argument, source, other) {
+        if has_form(rt, layout, place, skipped, form, argument, source, other) {
             return place;
         }
         place = next_under(place, sum, earlier, sums);
@@ -208,6 +216,7 @@ fn entered_with(
 
 // The first place past the table's end, and before this one, whose image has this packed form, or this one.
 fn first_past(
+    rt: HostRuntime,
     layout: Layout,
     own: usize,
     skipped: usize,
@@ -217,7 +226,7 @@ fn first_past(
     other: &mut [u8; PACKED_ROOM],
 ) -> usize {
     for place in PLACES..own {
-        if has_form(layout, place, skipped, form, argument, source, other) {
+        if has_form(rt, layout, place, skipped, form, argument, source, other) {
             return place;
         }
     }
@@ -227,6 +236,7 @@ fn first_past(
 // The place of the first image that has this packed form, which the image at `own` has. One that is the first of its kind is entered
 // into the table, so that under a sum no two are equal.
 fn first_with(
+    rt: HostRuntime,
     layout: Layout,
     own: usize,
     skipped: usize,
@@ -243,17 +253,18 @@ fn first_with(
 {
     let sum = sum_of(form);
     let entered = entered_with(
-        layout, sum, skipped, form, argument, source, other, last, earlier, sums,
+        rt, layout, sum, skipped, form, argument, source, other, last, earlier, sums,
     );
     if entered != 0 {
         return entered;
     }
     enter(own, sum, last, earlier, sums);
-    first_past(layout, own, skipped, form, argument, source, other)
+    first_past(rt, layout, own, skipped, form, argument, source, other)
 }
 
 // What stands in the middle of the line of a sound image.
 fn middle_of(
+    rt: HostRuntime,
     layout: Layout,
     own: usize,
     skipped: usize,
@@ -273,33 +284,43 @@ fn middle_of(
         return Middle::Sum(sum_of(form));
     }
     let first = first_with(
-        layout, own, skipped, form, argument, source, other, last, earlier, sums,
+        rt, layout, own, skipped, form, argument, source, other, last, earlier, sums,
     );
     Middle::Place(first)
 }
 
 // The line is put together where the image was, and written at once, so that the lines of several processes on one output do not mix.
 // The answer, here and below, is whether it could be written.
-fn write_line(mark: u8, middle: Middle, path: &mut [u8], source: &mut [u8]) -> bool {
+fn write_line(
+    rt: HostRuntime,
+    mark: u8,
+    middle: Middle,
+    path: &mut [u8],
+    source: &mut [u8],
+) -> io::Result<()> {
     one_line(path);
     let size = put_line(mark, middle, path, source);
-    io::write_all(STDOUT_FILENO, part(source, 0, size))
+    rt.stdout().write_all(part(source, 0, size))
 }
 
-// The line of the image that an argument names.
+// The line of the image that an argument names, or of none where it cannot be read: why was told when its image was to be packed.
 fn write_argument(
+    rt: HostRuntime,
     mark: u8,
     middle: Middle,
     position: usize,
     argument: &mut [u8],
     source: &mut [u8],
-) -> bool {
-    let length = os::arg(position, argument);
-    write_line(mark, middle, &mut argument[..length], source)
+) -> io::Result<()> {
+    match read_argument(rt, position, argument) {
+        Ok(length) => write_line(rt, mark, middle, &mut argument[..length], source),
+        Err(_) => write_line(rt, mark, middle, &mut [], source),
+    }
 }
 
 // Packs an image, counts it and writes its line.
 fn find_one(
+    rt: HostRuntime,
     layout: Layout,
     own: usize,
     skipped: usize,
@@ -312,25 +333,26 @@ fn find_one(
     earlier: &mut [u32; PLACES],
     sums: &mut [u64; PLACES],
     tally: &mut [usize; 8],
-) -> bool
+) -> io::Result<()>
     requires { Table last.old own }
     ensures { Table last.new (own + 1) }
 {
-    let master = pack_argument(layout, own, skipped, argument, source, packed);
+    let master = pack_argument(rt, layout, own, skipped, argument, source, packed);
     let mark = mark_of(master);
     count(tally, mark);
-    let position = wrapping_add_usize(skipped, own);
+    let position = skipped.wrapping_add(own);
     let Master::Packed(length) = master else {
-        return write_argument(mark, Middle::Nothing, position, argument, source);
+        return write_argument(rt, mark, Middle::Nothing, position, argument, source);
     };
     let form = part(packed, 0, length);
     let middle = middle_of(
-        layout, own, skipped, only_sums, form, argument, source, other, last, earlier, sums,
+        rt, layout, own, skipped, only_sums, form, argument, source, other, last, earlier, sums,
     );
-    write_argument(mark, middle, position, argument, source)
+    write_argument(rt, mark, middle, position, argument, source)
 }
 
 fn find_all(
+    rt: HostRuntime,
     layout: Layout,
     images: usize,
     skipped: usize,
@@ -343,23 +365,22 @@ fn find_all(
     earlier: &mut [u32; PLACES],
     sums: &mut [u64; PLACES],
     tally: &mut [usize; 8],
-) -> bool
+) -> io::Result<()>
     requires { Table last.old 1 }
 {
     for own in 1..=images {
-        if !find_one(
-            layout, own, skipped, only_sums, argument, source, packed, other, last, earlier, sums,
-            tally,
-        ) {
-            return false;
-        }
+        find_one(
+            rt, layout, own, skipped, only_sums, argument, source, packed, other, last, earlier,
+            sums, tally,
+        )?;
     }
-    true
+    Ok(())
 }
 
 // Argument 0 is the program's own name. A line that cannot be written ends the run: no later one would do better. The buffers are
 // arrays down to the loops, which keep their lengths by their types; of a slice of a large array the prover would count them.
 fn run(
+    rt: HostRuntime,
     argument: &mut [u8; ARGUMENT_ROOM],
     source: &mut [u8; IMAGE_ROOM],
     packed: &mut [u8; PACKED_ROOM],
@@ -370,9 +391,10 @@ fn run(
 )
     requires { Table last.old 1 }
 {
-    let end = os::arg_count();
-    let options = read_options(end, argument);
+    let end = count_arguments(rt);
+    let options = read_options(rt, end, argument);
     if usage(
+        rt,
         options.help,
         options.unknown || options.verbose,
         b"usage: masters [--sums] [--marks] [--directories] [--] IMAGE...
@@ -400,7 +422,8 @@ How many there were of each number is the last line on standard error.
     };
     let images = end - first;
     let mut tally = [0usize; 8];
-    if find_all(
+    match find_all(
+        rt,
         layout,
         images,
         first - 1,
@@ -414,14 +437,13 @@ How many there were of each number is the last line on standard error.
         sums,
         &mut tally,
     ) {
-        tell(images, &tally);
-        return;
+        Ok(()) => tell(rt, images, &tally),
+        Err(error) => fail(rt, b"standard output", error),
     }
-    os::fail(b"standard output");
 }
 
 // The buffers are lent from here, once; every function below the loops works on plain slices.
-fn main() {
+fn main(rt: HostRuntime) {
     let mut argument = [0u8; ARGUMENT_ROOM];
     let mut source = [0u8; IMAGE_ROOM];
     let mut packed = [0u8; PACKED_ROOM];
@@ -430,6 +452,7 @@ fn main() {
     let mut earlier = [0u32; PLACES];
     let mut sums = [0u64; PLACES];
     run(
+        rt,
         &mut argument,
         &mut source,
         &mut packed,

@@ -10,6 +10,8 @@
 // A mended image is written to a new file beside the image's, which takes its place when it is whole.
 // So the image's file is at any time what it was or the mended image. Where something fails, the reason
 // goes to standard error, and the images after it are mended all the same.
+#![tactic(auto)]
+
 ghost use Rattle.std.specs.Prelude.{◌≡◌, ◌+◌, ◌<◌, length};
 ghost use Rattle.rules.specs.Bytes.{splice};
 ghost use Rattle.line.specs.Laid.{Laid};
@@ -18,18 +20,25 @@ ghost use Rattle.input.specs.Mark.{mark_of};
 ghost use Rattle.mend.specs.Mending.{fate_of, mended_over, SoundNow, counted_as};
 ghost use Rattle.mend.specs.Line.{words_of, line_of, beside_of};
 
-use console::options::{ARGUMENT_ROOM, read_options, usage};
+use console::name::path_text;
+use console::options::{ARGUMENT_ROOM, count_arguments, read_argument, read_options, usage};
+use console::reason::fail;
 use console::tally::{count, tell};
 use input::{IMAGE_ROOM, Received, mark_of, read_file};
-use libc::{PATH_MAX, STDOUT_FILENO};
 use line::put;
 use repairing::repair;
 use rules::{Answer, Layout};
 use sector::bytes::part;
+use std::fs::{File, OpenOptions};
+use std::io::Write;
+use std::{fs, io};
+
+// One byte more than the longest path that the system takes.
+const PATH_ROOM: usize = 4096;
 
 // What becomes of an image: it is sound, and left alone; it is mended, and its so many bytes are to be
 // written; repair refuses it; it was not read; it was mended, and could not be written.
-#[derive(Drop)]
+#[derive(Clone, Copy)]
 enum Fate {
     Sound,
     Mended(usize),
@@ -127,62 +136,100 @@ fn put_beside(path: &[u8], text: &mut [u8]) -> usize
 }
 
 // Tells why the file beside the image of that path was not written. What is in the buffer is of no more use.
-fn tell_beside(path: &[u8], buffer: &mut [u8]) {
+fn tell_beside(rt: HostRuntime, path: &[u8], error: io::Error, buffer: &mut [u8]) {
     let size = put_beside(path, buffer);
-    os::fail(part(buffer, 0, size));
+    fail(rt, part(buffer, 0, size), error);
 }
 
-// Writes the image to the descriptor, and waits until it has reached its device.
-fn write_image(descriptor: i32, image: &[u8]) -> bool {
-    if !io::write_all(descriptor, image) {
-        return false;
+// Makes a new file of that path: nothing has it yet.
+fn create(rt: HostRuntime, path: &[u8]) -> io::Result<File> {
+    let text = path_text(path)?;
+    OpenOptions::new()
+        .write(true)
+        .create_new(true)
+        .open(&rt, text)
+}
+
+// Writes the image to the file, waits until it has reached its device, and closes the file.
+fn write_image(mut file: File, image: &[u8]) -> io::Result<()> {
+    file.write_all(image)?;
+    file.sync_all()
+}
+
+// Takes away a file of ours that is of no more use. Where that fails it stays, and there is nothing else to do.
+fn remove(rt: HostRuntime, path: &[u8]) {
+    if let Ok(text) = path_text(path) {
+        let _ = fs::remove_file(&rt, text);
     }
-    libc::fsync(descriptor) == 0
 }
 
 // Writes the image, the first `length` bytes of the buffer, to a new file with the path `beside`. The answer
-// is whether it did; where not, no file of ours is left there. A reason is told before the next call, which
-// can set errno anew.
-fn write_beside(path: &[u8], beside: &[u8], length: usize, buffer: &mut [u8]) -> bool {
-    let descriptor = os::create(beside);
-    if descriptor < 0 {
-        tell_beside(path, buffer);
-        return false;
+// is whether it did; where not, no file of ours is left there.
+fn write_beside(
+    rt: HostRuntime,
+    path: &[u8],
+    beside: &[u8],
+    length: usize,
+    buffer: &mut [u8],
+) -> bool {
+    let file = match create(rt, beside) {
+        Ok(file) => file,
+        Err(error) => {
+            tell_beside(rt, path, error, buffer);
+            return false;
+        }
+    };
+    match write_image(file, part(buffer, 0, length)) {
+        Ok(()) => true,
+        Err(error) => {
+            tell_beside(rt, path, error, buffer);
+            remove(rt, beside);
+            false
+        }
     }
-    if !write_image(descriptor, part(buffer, 0, length)) {
-        tell_beside(path, buffer);
-        libc::close(descriptor);
-        os::unlink(beside);
-        return false;
-    }
-    if libc::close(descriptor) != 0 {
-        tell_beside(path, buffer);
-        os::unlink(beside);
-        return false;
-    }
-    true
+}
+
+// Gives the file of the first path the second one, in the place of the file that has it.
+fn rename(rt: HostRuntime, from: &[u8], to: &[u8]) -> io::Result<()> {
+    fs::rename(&rt, path_text(from)?, path_text(to)?)
 }
 
 // Has the image that is in the buffer in the file of its path. `path` is shown, and as long as the path
 // itself, `own`.
-fn replace(path: &[u8], own: &[u8], beside: &[u8], length: usize, buffer: &mut [u8]) -> bool {
-    if !write_beside(path, beside, length, buffer) {
+fn replace(
+    rt: HostRuntime,
+    path: &[u8],
+    own: &[u8],
+    beside: &[u8],
+    length: usize,
+    buffer: &mut [u8],
+) -> bool {
+    if !write_beside(rt, path, beside, length, buffer) {
         return false;
     }
-    if os::rename(beside, own) != 0 {
-        os::fail(path);
-        os::unlink(beside);
-        return false;
+    match rename(rt, beside, own) {
+        Ok(()) => true,
+        Err(error) => {
+            fail(rt, path, error);
+            remove(rt, beside);
+            false
+        }
     }
-    true
 }
 
 // What becomes of an image whose path is the front of `beside`, once a mended one is written.
-fn settle(fate: Fate, path: &[u8], beside: &[u8], buffer: &mut [u8]) -> Fate {
+fn settle(rt: HostRuntime, fate: Fate, path: &[u8], beside: &[u8], buffer: &mut [u8]) -> Fate {
     let Fate::Mended(length) = fate else {
         return fate;
     };
-    if replace(path, part(beside, 0, path.len()), beside, length, buffer) {
+    if replace(
+        rt,
+        path,
+        part(beside, 0, path.len()),
+        beside,
+        length,
+        buffer,
+    ) {
         return fate;
     }
     Fate::Unwritten
@@ -190,83 +237,96 @@ fn settle(fate: Fate, path: &[u8], beside: &[u8], buffer: &mut [u8]) -> Fate {
 
 // The line is put together where the image was, and written at once, so that the lines of several
 // processes on one output do not mix.
-fn write_line(mark: u8, fate: Fate, path: &[u8], buffer: &mut [u8]) -> bool {
+fn write_line(
+    rt: HostRuntime,
+    mark: u8,
+    fate: Fate,
+    path: &[u8],
+    buffer: &mut [u8],
+) -> io::Result<()> {
     let size = put_line(mark, fate, path, buffer);
-    io::write_all(STDOUT_FILENO, part(buffer, 0, size))
+    rt.stdout().write_all(part(buffer, 0, size))
 }
 
 // Mends the image of that path, counts it and writes its line. The answer, here and below, is whether the
 // line could be written.
 fn mend_file(
+    rt: HostRuntime,
     layout: Layout,
     path: &mut [u8],
     beside: &[u8],
     buffer: &mut [u8],
     tally: &mut [usize; 8],
-) -> bool {
-    let received = read_file(path, buffer);
+) -> io::Result<()> {
+    let received = read_file(rt, path, buffer);
     let mending = mend_received(layout, received, buffer);
     let made = mending.fate;
-    let fate = settle(made, path, beside, buffer);
+    let fate = settle(rt, made, path, beside, buffer);
     count(tally, counted_as(mending.mark, fate));
-    write_line(mending.mark, fate, path, buffer)
+    write_line(rt, mending.mark, fate, path, buffer)
 }
 
 // The path is only shown once its file is read, so its own bytes stay in front of those of the file beside
 // it. A path that has no room there is too long for the system.
 fn mend_argument(
+    rt: HostRuntime,
     layout: Layout,
     position: usize,
     argument: &mut [u8],
     beside: &mut [u8],
     buffer: &mut [u8],
     tally: &mut [usize; 8],
-) -> bool {
-    let length = os::arg(position, argument);
-    if os::errno() != 0 {
-        os::fail(b"argument");
-        count(tally, b'-');
-        return write_line(b'-', Fate::Unread, b"", buffer);
+) -> io::Result<()> {
+    match read_argument(rt, position, argument) {
+        Ok(length) => {
+            let end = put_beside(part(argument, 0, length), beside);
+            mend_file(
+                rt,
+                layout,
+                &mut argument[..length],
+                part(beside, 0, end),
+                buffer,
+                tally,
+            )
+        }
+        Err(error) => {
+            fail(rt, b"argument", error);
+            count(tally, b'-');
+            write_line(rt, b'-', Fate::Unread, b"", buffer)
+        }
     }
-    let end = put_beside(part(argument, 0, length), beside);
-    mend_file(
-        layout,
-        &mut argument[..length],
-        part(beside, 0, end),
-        buffer,
-        tally,
-    )
 }
 
 fn mend_arguments(
+    rt: HostRuntime,
     layout: Layout,
     first: usize,
     end: usize,
     argument: &mut [u8; ARGUMENT_ROOM],
-    beside: &mut [u8; PATH_MAX],
+    beside: &mut [u8; PATH_ROOM],
     buffer: &mut [u8; IMAGE_ROOM],
     tally: &mut [usize; 8],
-) -> bool {
+) -> io::Result<()> {
     for position in first..end {
-        if !mend_argument(layout, position, argument, beside, buffer, tally) {
-            return false;
-        }
+        mend_argument(rt, layout, position, argument, beside, buffer, tally)?;
     }
-    true
+    Ok(())
 }
 
 // Argument 0 is the program's own name. A line that cannot be written ends the run: no later one would
 // do better. The buffers are arrays down to the loop, which keeps their lengths by their types; of a
 // slice of a large array the prover would count them.
 fn run(
+    rt: HostRuntime,
     argument: &mut [u8; ARGUMENT_ROOM],
-    beside: &mut [u8; PATH_MAX],
+    beside: &mut [u8; PATH_ROOM],
     buffer: &mut [u8; IMAGE_ROOM],
 ) {
-    let end = os::arg_count();
-    let options = read_options(end, argument);
+    let end = count_arguments(rt);
+    let options = read_options(rt, end, argument);
     let first = options.first;
     if usage(
+        rt,
         options.help,
         options.unknown || options.verbose || options.sums || first == end,
         b"usage: mend [--marks] [--directories] [--] IMAGE...
@@ -289,17 +349,16 @@ read or written counts as unread.
         directories: options.directories,
     };
     let mut tally = [0usize; 8];
-    if mend_arguments(layout, first, end, argument, beside, buffer, &mut tally) {
-        tell(end - first, &tally);
-        return;
+    match mend_arguments(rt, layout, first, end, argument, beside, buffer, &mut tally) {
+        Ok(()) => tell(rt, end - first, &tally),
+        Err(error) => fail(rt, b"standard output", error),
     }
-    os::fail(b"standard output");
 }
 
 // The buffers are lent from here, once; every function below the loop works on plain slices.
-fn main() {
+fn main(rt: HostRuntime) {
     let mut argument = [0u8; ARGUMENT_ROOM];
-    let mut beside = [0u8; PATH_MAX];
+    let mut beside = [0u8; PATH_ROOM];
     let mut buffer = [0u8; IMAGE_ROOM];
-    run(&mut argument, &mut beside, &mut buffer);
+    run(rt, &mut argument, &mut beside, &mut buffer);
 }

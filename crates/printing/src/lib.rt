@@ -4,13 +4,15 @@
 // `put_text` makes the text, and is proved to give what document 01 says for any image. Of the rest
 // only safety is proved, since no contract can say what is read or written. Where standard input
 // cannot be read, nothing is written but the reason, on standard error.
+#![tactic(auto)]
+
 ghost use Rattle.std.specs.Prelude.{◌≡◌, ◌≤◌, length};
 ghost use Rattle.rules.specs.Bytes.{part, splice};
 ghost use Rattle.printing.specs.Output.{output};
 
-use console::options::{ARGUMENT_ROOM, read_options, usage};
+use console::options::{ARGUMENT_ROOM, count_arguments, read_options, usage};
+use console::reason::fail;
 use input::{Received, read_or_tell};
-use libc::{STDIN_FILENO, STDOUT_FILENO};
 use listing::{refused_line, show};
 use rules::Layout;
 use sector::bytes::part;
@@ -26,6 +28,7 @@ const TEXT_ROOM: usize = 4466;
 
 // Puts what the program writes for an image at the front of the text, and gives its length. The
 // length is tested here, since the library takes images that are longer than the program's.
+#[tactic(auto, using(crate::proofs::Outputs::long_size, crate::proofs::Outputs::long_left, crate::proofs::Outputs::long_front))]
 fn put_text(layout: Layout, image: &[u8], text: &mut [u8]) -> usize
     requires { 4466 ≤ length text.old }
     ensures result_after { part text.new 0 result ≡ output layout image.now }
@@ -38,32 +41,32 @@ fn put_text(layout: Layout, image: &[u8], text: &mut [u8]) -> usize
     shown.size
 }
 
-fn list_standard_input(layout: Layout, buffer: &mut [u8], text: &mut [u8])
+fn list_standard_input(rt: HostRuntime, layout: Layout, buffer: &mut [u8], text: &mut [u8])
     requires { 4466 ≤ length text.old }
 {
-    let received = read_or_tell(STDIN_FILENO, b"standard input", buffer);
+    let received = read_or_tell(rt, &mut rt.stdin(), b"standard input", buffer);
     let Received::Bytes(length) = received else {
         return;
     };
     let size = put_text(layout, part(buffer, 0, length), text);
-    if !io::write_all(STDOUT_FILENO, part(text, 0, size)) {
-        os::fail(b"standard output");
+    if let Err(error) = rt.stdout().write_all(part(text, 0, size)) {
+        fail(rt, b"standard output", error);
     }
 }
 
 // Whether there is an image to list: no argument is one.
-fn begins(argument: &mut [u8; ARGUMENT_ROOM], help: &[u8]) -> bool {
-    let end = os::arg_count();
-    let options = read_options(end, argument);
-    !usage(options.help, end > 1, help)
+fn begins(rt: HostRuntime, argument: &mut [u8; ARGUMENT_ROOM], help: &[u8]) -> bool {
+    let end = count_arguments(rt);
+    let options = read_options(rt, end, argument);
+    !usage(rt, options.help, end > 1, help)
 }
 
 // The whole of a program, with its usage. The buffers are lent from here, once, so that every other function works on plain slices.
-pub fn print(layout: Layout, help: &[u8]) {
+pub fn print(rt: HostRuntime, layout: Layout, help: &[u8]) {
     let mut argument = [0u8; ARGUMENT_ROOM];
-    if begins(&mut argument, help) {
+    if begins(rt, &mut argument, help) {
         let mut buffer = [0u8; IMAGE_ROOM];
         let mut text = [0u8; TEXT_ROOM];
-        list_standard_input(layout, &mut buffer, &mut text);
+        list_standard_input(rt, layout, &mut buffer, &mut text);
     }
 }

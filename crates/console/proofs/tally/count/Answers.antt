@@ -7,9 +7,7 @@ use lib.Seq.{set-get_or}
 use borrow.Author.Tests.{lt-ltb, le-ltb}
 use Rattle.rules.specs.Bytes.{byte_at}
 use Rattle.console.specs.Tally.{place_of, more, counted}
-use borrow.Author.Rules.{rules}
-use Rattle.console.proofs.tally.count.Statement.{statement}
-use Rattle.console.proofs.tally.count.Tie as tie
+use Rattle.console.proofs.tally.count.Goals as goal
 
 -- by what the count was
 module _ (tally : List ℕ) (mark place : ℕ) (is : place ≡ place_of mark) where
@@ -21,22 +19,10 @@ module _ (tally : List ℕ) (mark place : ℕ) (is : place ≡ place_of mark) wh
   unfolding counted more
   stays most = rw (← is, le-ltb _ _ most) (sym (set-get_or tally place 0))
 
-returns : tie.Need-returns
-returns c = counts _ _ _ c.before.before.before.place_of.ensures.0 c.before.if1.true
+pub returns-then-tally-place-lt18446744073709551615 :
+    goal.returns-then-tally-place-lt18446744073709551615
+returns-then-tally-place-lt18446744073709551615 c = counts _ _ _ c.place_of-place.ensures.0 c.if-tally-place-lt18446744073709551615.true
 
-returns-2 : tie.Need-returns-2
-returns-2 c = stays _ _ _ c.before.before.place_of.ensures.0 c.if1.false
-
-pub count_spec : {M : Type 1} → statement M
-count_spec =
-    tie.close
-    (tie.spec
-    (λ c κs. search rules)
-    (λ c. search rules)
-    (λ c. search rules)
-    (λ c. search rules)
-    (λ c. search rules)
-    (λ c. search rules)
-    (λ c. search rules)
-    returns
-    returns-2)
+pub returns-else-tally-place-lt18446744073709551615 :
+    goal.returns-else-tally-place-lt18446744073709551615
+returns-else-tally-place-lt18446744073709551615 c = stays _ _ _ c.place_of-place.ensures.0 c.if-tally-place-lt18446744073709551615.false

@@ -1,0 +1,2 @@
+-- What stands in front of a page.
+mod Parting
