@@ -1,6 +1,8 @@
 // The C interface, documented in include/pnoelithe.h: thin functions over the calls, each with the promise of the call below it.
 // Each gives its number, 0 where it was done; what a call gives beside it is written behind the pointers lent for it: with number 0 its
 // values, with 7 where a name is wrong, and with any other nothing; but in `changes` a call that was refused says that it wrote no sector.
+#![tactic(auto)]
+
 ghost use Rattle.std.specs.Prelude.{◌≡◌, length};
 ghost use Rattle.rules.specs.Sectors.{sector_of, sector_count};
 ghost use Rattle.rules.specs.Name.{wrong_place};
@@ -11,7 +13,7 @@ ghost use Rattle.rules.specs.Verdict.{verdict};
 ghost use Rattle.rules.specs.Outcome.{behind};
 ghost use Rattle.rules.specs.Calls.Format.{format_number, after_format};
 ghost use Rattle.rules.specs.Calls.Summary.{free_count_of, summary_of};
-ghost use Rattle.rules.specs.Kind.{is_protected};
+ghost use Rattle.rules.specs.Kind.{is_protected as has_protection};
 ghost use Rattle.rules.specs.Calls.Entry.{entry_at, entry_of};
 ghost use Rattle.rules.specs.Calls.Read.{read_of};
 ghost use Rattle.rules.specs.Calls.Load.{load_of};
@@ -126,7 +128,7 @@ pub extern "C" fn pno_entry(
     ensures kind { kind.new ≡ behind result (kind_number (file_kind (sector_of image.now (entry_at (layout_of layout) image.now directory place)))) kind.old }
     ensures size { size.new ≡ behind result (kind_length (file_kind (sector_of image.now (entry_at (layout_of layout) image.now directory place)))) size.old }
     ensures sectors { sectors.new ≡ behind result (sectors_of (sector_of image.now (entry_at (layout_of layout) image.now directory place))) sectors.old }
-    ensures protection { is_protected.new ≡ behind result (flag (is_protected (status_of (sector_of image.now (entry_at (layout_of layout) image.now directory place))))) is_protected.old }
+    ensures protection { is_protected.new ≡ behind result (flag (has_protection (status_of (sector_of image.now (entry_at (layout_of layout) image.now directory place))))) is_protected.old }
 {
     let entry = cataloguing::entry(layout_of(layout), image, directory, place, header);
     let answer = entry.answer;

@@ -6,31 +6,26 @@ use Rattle.rules.specs.declared.WrongPlace.TheVariants.{At}
 use Rattle.rules.proofs.Outcome.{wrong-there, wrong_nowhere}
 use Rattle.pnoelithe.specs.Crossing.{behind_seven, first_wrong}
 use Rattle.pnoelithe.proofs.Crossings.{bare_kept, place_behind_lem}
-use borrow.Author.Rules.{rules}
-use Rattle.pnoelithe.proofs.crossing.rename_number.Statement.{statement}
-use Rattle.pnoelithe.proofs.crossing.rename_number.Tie as tie
+use Rattle.pnoelithe.proofs.crossing.rename_number.Goals as goal
 
-returns : tie.Need-returns
+pub returns-in-Done : goal.returns-in-Done
 unfolding RenameSays behind_seven
-returns c old new number said = (sym (rw c.enum_told.given.1 at said), (refl, refl))
+returns-in-Done c old new number said = (sym (rw c.in-Done.is at said), (refl, refl))
 
-returns-2 : tie.Need-returns-2
+pub returns-in-Refused : goal.returns-in-Refused
 unfolding RenameSays
-returns-2 c old new number said =
-    let refused = rw c.before.answer.given.1 at said in
+returns-in-Refused c old new number said =
+    let refused = rw c.in-Refused.is at said in
     (refused.0, (bare_kept _ number _ _ refused, bare_kept _ number _ _ refused))
 
-returns-3 : tie.Need-returns-3
+pub returns-in-OldMisnamed : goal.returns-in-OldMisnamed
 unfolding RenameSays behind_seven first_wrong
-returns-3 c old new number said =
-    let seven = rw c.before.answer2.given.1 at said in
+returns-in-OldMisnamed c old new number said =
+    let seven = rw c.in-OldMisnamed.is at said in
     (sym seven.0, (sym (wrong-there old (λ (place : ℕ). 0) 1 _ seven.1), place_behind_lem (first_wrong old new) _ _ (wrong-there old At new _ seven.1)))
 
-returns-4 : tie.Need-returns-4
+pub returns-in-NewMisnamed : goal.returns-in-NewMisnamed
 unfolding RenameSays behind_seven first_wrong
-returns-4 c old new number said =
-    let seven = rw c.before.answer3.given.1 at said in
+returns-in-NewMisnamed c old new number said =
+    let seven = rw c.in-NewMisnamed.is at said in
     (sym seven.0, (sym (wrong_nowhere old (λ (place : ℕ). 0) 1 seven.1), place_behind_lem (first_wrong old new) _ _ (wrong_nowhere old At new seven.1 ∙ seven.2)))
-
-pub rename-number-spec : {M : Type 1} → statement M
-rename-number-spec = tie.close (tie.spec (λ c. search rules) (λ c. search rules) (λ c. search rules) (λ c. search rules) returns returns-2 returns-3 returns-4)
