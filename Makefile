@@ -26,7 +26,8 @@ all: $(ARCHIVE)
 $(BUILT): crates.txt $(shell find crates -name '*.rt')
 	@command -v $(RT) >/dev/null || \
 	    { echo 'there is no command $(RT): the Rattle kit, which builds the archive, is not here' >&2; exit 1; }
-	$(RT) staticlib pnoelithe
+	cd crates/pnoelithe && $(RT) lib
+	install -D -m 644 crates/pnoelithe/out/libpnoelithe.a $(BUILT)
 
 install: $(ARCHIVE)
 	install -d '$(DESTDIR)$(INCLUDEDIR)' '$(DESTDIR)$(LIBDIR)/pkgconfig'

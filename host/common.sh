@@ -66,7 +66,7 @@ find_archive() {
     archive=$top/target/staticlib/libpnoelithe.a
     if [ ! -f "$archive" ] ||
         [ -n "$(find "$top/crates" -name '*.rt' -newer "$archive" 2>/dev/null)" ]; then
-        (cd "$top" && rt staticlib pnoelithe >&2)
+        make -s -C "$top" target/staticlib/libpnoelithe.a >&2
     fi
 }
 

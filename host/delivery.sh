@@ -219,15 +219,14 @@ install_library() {
 build_by_make() {
     local kit=$work/kit make
     [ -n "$installed" ] || return 0
-    mkdir -p "$kit/bin" "$kit/crates/one/src"
+    mkdir -p "$kit/bin" "$kit/crates/one/src" "$kit/crates/pnoelithe/out"
     cp -r "$top/Makefile" "$top/include" "$kit"
     touch "$kit/calls"
     cat >"$kit/bin/rt" <<'END'
 #!/bin/sh
-[ "$*" = 'staticlib pnoelithe' ] || exit 1
-echo call >>calls
-mkdir -p target/staticlib
-echo built >target/staticlib/libpnoelithe.a
+[ "$*" = lib ] && [ "${PWD##*/}" = pnoelithe ] || exit 1
+echo call >>../../calls
+echo built >out/libpnoelithe.a
 END
     chmod +x "$kit/bin/rt"
     touch -d '3 hours ago' "$kit/crates.txt" "$kit/crates/one/src/lib.rt"

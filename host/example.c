@@ -2,7 +2,7 @@
  * A host program: judges a disk image, shows what is on it, takes files from it, puts files on it, and packs
  * it.
  *
- *     rt staticlib pnoelithe
+ *     make
  *     cc -Iinclude host/example.c target/staticlib/libpnoelithe.a -o example
  *     ./example IMAGE                        the catalogue
  *     ./example IMAGE judge                  whether it is a sound volume, and if not, why

@@ -1,7 +1,7 @@
 /*
  * Pnoelithe: volumes of TI-99/4A disks in lent memory.
  *
- * The functions are those of the static library libpnoelithe.a (rt staticlib pnoelithe), for x86-64 Linux,
+ * The functions are those of the static library libpnoelithe.a (make), for x86-64 Linux,
  * in C or in any language that calls C. Each is proved to give, for every image and every argument, exactly
  * the number and the bytes that the rules define; none keeps state, allocates, or leaves anything for the
  * caller to have checked.
