@@ -19,7 +19,7 @@ use Rattle.rules.proofs.Repair.{mendable}
 use Rattle.rules.proofs.Mended.{mended_sound}
 use Rattle.input.specs.Mark.{mark_of}
 use Rattle.input.specs.declared.Received.{Received}
-use Rattle.input.specs.declared.Received.TheVariants.{Bytes}
+use Rattle.input.specs.declared.Received.TheVariants.{Bytes, Failed}
 use Rattle.mend.specs.Mending.{fate_by, fate_of, mended_of, mended_over, SoundNow}
 use Rattle.mend.specs.declared.Fate.TheVariants.{Sound, Mended, Refused}
 
@@ -81,3 +81,14 @@ module _ (layout : Layout) (buffer : List ℕ) {received : Received} (count : �
           ∙ ap (λ (m : ℕ). verdict layout (take m (splice buffer 0 after))) (sym long)
           ∙ ap (verdict layout) (splice_front buffer after (omega (arith, long)) ∙ left)
           ∙ repaired_sound layout (part buffer 0 count) done
+
+-- by the mark alone: that of a sound volume, which nothing has that was not read
+pub sound_by_mark : (layout : Layout) (received : Received) (buffer : List ℕ) → mark_of layout received buffer ≡ 48 → fate_of layout received buffer ≡ Sound
+unfolding mark_of
+sound_by_mark layout (Bytes count) buffer is = sym (sound_fate layout buffer count refl (omega (arith, is)))
+sound_by_mark layout Failed buffer is = absurd (omega (arith, is))
+
+pub stays_by_mark : (layout : Layout) (received : Received) (buffer : List ℕ) → mark_of layout received buffer ≡ 48 → mended_over layout received buffer ≡ buffer
+unfolding mark_of
+stays_by_mark layout (Bytes count) buffer is = sym (sound_stays layout buffer count refl (omega (arith, is)))
+stays_by_mark layout Failed buffer is = absurd (omega (arith, is))

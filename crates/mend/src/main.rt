@@ -55,6 +55,7 @@ struct Mending {
 }
 
 // Mends what was read, where it stands.
+#[tactic(auto, using(crate::proofs::MendingLaws::sound_by_mark, crate::proofs::MendingLaws::stays_by_mark), unfolding(crate::specs::Mending::SoundNow))]
 fn mend_received(layout: Layout, received: Received, buffer: &mut [u8]) -> Mending
     requires { Filled received buffer.old }
     ensures mark_value { result.mark ≡ mark_of layout received buffer.old }
