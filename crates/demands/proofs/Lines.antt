@@ -291,7 +291,7 @@ module _ (layout : Layout) (image : List ℕ) (is : Sound layout image) where
       let many = length-map (files_in image i) (line_in layout image) in
       record {
         first = disk_line image;
-        first-is = disk_line_lem;
+        first_is = disk_line_lem;
         lines = map (line_in layout image) (files_in image i);
         many = many ∙ sym (length-map (files_in image i) (file_in image));
         each = λ p h. lines_are i indexed p (rw many at h);
@@ -319,7 +319,7 @@ file_line_one layout file first second is also =
 -- and the text
 pub lists_one : (layout : Layout) (image : List ℕ) (i : ℕ) (first second : List ℕ) → Lists layout image i first → Lists layout image i second → first ≡ second
 lists_one layout image i first second is also =
-    let disk = disk_line_one layout image is.first also.first is.first-is also.first-is in
+    let disk = disk_line_one layout image is.first also.first is.first_is also.first_is in
     let lines = ext_get_or [] is.lines also.lines (is.many ∙ sym also.many)
     (λ p h. file_line_one layout (file_of image i p) (get_or is.lines p []) (get_or also.lines p []) (is.each p h) (also.each p (omega (arith, is.many, also.many)))) in
     is.is ∙ rw (disk, lines) (sym also.is)

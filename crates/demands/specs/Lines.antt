@@ -88,7 +88,7 @@ pub record IsFileLine (layout : Layout) (file : File) (line : List ℕ) : Type 0
 -- the text: the first line, and then a line for each file of the catalogue of index i, in its order
 pub record Lists (layout : Layout) (image : List ℕ) (i : ℕ) (text : List ℕ) : Type 0 where
   pub first : List ℕ
-  pub first-is : IsDiskLine layout image first
+  pub first_is : IsDiskLine layout image first
   pub lines : List (List ℕ)
   pub many : length lines ≡ length (catalogue image i)
   pub each : (p : ℕ) → p < length lines → IsFileLine layout (file_of image i p) (get_or lines p [])
