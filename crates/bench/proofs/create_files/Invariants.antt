@@ -1,4 +1,3 @@
--- The image keeps its length. The measure is what is left of the 127.
 use mathlib.Core.Path.{◌≡◌}
 use Prim.Native.Nat.{◌-◌}
 use lib.ListN.{length}
