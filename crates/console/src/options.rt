@@ -14,7 +14,7 @@ pub const ARGUMENT_ROOM: usize = 131072;
 
 // What an argument asks for: the usage, grounds in words, sums, the rule with marks, the edition with directories; that the options end here;
 // nothing that is known; or an image, behind which there are no options.
-#[derive(Drop)]
+#[derive(Clone, Copy)]
 enum Word {
     Help,
     Verbose,
@@ -27,7 +27,7 @@ enum Word {
 }
 
 // Which options there are, whether there is one that no program has, and the place of the first image.
-#[derive(Drop)]
+#[derive(Clone, Copy)]
 pub struct Options {
     pub help: bool,
     pub verbose: bool,

@@ -29,7 +29,7 @@ pub fn block_bytes(start: usize, last: usize) -> [u8; 3]
 }
 
 // What a walk over a chain meets at a byte: a block, or the end.
-#[derive(Drop)]
+#[derive(Clone, Copy)]
 pub enum Met {
     Found(Block),
     Ended,
@@ -65,7 +65,7 @@ fn less(a: usize, b: usize) -> usize
 
 // A place in the walk through a chain: `left` sectors of the present block, from `place` on, then the
 // blocks from byte `at` on, the first of which covers the file from its sector `next` on.
-#[derive(Drop)]
+#[derive(Clone, Copy)]
 pub struct Cursor {
     pub at: usize,
     pub next: usize,
@@ -74,7 +74,7 @@ pub struct Cursor {
 }
 
 // The next place with the cursor behind it, or the end of the file.
-#[derive(Drop)]
+#[derive(Clone, Copy)]
 pub enum Step {
     Place(usize, Cursor),
     End,

@@ -12,7 +12,7 @@ use rules::{NamedAnswer, WrongPlace};
 use sector::buffer::{fill, lay};
 
 // What the label says of the drive.
-#[derive(Drop)]
+#[derive(Clone, Copy)]
 pub struct Geometry {
     pub sectors_per_track: u8,
     pub tracks: u8,

@@ -46,7 +46,7 @@ pub fn refused_line(number: u32, out: &mut [u8]) -> usize
 }
 
 // What a program shows of an image: its number, and the length of its text.
-#[derive(Drop)]
+#[derive(Clone, Copy)]
 pub struct Shown {
     pub number: u32,
     pub size: usize,

@@ -32,7 +32,7 @@ pub fn descriptor_choice(sector0: &[u8]) -> usize
 }
 
 // The search for data: the sector that it found, and how far it has come, so that the next one does not begin anew.
-#[derive(Drop)]
+#[derive(Clone, Copy)]
 pub struct Search {
     pub sector: usize,
     pub high: usize,

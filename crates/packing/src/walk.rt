@@ -9,7 +9,7 @@ use sector::directories::index_at;
 use sector::numbers::number_at;
 
 // A place in the walk: byte `at` of the index in sector `index`, or none where that is 0; then the directories from `directory` on.
-#[derive(Drop)]
+#[derive(Clone, Copy)]
 pub struct Walk {
     pub index: usize,
     pub at: usize,
@@ -17,7 +17,7 @@ pub struct Walk {
 }
 
 // The next file, by the sector of its descriptor, with the walk behind it; or the end of all files.
-#[derive(Drop)]
+#[derive(Clone, Copy)]
 pub enum Step {
     File(usize, Walk),
     End,

@@ -11,7 +11,7 @@ pub struct Layout {
 }
 
 // A block of a chain: its first sector, and the last offset in the file that it covers.
-#[derive(Drop)]
+#[derive(Clone, Copy)]
 pub struct Block {
     pub start: usize,
     pub last: usize,
@@ -35,7 +35,7 @@ pub enum Kind {
 }
 
 // A row of the catalogue: name, kind, sectors, protection.
-#[derive(Drop)]
+#[derive(Clone, Copy)]
 pub struct Row {
     pub name: [u8; 10],
     pub kind: Kind,
@@ -44,21 +44,21 @@ pub struct Row {
 }
 
 // The place of a name's first wrong byte, from 0 to 9, or 10 where the name is not ten bytes long; none where it keeps the rule.
-#[derive(Drop)]
+#[derive(Clone, Copy)]
 pub enum WrongPlace {
     None,
     At(usize),
 }
 
 // What a call answers that gives nothing back but its number.
-#[derive(Drop)]
+#[derive(Clone, Copy)]
 pub enum Answer {
     Done,
     Refused(u32),
 }
 
 // The same of a call that takes a name: number 7 comes with the place where the name is wrong.
-#[derive(Drop)]
+#[derive(Clone, Copy)]
 pub enum NamedAnswer {
     Done,
     Refused(u32),
@@ -66,7 +66,7 @@ pub enum NamedAnswer {
 }
 
 // And of a rename, which takes two: number 7 says which of them it means besides.
-#[derive(Drop)]
+#[derive(Clone, Copy)]
 pub enum RenameAnswer {
     Done,
     Refused(u32),
@@ -75,14 +75,14 @@ pub enum RenameAnswer {
 }
 
 // What a call answers that gives a number: a count of sectors or of bytes.
-#[derive(Drop)]
+#[derive(Clone, Copy)]
 pub enum Amount {
     Given(usize),
     Refused(u32),
 }
 
 // The same of a call that takes a name.
-#[derive(Drop)]
+#[derive(Clone, Copy)]
 pub enum NamedAmount {
     Given(usize),
     Refused(u32),
@@ -90,7 +90,7 @@ pub enum NamedAmount {
 }
 
 // What the summary of a volume answers; the disk name goes into a lent array beside it.
-#[derive(Drop)]
+#[derive(Clone, Copy)]
 pub enum Summary {
     Given {
         sectors: usize,
@@ -101,7 +101,7 @@ pub enum Summary {
 }
 
 // What a catalogue entry answers. The row stands beside the answer, since it holds an array.
-#[derive(Drop)]
+#[derive(Clone, Copy)]
 pub struct Entry {
     pub answer: Answer,
     pub row: Row,
@@ -109,7 +109,7 @@ pub struct Entry {
 
 // A file that a call names: the sector of the index that lists it, its place there and its descriptor's sector; absent from the index
 // in that sector; or not looked for, with the number of the refusal or, for 7, with the place where the name is wrong.
-#[derive(Drop)]
+#[derive(Clone, Copy)]
 pub enum Opened {
     At(usize, usize, usize),
     Absent(usize),

@@ -142,11 +142,11 @@ returns-then-with-gt76 c =
     let p = passed (goal.at.returns-then-with-gt76 c).After-tip_of-tip in
     let a = c.args in
     let both = refusal_meets a.image.now c.args.changes.now _ 13 refl refl in
-    record { meets = rw (p.0, p.1, eq-eqb _ _ p.2, le-ltb (free_count _) 1 p.3, lt-ltb 76 (length (longer_blocks a.image.now a.k)) (omega (arith, used_is (goal.at.returns-then-with-gt76 c).After-tip_with-with, c.if-with-gt76.true))) both.0; order = rw (p.0, p.1, eq-eqb _ _ p.2, le-ltb (free_count _) 1 p.3, lt-ltb 76 (length (longer_blocks a.image.now a.k)) (omega (arith, used_is (goal.at.returns-then-with-gt76 c).After-tip_with-with, c.if-with-gt76.true))) both.1 }
+    record { meets = rw (p.0, p.1, eq-eqb _ _ p.2, le-ltb (free_count _) 1 p.3, lt-ltb 76 (length (longer_blocks a.image.now a.k)) (omega (arith, used_is (goal.at.returns-then-with-gt76 c).After-tip_with-with))) both.0; order = rw (p.0, p.1, eq-eqb _ _ p.2, le-ltb (free_count _) 1 p.3, lt-ltb 76 (length (longer_blocks a.image.now a.k)) (omega (arith, used_is (goal.at.returns-then-with-gt76 c).After-tip_with-with))) both.1 }
 
 pub write_longer-requires : goal.write_longer-requires
 write_longer-requires c =
-    let b = extendable (goal.at.write_longer-requires c).After-tip_with-with (omega (arith, c.if-with-gt76.false)) in
+    let b = extendable (goal.at.write_longer-requires c).After-tip_with-with (omega arith) in
     (c.requires, new_is (goal.at.write_longer-requires c).After-next-found, b.0, b.1)
 
 pub returns : goal.returns
@@ -157,7 +157,7 @@ returns c =
     let writes = append_writes a.layout a.image.now a.bytes.now a.k in
     let order = rw (new_is (goal.at.returns c).After-next-found) at c.list.ensures in
     let both = done_meets a.image.now _ _ writes _ _ refl c.write_longer.ensures (order ∙ order_laid _ writes (search rules)) in
-    record { meets = rw (p.0, p.1, eq-eqb _ _ p.2, le-ltb (free_count _) 1 p.3, le-ltb 76 (length (longer_blocks a.image.now a.k)) (omega (arith, used_is (goal.at.returns c).After-tip_with-with, c.if-with-gt76.false))) both.0; order = rw (p.0, p.1, eq-eqb _ _ p.2, le-ltb (free_count _) 1 p.3, le-ltb 76 (length (longer_blocks a.image.now a.k)) (omega (arith, used_is (goal.at.returns c).After-tip_with-with, c.if-with-gt76.false))) both.1 }
+    record { meets = rw (p.0, p.1, eq-eqb _ _ p.2, le-ltb (free_count _) 1 p.3, le-ltb 76 (length (longer_blocks a.image.now a.k)) (omega (arith, used_is (goal.at.returns c).After-tip_with-with))) both.0; order = rw (p.0, p.1, eq-eqb _ _ p.2, le-ltb (free_count _) 1 p.3, le-ltb 76 (length (longer_blocks a.image.now a.k)) (omega (arith, used_is (goal.at.returns c).After-tip_with-with))) both.1 }
 
 pub overflow_cast-order : goal.overflow_cast-order
 overflow_cast-order c = omega (arith, new_range (goal.at.overflow_cast-order c).After-next-found)

@@ -3,7 +3,7 @@
 use mathlib.Core.Path.{◌≡◌, refl, sym, ap, ◌∙◌}
 use mathlib.Core.Bool.{true}
 use mathlib.Core.List.{List}
-use Prim.Native.Nat.{ℕ}
+use Prim.Native.Nat.{ℕ, ◌%◌, ◌/◌, ◌≤◌}
 use native.Mathlib.Omega.{arith}
 use lib.ListN.{length}
 use borrow.Author.Tests.{eq-eqb, ne_eqb, le-leb, lt-leb}
@@ -19,12 +19,12 @@ use Rattle.rules.proofs.Verdict.{size_is}
 use Rattle.judge.proofs.ClaimLaws.{indexes_below, claims_below, judged_twice, judged_map}
 use Rattle.judge.proofs.VerdictSteps.{Entered, Indexed, Described, FourPassed, wrong_size, wrong_label, wrong_entry, wrong_index, wrong_descriptor, wrong_holders, wrong_map_lem, nothing_wrong}
 use Rattle.judge.proofs.judge.Goals as goal
-use Rattle.judge.proofs.judge.Goals.{After-catalogues_rule, After-claim_holders, After-entries_rule, After-indexes_rule, After-label_rule, After-map_rule, Else-n-gt1600, Else-not-catalogues_rule, Else-not-entries_rule, Else-not-indexes_rule, Else-not-label_rule}
+use Rattle.judge.proofs.judge.Goals.{After-catalogues_rule, After-claim_holders, After-entries_rule, After-indexes_rule, After-label_rule, After-map_rule, Else-not-catalogues_rule, Else-not-entries_rule, Else-not-indexes_rule, Else-not-label_rule}
 
 -- the tests that have passed
-sized : (c : Else-n-gt1600) → size_rule c.args.image.now ≡ true
+sized : (image : List ℕ) → length image % 256 ≡ 0 → 3 ≤ length image / 256 → length image / 256 ≤ 1600 → size_rule image ≡ true
 unfolding size_rule
-sized c = rw (eq-eqb _ _ c.if-image-ne0.false, le-leb _ _ c.if-n-lt3.false, le-leb _ _ c.if-n-gt1600.false)
+sized image whole least most = rw (eq-eqb (length image % 256) 0 whole, le-leb 3 (length image / 256) least, le-leb (length image / 256) 1600 most)
 
 label_is : (c : After-label_rule) → label_rule (sector_count c.args.image.now) (sector_of c.args.image.now 0) ≡ c.label_rule.result
 label_is c = rw (← c.sector_in-sector0.ensures) (sym c.label_rule.ensures)
@@ -51,7 +51,7 @@ catalogues_is c = sym c.catalogues_rule.ensures
 passed : (c : Else-not-catalogues_rule) → FourPassed c.args.layout c.args.image.now
 passed c =
     record {
-      sized = sized (goal.at.Else-not-catalogues_rule c).Else-n-gt1600;
+      sized = sized c.args.image.now (omega arith) (omega arith) (omega arith);
       labelled = labelled (goal.at.Else-not-catalogues_rule c).Else-not-label_rule;
       entered = entered (goal.at.Else-not-catalogues_rule c).Else-not-entries_rule;
       indexed = indexed (goal.at.Else-not-catalogues_rule c).Else-not-indexes_rule;
@@ -86,31 +86,31 @@ returns-then-n-gt1600 c = sym (wrong_size _ _ (rw (eq-eqb _ _ c.if-image-ne0.fal
 
 pub returns-then-not-label_rule : goal.returns-then-not-label_rule
 returns-then-not-label_rule c =
-    sym (wrong_label _ _ (sized (goal.at.returns-then-not-label_rule c).Else-n-gt1600) (label_is (goal.at.returns-then-not-label_rule c).After-label_rule ∙ c.if-not-label_rule.true))
+    sym (wrong_label _ _ (sized c.args.image.now (omega arith) (omega arith) (omega arith)) (label_is (goal.at.returns-then-not-label_rule c).After-label_rule ∙ c.if-not-label_rule.true))
 
 pub returns-then-not-entries_rule : goal.returns-then-not-entries_rule
 returns-then-not-entries_rule c =
-    sym (wrong_entry _ _ (sized (goal.at.returns-then-not-entries_rule c).Else-n-gt1600) (labelled (goal.at.returns-then-not-entries_rule c).Else-not-label_rule) (entries_is (goal.at.returns-then-not-entries_rule c).After-entries_rule ∙ c.if-not-entries_rule.true))
+    sym (wrong_entry _ _ (sized c.args.image.now (omega arith) (omega arith) (omega arith)) (labelled (goal.at.returns-then-not-entries_rule c).Else-not-label_rule) (entries_is (goal.at.returns-then-not-entries_rule c).After-entries_rule ∙ c.if-not-entries_rule.true))
 
 pub returns-then-not-indexes_rule : goal.returns-then-not-indexes_rule
 returns-then-not-indexes_rule c =
-    sym (wrong_index _ _ (sized (goal.at.returns-then-not-indexes_rule c).Else-n-gt1600) (labelled (goal.at.returns-then-not-indexes_rule c).Else-not-label_rule) (entered (goal.at.returns-then-not-indexes_rule c).Else-not-entries_rule) (indexes_is (goal.at.returns-then-not-indexes_rule c).After-indexes_rule ∙ c.if-not-indexes_rule.true))
+    sym (wrong_index _ _ (sized c.args.image.now (omega arith) (omega arith) (omega arith)) (labelled (goal.at.returns-then-not-indexes_rule c).Else-not-label_rule) (entered (goal.at.returns-then-not-indexes_rule c).Else-not-entries_rule) (indexes_is (goal.at.returns-then-not-indexes_rule c).After-indexes_rule ∙ c.if-not-indexes_rule.true))
 
 pub returns-then-not-catalogues_rule : goal.returns-then-not-catalogues_rule
 returns-then-not-catalogues_rule c =
-    sym (wrong_descriptor _ _ (sized (goal.at.returns-then-not-catalogues_rule c).Else-n-gt1600) (labelled (goal.at.returns-then-not-catalogues_rule c).Else-not-label_rule) (entered (goal.at.returns-then-not-catalogues_rule c).Else-not-entries_rule) (indexed (goal.at.returns-then-not-catalogues_rule c).Else-not-indexes_rule) (catalogues_is (goal.at.returns-then-not-catalogues_rule c).After-catalogues_rule ∙ c.if-not-catalogues_rule.true))
+    sym (wrong_descriptor _ _ (sized c.args.image.now (omega arith) (omega arith) (omega arith)) (labelled (goal.at.returns-then-not-catalogues_rule c).Else-not-label_rule) (entered (goal.at.returns-then-not-catalogues_rule c).Else-not-entries_rule) (indexed (goal.at.returns-then-not-catalogues_rule c).Else-not-indexes_rule) (catalogues_is (goal.at.returns-then-not-catalogues_rule c).After-catalogues_rule ∙ c.if-not-catalogues_rule.true))
 
 pub sector_in-sector0-requires : goal.sector_in-sector0-requires
-sector_in-sector0-requires c = let size = size_is c.args.image.now (sized (goal.at.sector_in-sector0-requires c).Else-n-gt1600) in omega (arith, size.0, size.1)
+sector_in-sector0-requires c = let size = size_is c.args.image.now (sized c.args.image.now (omega arith) (omega arith) (omega arith)) in omega (arith, size.0, size.1)
 
 pub indexes_rule-requires : goal.indexes_rule-requires
 indexes_rule-requires c =
-    let s = sized (goal.at.indexes_rule-requires c).Else-n-gt1600 in
+    let s = sized c.args.image.now (omega arith) (omega arith) (omega arith) in
     ((size_is c.args.image.now s).0, indexes_below _ _ s (entered (goal.at.indexes_rule-requires c).Else-not-entries_rule))
 
 pub catalogues_rule-requires : goal.catalogues_rule-requires
 catalogues_rule-requires c =
-    let s = sized (goal.at.catalogues_rule-requires c).Else-n-gt1600 in
+    let s = sized c.args.image.now (omega arith) (omega arith) (omega arith) in
     ((size_is c.args.image.now s).0, indexes_below _ _ s (entered (goal.at.catalogues_rule-requires c).Else-not-entries_rule), indexed (goal.at.catalogues_rule-requires c).Else-not-indexes_rule)
 
 pub lay_map-requires : goal.lay_map-requires

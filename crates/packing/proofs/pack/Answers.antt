@@ -16,13 +16,13 @@ returns-then-number-ne0 c =
     let both = made_refused AnswerSays (Refused _) _ _ _ _ c.if-number-ne0.true (refl, c.if-number-ne0.true) (unsound _ _ _ (λ z. c.if-number-ne0.true (is ∙ z)) ∙ sym is) in
     record { answer_says = both.0; target_after = both.1 }
 
+pub write_packed-requires : goal.write_packed-requires
+write_packed-requires c = (sound _ _ (sym c.judge-number.ensures ∙ c.if-number-ne0.false), c.if-target-source.false)
+
 pub returns-then-target-source : goal.returns-then-target-source
 unfolding after_pack AnswerSays
 returns-then-target-source c = let both = made_refused AnswerSays (Refused 15) _ _ _ 15 (λ z. omega (arith, z)) (refl, λ z. omega (arith, z)) (misfit _ _ _ (sym c.judge-number.ensures ∙ c.if-number-ne0.false) c.if-target-source.true) in
     record { answer_says = both.0; target_after = both.1 }
-
-pub write_packed-requires : goal.write_packed-requires
-write_packed-requires c = (sound _ _ (sym c.judge-number.ensures ∙ c.if-number-ne0.false), c.if-target-source.false)
 
 pub returns : goal.returns
 unfolding after_pack AnswerSays

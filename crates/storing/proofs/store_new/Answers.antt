@@ -24,7 +24,7 @@ use Rattle.storing.specs.Program.{program_writes}
 use Rattle.storing.proofs.StoreLaws.{too_long, no_place, too_few_free, too_scattered, stored}
 use Rattle.storing.proofs.Programming.{program_entered, program_listed}
 use Rattle.storing.proofs.store_new.Goals as goal
-use Rattle.storing.proofs.store_new.Goals.{After-descriptor_choice-k, After-free_count_of, After-word, After-write_program, Else-bytes-gt32768, Else-free_count_of-many, Else-word-ne0, Start}
+use Rattle.storing.proofs.store_new.Goals.{After-descriptor_choice-k, After-free_count_of, After-word, After-write_program, Else-free_count_of-many, Else-word-ne0, Start}
 
 -- the index keeps its rules, and is a sector of the volume
 listed : (c : Start) → SoundIndex c.args.layout c.args.image.now c.args.i
@@ -34,12 +34,12 @@ small : (c : Start) → c.args.i < 65536
 small c = omega (arith, index_low _ _ c.requires.0 c.args.i c.requires.1, c.requires.0.size)
 
 pub returns-then-bytes-gt32768 : goal.returns-then-bytes-gt32768
-returns-then-bytes-gt32768 c = let both = refusal_meets _ _ _ 15 refl (too_long _ _ _ _ _ (omega (arith, c.if-bytes-gt32768.true))) in
+returns-then-bytes-gt32768 c = let both = refusal_meets _ _ _ 15 refl (too_long _ _ _ _ _ (omega arith)) in
     record { meets = both.0; order = both.1 }
 
 -- the bytes are not too many
-short : (c : Else-bytes-gt32768) → length c.args.bytes.now ≤ 32768
-short c = omega (arith, c.if-bytes-gt32768.false)
+short : (c : After-word) → length c.args.bytes.now ≤ 32768
+short c = omega arith
 
 -- the number at the last place of the index, and the free sectors
 word_is : (c : After-word) → let a = c.args in c.word.result ≡ word_at (sector_of a.image.now a.i) (2 * 126)
@@ -51,7 +51,7 @@ free_is c = c.free_count_of.ensures.0 ∙ ap free_count c.sector_of-2.ensures
 pub returns-then-word-ne0 : goal.returns-then-word-ne0
 returns-then-word-ne0 c =
     let full = place_some _ c.args.image.now c.args.i 126 (listed (goal.at.returns-then-word-ne0 c).Start) (λ z. c.if-word-ne0.true (word_is (goal.at.returns-then-word-ne0 c).After-word ∙ z)) in
-    let both = refusal_meets _ _ _ 11 refl (no_place _ _ _ _ _ (short (goal.at.returns-then-word-ne0 c).Else-bytes-gt32768) full.0) in
+    let both = refusal_meets _ _ _ 11 refl (no_place _ _ _ _ _ (short (goal.at.returns-then-word-ne0 c).After-word) full.0) in
     record { meets = both.0; order = both.1 }
 
 -- the tests that have passed
@@ -65,7 +65,7 @@ has_free c = omega (arith, free_is (goal.at.Else-free_count_of-many c).After-fre
 
 pub returns-then-free_count_of-many : goal.returns-then-free_count_of-many
 returns-then-free_count_of-many c =
-    let both = refusal_meets _ _ _ 12 refl (too_few_free _ _ _ _ _ (short (goal.at.returns-then-free_count_of-many c).Else-bytes-gt32768) (has_place (goal.at.returns-then-free_count_of-many c).Else-word-ne0) (omega (arith, free_is (goal.at.returns-then-free_count_of-many c).After-free_count_of, c.if-free_count_of-many.true))) in
+    let both = refusal_meets _ _ _ 12 refl (too_few_free _ _ _ _ _ (short (goal.at.returns-then-free_count_of-many c).After-word) (has_place (goal.at.returns-then-free_count_of-many c).Else-word-ne0) (omega (arith, free_is (goal.at.returns-then-free_count_of-many c).After-free_count_of, c.if-free_count_of-many.true))) in
     record { meets = both.0; order = both.1 }
 
 -- the sector chosen
@@ -76,7 +76,7 @@ ten : (c : After-descriptor_choice-k) → length c.args.name.now ≡ 10
 ten c = (name_is _ c.requires.2).ten
 
 at_length : (c : After-descriptor_choice-k) → length c.args.bytes.now ≤ 32768
-at_length c = short (goal.at.After-descriptor_choice-k c).Else-bytes-gt32768
+at_length c = short (goal.at.After-descriptor_choice-k c).After-word
 
 pub write_program-requires : goal.write_program-requires
 write_program-requires c =

@@ -23,17 +23,17 @@ met : (c : After-less-many) →
     BlockHere c.args.chain.now c.loop-block.at c.in-Found.block
 met c = found _ c.block_at.ensures c.in-Found.is
 
-pub overflow_add-many : goal.overflow_add-many
-overflow_add-many c = omega (arith, met (goal.at.overflow_add-many c).After-less-many, c.less-many.ensures)
-
-pub overflow_add-result : goal.overflow_add-result
-overflow_add-result c = omega (arith, met (goal.at.overflow_add-result c).After-less-many, c.less-many.ensures)
-
 pub returns-then-left-many : goal.returns-then-left-many
 returns-then-left-many c =
     let b = met (goal.at.returns-then-left-many c).After-less-many in
     let many = c.less-many.ensures in
     (sym (sym c.loop-block.invariant.1 ∙ rw b.is (place_here _ _ _ _ (omega (arith, many, c.if-left-many.true)))), omega (arith, many, c.if-left-many.true))
+
+pub overflow_add-many : goal.overflow_add-many
+overflow_add-many c = omega (arith, met (goal.at.overflow_add-many c).After-less-many, c.less-many.ensures)
+
+pub overflow_add-result : goal.overflow_add-result
+overflow_add-result c = omega (arith, met (goal.at.overflow_add-result c).After-less-many, c.less-many.ensures)
 
 pub overflow_add-next : goal.overflow_add-next
 overflow_add-next c = omega (arith, met (goal.at.overflow_add-next c).After-less-many)

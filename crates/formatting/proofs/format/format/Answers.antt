@@ -71,11 +71,6 @@ sized : (c : Else-sectors-gt1600) → size_rule c.args.image.now ≡ true
 unfolding size_rule
 sized c = rw (eq-eqb _ _ c.if-image-ne0.false, le-leb _ _ c.if-sectors-lt3.false, le-leb _ _ c.if-sectors-gt1600.false)
 
-pub returns-then-n-sectors : goal.returns-then-n-sectors
-unfolding after_format
-returns-then-n-sectors c = let both = refused _ _ _ _ (misasked _ _ _ c.if-n-sectors.true (sized (goal.at.returns-then-n-sectors c).Else-sectors-gt1600)) in
-    record { named_says = both.0; image_after = both.1 }
-
 pub returns-in-At : goal.returns-in-At
 unfolding after_format NamedSays
 returns-in-At c =
@@ -94,3 +89,8 @@ unfolding after_format NamedSays
 returns-in-None c =
     let whole = made_done (NamedSays (wrong_place c.args.name.now)) Done _ _ _ refl (passed _ _ _ c.if-n-sectors.false (sized (goal.at.returns-in-None c).Else-sectors-gt1600) (named (goal.at.returns-in-None c).In-None)) in
     record { named_says = whole.0; image_after = c.write_volume.ensures ∙ whole.1 }
+
+pub returns-then-n-sectors : goal.returns-then-n-sectors
+unfolding after_format
+returns-then-n-sectors c = let both = refused _ _ _ _ (misasked _ _ _ c.if-n-sectors.true (sized (goal.at.returns-then-n-sectors c).Else-sectors-gt1600)) in
+    record { named_says = both.0; image_after = both.1 }

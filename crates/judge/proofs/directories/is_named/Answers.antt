@@ -4,6 +4,7 @@ use mathlib.Core.Path.{◌≡◌, refl, sym, ap, ◌∙◌}
 use mathlib.Core.Bool.{Bool, true, false, ◌||◌}
 use mathlib.Core.List.{List}
 use Prim.Native.Nat.{ℕ, ◌+◌}
+use native.Mathlib.Omega.{arith}
 use lib.ListN.{drop}
 use Rattle.rules.specs.Bytes.{part}
 use Rattle.rules.specs.Directory.{entry_name, is_named}
@@ -19,7 +20,7 @@ stepped : (c : After-same) (found : Bool) → c.same.result ≡ found →
 unfolding entry_name
 stepped c found e =
     sym c.loop-later.invariant
-    ∙ named_step _ _ _ found _ c.loop-later-test.true (c.part.ensures ∙ ap (λ (entry : List ℕ). part entry 0 10) c.part-entry.ensures) (sym e ∙ c.same.ensures)
+    ∙ named_step _ _ _ found _ (omega arith) (c.part.ensures ∙ ap (λ (entry : List ℕ). part entry 0 10) c.part-entry.ensures) (sym e ∙ c.same.ensures)
 
 pub returns-then-same : goal.returns-then-same
 returns-then-same c = sym (stepped (goal.at.returns-then-same c).After-same true c.if-same.true)

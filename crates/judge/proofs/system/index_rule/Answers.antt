@@ -39,9 +39,6 @@ stepped c = sym c.loop-n.invariant.1 ∙ index_step _ _ _ _ (c.number_at-k.ensur
 pub returns-then-k-lt2 : goal.returns-then-k-lt2
 returns-then-k-lt2 c = sym (stepped (goal.at.returns-then-k-lt2 c).Else-k-eq0 ∙ rw (lt-leb _ _ c.if-k-lt2.true))
 
-pub returns-then-k-n : goal.returns-then-k-n
-returns-then-k-n c = sym (stepped (goal.at.returns-then-k-n c).Else-k-eq0 ∙ rw (le-leb _ _ c.if-k-lt2.false, le-ltb _ _ c.if-k-n.true))
-
 -- two bytes are there
 inside : (c : Else-k-eq0) → c.loop-n.at + 2 ≤ length c.args.index.now
 inside c = c.number_at-k.ensures.inside c.if-k-eq0.false
@@ -55,3 +52,6 @@ loop-n-smaller c = omega (arith, inside (goal.at.loop-n-smaller c).Else-k-eq0)
 pub loop-n-preserved : goal.loop-n-preserved
 unfolding index_rest
 loop-n-preserved c = (inside (goal.at.loop-n-preserved c).Else-k-eq0, sym (stepped (goal.at.loop-n-preserved c).Else-k-eq0 ∙ rw (le-leb _ _ c.if-k-lt2.false, lt-ltb _ _ c.if-k-n.false)))
+
+pub returns-then-k-n : goal.returns-then-k-n
+returns-then-k-n c = sym (stepped (goal.at.returns-then-k-n c).Else-k-eq0 ∙ rw (le-leb _ _ c.if-k-lt2.false, le-ltb _ _ c.if-k-n.true))
