@@ -703,9 +703,12 @@ try_mend_faults() {
     done <<'END'
 write 1 28:a.dsk.mending: No space left on device
 fsync 1 122:a.dsk.mending: Disk quota exceeded
-close 2 5:a.dsk.mending: Input/output error
 rename 1 16:a.dsk: Device or resource busy
 END
+    # A file is closed without a word of how that went; by then its bytes have reached the device.
+    lay_copies a.dsk "$order"
+    faulty_step 'close 2 5' 0 '4 a.dsk: mended' '1 image: 1 sound'
+    must_hold a.dsk "$mix"
     for fault in 'write 1 end' 'fsync 1 end' 'close 2 end' 'rename 1 end'; do
         lay_copies a.dsk "$order"
         faulty_step "$fault" 2 '' ''
