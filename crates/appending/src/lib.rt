@@ -1,8 +1,8 @@
-// Appending: one sector more of a file. The call takes any image and any arguments, answers with its number, and leaves the image with the
+// Appending: one sector more of a file. The call takes any image and any arguments, says whether it refuses and why, and leaves the image with the
 // writes of the rules' definition laid over it, and their order in a list that is lent for it; a refusal has none.
 #![tactic(auto)]
 
-ghost use Rattle.std.specs.Prelude.{◌≡◌, ℕ, ◌+◌, length};
+ghost use Rattle.std.specs.Prelude.{◌≡◌, None, ℕ, ◌+◌, length};
 ghost use Rattle.rules.specs.Name.{wrong_place};
 ghost use Rattle.rules.specs.Chain.{blocks, extended};
 ghost use Rattle.rules.specs.Descriptor.{sectors_of, chain_of, with_chain, marked_by};
@@ -12,46 +12,44 @@ ghost use Rattle.rules.specs.Sound.{IsFile};
 ghost use Rattle.rules.specs.Choice.{data_choice};
 ghost use Rattle.rules.specs.Outcome.{listed, NamedSays, Meets};
 ghost use Rattle.rules.specs.Calls.Append.{append_writes, appending, append_of};
-ghost use Rattle.rules.specs.declared.WrongPlace.TheVariants.{None};
+ghost use Rattle.rules.specs.Refusal.{named_answered};
 ghost use Rattle.extension.specs.Built.{Extendable};
 
+use descriptor::fields::descriptor_of;
 use descriptor::kind::marking;
-use extension::{Tip, extend, tip_of, tip_with};
+use extension::{Tip, extend};
 use map::bits::mark;
 use map::choice::Search;
 use map::free::free_count_of;
 use opening::find;
-use rules::{Layout, NamedAnswer, Opened};
-use sector::buffer::{copy, lay, write_sector};
-use sector::bytes::{byte, part, sector_of};
+use rules::{Layout, Refusal};
+use sector::buffer::write_sector;
+use sector::bytes::sector_of;
+use sector::numbers::lay_number;
 use sector::order::list;
 
 // The descriptor of the file with the sector `new` behind its chain, marked by the rule.
-fn longer(layout: Layout, to: &mut [u8], descriptor: &[u8], tip: Tip, new: usize)
-    requires { (length to.old ≡ 256) × (length descriptor.now ≡ 256) × Extendable (chain_of descriptor.now) tip new × (sectors_of descriptor.now ≡ tip.next) }
+fn longer(layout: Layout, to: &mut [u8; 256], descriptor: &[u8], tip: Tip, new: u16)
+    requires { (length descriptor.now ≡ 256) × Extendable (chain_of descriptor.now) tip new × (sectors_of descriptor.now ≡ tip.next) }
     ensures { to.new ≡ with_chain (marked_by layout descriptor.now) (sectors_of descriptor.now + 1) (extended 0 (blocks (chain_of descriptor.now)) new) }
 {
-    let c = tip.next + 1;
-    let high = (c / 256) as u8;
-    let low = (c % 256) as u8;
-    let count = [high, low];
-    copy(to, descriptor);
+    to.copy_from_slice(descriptor);
     to[12] = marking(layout, to[12]);
-    lay(to, 14, &count);
-    extend(&mut to[28..256], tip, new);
+    lay_number(to, 14, tip.next as u16 + 1);
+    extend(&mut to[28..256], tip, usize::from(new));
 }
 
 // Sector 0 with the sector `new` taken.
-fn map_with(sector0: &mut [u8], image: &[u8], new: usize)
-    requires { (length sector0.old ≡ 256) × (length (sector_of image.now 0) ≡ 256) }
+fn map_with(sector0: &mut [u8; 256], image: &[u8], new: u16)
+    requires { length (sector_of image.now 0) ≡ 256 }
     ensures { sector0.new ≡ marked 1 (sector_of image.now 0) new }
 {
-    copy(sector0, sector_of(image, 0));
-    mark(sector0, new);
+    sector0.copy_from_slice(sector_of(image, 0));
+    mark(sector0, usize::from(new));
 }
 
 // The three sectors, in the order of the definition.
-fn write_longer(layout: Layout, image: &mut [u8], k: usize, bytes: &[u8], tip: Tip, new: usize)
+fn write_longer(layout: Layout, image: &mut [u8], k: u16, bytes: &[u8], tip: Tip, new: u16)
     requires { ((i : ℕ) × IsFile layout image.old i k) × (new ≡ data_choice (sector_of image.old 0)) × Extendable (chain_of (sector_of image.old k)) tip new × (sectors_of (sector_of image.old k) ≡ tip.next) }
     ensures { image.new ≡ written image.old (append_writes layout image.old bytes.now k) }
 {
@@ -68,39 +66,36 @@ fn write_longer(layout: Layout, image: &mut [u8], k: usize, bytes: &[u8], tip: T
 fn append_at(
     layout: Layout,
     image: &mut [u8],
-    k: usize,
+    k: u16,
     bytes: &[u8],
     changes: &mut [u32; 133],
-) -> NamedAnswer
+) -> Result<(), Refusal>
     requires { (i : ℕ) × IsFile layout image.old i k }
-    ensures meets { Meets (NamedSays None) (appending layout image.old bytes.now k) result image.old image.new }
+    ensures meets { Meets (NamedSays None) (appending layout image.old bytes.now k) (named_answered result) image.old image.new }
     ensures order { changes.new ≡ listed (appending layout image.old bytes.now k) changes.old }
 {
-    let status = byte(sector_of(image, k), 12);
-    if status / 8 % 2 == 1 {
-        return NamedAnswer::Refused(10);
+    let file = descriptor_of(image, k);
+    if file.is_protected() {
+        return Err(Refusal::Protected);
     }
-    if status % 2 == 1 {
-        return NamedAnswer::Refused(14);
+    if file.is_program() {
+        return Err(Refusal::OtherKind);
     }
     if bytes.len() != 256 {
-        return NamedAnswer::Refused(15);
+        return Err(Refusal::Argument);
     }
     if free_count_of(sector_of(image, 0)) == 0 {
-        return NamedAnswer::Refused(12);
+        return Err(Refusal::DiskFull);
     }
-    let search = Search::first();
-    let found = search.next(sector_of(image, 0));
-    let new = found.sector;
-    let tip = tip_of(part(sector_of(image, k), 28, 228));
-    let with = tip_with(tip, new);
-    if with.used > 76 {
-        return NamedAnswer::Refused(13);
+    let new = Search::first().next(sector_of(image, 0)).sector;
+    let tip = Tip::of(file.chain());
+    if tip.with(usize::from(new)).used > 76 {
+        return Err(Refusal::ChainFull);
     }
     write_longer(layout, image, k, bytes, tip, new);
-    let order = [new as u32, 0, k as u32];
+    let order = [u32::from(new), 0, u32::from(k)];
     list(changes, 0, &order);
-    NamedAnswer::Done
+    Ok(())
 }
 
 pub fn append(
@@ -110,15 +105,11 @@ pub fn append(
     name: &[u8],
     bytes: &[u8],
     changes: &mut [u32; 133],
-) -> NamedAnswer
-    ensures meets { Meets (NamedSays (wrong_place name.now)) (append_of layout image.old directory name.now bytes.now) result image.old image.new }
+) -> Result<(), Refusal>
+    ensures meets { Meets (NamedSays (wrong_place name.now)) (append_of layout image.old directory name.now bytes.now) (named_answered result) image.old image.new }
     ensures order { changes.new ≡ listed (append_of layout image.old directory name.now bytes.now) changes.old }
 {
-    let opened = find(layout, image, directory, name);
-    match opened {
-        Opened::Refused(number) => NamedAnswer::Refused(number),
-        Opened::Misnamed(place) => NamedAnswer::Misnamed(place),
-        Opened::Absent(_) => NamedAnswer::Refused(8),
-        Opened::At(_, _, k) => append_at(layout, image, k, bytes, changes),
-    }
+    let looked = find(layout, image, directory, name)?;
+    let file = looked.file.ok_or(Refusal::Absent)?;
+    append_at(layout, image, file.sector, bytes, changes)
 }

@@ -14,14 +14,15 @@ use console::reason::fail;
 use creating::create;
 use deleting::delete;
 use descriptor::chain::place_at;
+use descriptor::fields::descriptor_of;
 use formatting::format::{Geometry, format};
 use judge::judge;
 use listing::listing;
 use packing::pack;
 use protecting::clear_mark;
 use renaming::rename;
-use rules::{Amount, Answer, Layout, NamedAnswer, RenameAnswer};
-use sector::bytes::{all_are, part, sector_of};
+use rules::{Layout, Refusal, RenameRefusal};
+use sector::bytes::{all_are, part};
 use std::io;
 use storing::store;
 
@@ -33,12 +34,13 @@ fn write_line(rt: HostRuntime, words: &[u8], unit: &[u8], number: u64) -> io::Re
 }
 
 // The number that a call gives back.
-fn write_number(rt: HostRuntime, words: &[u8], number: u32) -> io::Result<()> {
-    write_line(rt, words, b": number ", number as u64)
+fn write_number(rt: HostRuntime, words: &[u8], answer: Result<(), Refusal>) -> io::Result<()> {
+    write_line(rt, words, b": number ", u64::from(number_of(answer)))
 }
 
-fn write_sector(rt: HostRuntime, words: &[u8], sector: u32) -> io::Result<()> {
-    write_line(rt, words, b": sector ", sector as u64)
+// A sector, 0 for none.
+fn write_sector(rt: HostRuntime, words: &[u8], sector: Option<u16>) -> io::Result<()> {
+    write_line(rt, words, b": sector ", u64::from(sector.unwrap_or(0)))
 }
 
 fn write_answer(rt: HostRuntime, words: &[u8], yes: bool) -> io::Result<()> {
@@ -74,47 +76,37 @@ fn one_side(sectors_per_track: u8, tracks: u8) -> Geometry {
     }
 }
 
-fn number_of(answer: NamedAnswer) -> u32 {
+fn number_of(answer: Result<(), Refusal>) -> u32 {
     match answer {
-        NamedAnswer::Done => 0,
-        NamedAnswer::Refused(number) => number,
-        NamedAnswer::Misnamed(_) => 7,
+        Ok(()) => 0,
+        Err(refusal) => u32::from(refusal),
     }
 }
 
-fn pack_number(answer: Answer) -> u32 {
-    match answer {
-        Answer::Done => 0,
-        Answer::Refused(number) => number,
-    }
+fn judged(image: &[u8]) -> Result<(), Refusal> {
+    Ok(judge(OLD_RULE, image)?)
 }
 
-// A call's number where it refuses, or else the judge's of the image that it left.
-fn number_after(number: u32, image: &[u8]) -> u32 {
-    if number != 0 {
-        return number;
-    }
-    judge(OLD_RULE, image)
+// A call's refusal, or else the judge's of the image that it left.
+fn after(answer: Result<(), Refusal>, image: &[u8]) -> Result<(), Refusal> {
+    answer?;
+    judged(image)
 }
 
 fn case_10_two_sectors(rt: HostRuntime) -> io::Result<()> {
     let image = [0u8; 512];
-    write_number(rt, b"10 512 bytes", judge(OLD_RULE, &image))
+    write_number(rt, b"10 512 bytes", judged(&image))
 }
 
 fn case_10_three_sectors(rt: HostRuntime) -> io::Result<()> {
     let mut image = [0u8; 768];
     let answer = format(&mut image, 3, b"BENCH     ", one_side(3, 1));
-    write_number(
-        rt,
-        b"10 768 bytes, formatted",
-        number_after(number_of(answer), &image),
-    )
+    write_number(rt, b"10 768 bytes, formatted", after(answer, &image))
 }
 
 // The place of a sector of the file whose descriptor is in sector 2.
-fn place_in_file(image: &[u8], offset: usize) -> u32 {
-    place_at(part(sector_of(image, 2), 28, 228), offset) as u32
+fn place_in_file(image: &[u8], offset: usize) -> Option<u16> {
+    place_at(descriptor_of(image, 2).chain(), offset)
 }
 
 fn case_11(rt: HostRuntime) -> io::Result<()> {
@@ -130,12 +122,8 @@ fn case_11(rt: HostRuntime) -> io::Result<()> {
         &bytes,
         &mut changes,
     );
-    write_number(rt, b"11 35 sectors, formatted", number_of(formatted))?;
-    write_number(
-        rt,
-        b"11 two sectors stored",
-        number_after(number_of(stored), &image),
-    )?;
+    write_number(rt, b"11 35 sectors, formatted", formatted)?;
+    write_number(rt, b"11 two sectors stored", after(stored, &image))?;
     write_sector(rt, b"11 the first lies in", place_in_file(&image, 0))?;
     write_sector(rt, b"11 the second lies in", place_in_file(&image, 1))
 }
@@ -144,10 +132,9 @@ fn digit(i: usize) -> u8 {
     b'0' + (i % 10) as u8
 }
 
-// The first number other than 0 that creating 127 files gives.
-fn create_files(image: &mut [u8], changes: &mut [u32; 133]) -> u32 {
-    let mut i = 0;
-    while i < 127 {
+// The first refusal of creating 127 files.
+fn create_files(image: &mut [u8], changes: &mut [u32; 133]) -> Result<(), Refusal> {
+    for i in 0..127 {
         let name = [
             b'F',
             digit(i / 100),
@@ -160,13 +147,9 @@ fn create_files(image: &mut [u8], changes: &mut [u32; 133]) -> u32 {
             b' ',
             b' ',
         ];
-        let number = number_of(create(OLD_RULE, image, ROOT, &name, 0x80, 80, 3, changes));
-        if number != 0 {
-            return number;
-        }
-        i += 1;
+        create(OLD_RULE, image, ROOT, &name, 0x80, 80, 3, changes)?;
     }
-    judge(OLD_RULE, image)
+    judged(image)
 }
 
 // With 127 files and one free sector: the next create, that sector appended, another one, and the next create on the full disk.
@@ -176,10 +159,10 @@ fn full_disk(rt: HostRuntime, image: &mut [u8; 33280], changes: &mut [u32; 133])
     let last = append(OLD_RULE, image, ROOT, b"F000      ", &bytes, changes);
     let full = append(OLD_RULE, image, ROOT, b"F001      ", &bytes, changes);
     let after = create(OLD_RULE, image, ROOT, b"NEXT      ", 0x80, 80, 3, changes);
-    write_number(rt, b"12 the next create", number_of(next))?;
-    write_number(rt, b"12 the last free sector appended", number_of(last))?;
-    write_number(rt, b"12 another one", number_of(full))?;
-    write_number(rt, b"12 the next create on the full disk", number_of(after))
+    write_number(rt, b"12 the next create", next)?;
+    write_number(rt, b"12 the last free sector appended", last)?;
+    write_number(rt, b"12 another one", full)?;
+    write_number(rt, b"12 the next create on the full disk", after)
 }
 
 // 130 sectors: two of the system, 127 descriptors, and one that is free until it is appended.
@@ -188,7 +171,7 @@ fn case_12(rt: HostRuntime) -> io::Result<()> {
     let mut changes = [0u32; 133];
     let formatted = format(&mut image, 130, b"BENCH     ", one_side(10, 13));
     let made = create_files(&mut image, &mut changes);
-    write_number(rt, b"12 130 sectors, formatted", number_of(formatted))?;
+    write_number(rt, b"12 130 sectors, formatted", formatted)?;
     write_number(rt, b"12 127 files created", made)?;
     full_disk(rt, &mut image, &mut changes)
 }
@@ -214,13 +197,9 @@ fn case_13(rt: HostRuntime) -> io::Result<()> {
         &bytes,
         &mut changes,
     );
-    write_number(rt, b"13 200 sectors, formatted", number_of(formatted))?;
-    write_number(
-        rt,
-        b"13 32768 bytes stored",
-        number_after(number_of(stored), &image),
-    )?;
-    write_number(rt, b"13 32769 bytes stored", number_of(refused))
+    write_number(rt, b"13 200 sectors, formatted", formatted)?;
+    write_number(rt, b"13 32768 bytes stored", after(stored, &image))?;
+    write_number(rt, b"13 32769 bytes stored", refused)
 }
 
 fn case_14(rt: HostRuntime) -> io::Result<()> {
@@ -239,19 +218,15 @@ fn case_14(rt: HostRuntime) -> io::Result<()> {
     let deleted = delete(OLD_RULE, &mut image, ROOT, b"GONE      ", &mut changes);
     let mut target = [0u8; 8960];
     let packed = pack(OLD_RULE, &image, &mut target);
-    write_number(rt, b"14 35 sectors, formatted", number_of(formatted))?;
-    write_number(rt, b"14 a program stored", number_of(stored))?;
-    write_number(
-        rt,
-        b"14 and deleted",
-        number_after(number_of(deleted), &image),
-    )?;
+    write_number(rt, b"14 35 sectors, formatted", formatted)?;
+    write_number(rt, b"14 a program stored", stored)?;
+    write_number(rt, b"14 and deleted", after(deleted, &image))?;
     write_answer(
         rt,
         b"14 all E5 from sector 2 on",
         all_are(0xE5, &image, 512),
     )?;
-    write_number(rt, b"14 packed", number_after(pack_number(packed), &target))?;
+    write_number(rt, b"14 packed", after(packed, &target))?;
     write_answer(
         rt,
         b"14 all E5 from sector 2 on, packed",
@@ -264,8 +239,8 @@ fn write_listing(rt: HostRuntime, layout: Layout, image: &[u8]) -> io::Result<()
     let mut text = [0u8; 4466];
     let listed = listing(layout, image, ROOT, &mut text);
     match listed {
-        Amount::Refused(number) => write_number(rt, b"M refused", number),
-        Amount::Given(size) => rt.stdout().write_all(part(&text, 0, size)),
+        Ok(size) => rt.stdout().write_all(part(&text, 0, size)),
+        Err(refusal) => write_number(rt, b"M refused", Err(refusal)),
     }
 }
 
@@ -301,14 +276,10 @@ fn case_m(rt: HostRuntime) -> io::Result<()> {
         &bytes,
         &mut changes,
     );
-    write_number(rt, b"M formatted", number_of(formatted))?;
-    write_number(rt, b"M ALPHA stored", number_of(stored))?;
-    write_number(rt, b"M NOTES created", number_of(created))?;
-    write_number(
-        rt,
-        b"M a sector appended",
-        number_after(number_of(appended), &image),
-    )?;
+    write_number(rt, b"M formatted", formatted)?;
+    write_number(rt, b"M ALPHA stored", stored)?;
+    write_number(rt, b"M NOTES created", created)?;
+    write_number(rt, b"M a sector appended", after(appended, &image))?;
     write_listing(rt, OLD_RULE, &image)
 }
 
@@ -344,41 +315,36 @@ fn ask_2(rt: HostRuntime) -> io::Result<()> {
     );
     let mut target = [0u8; 51200];
     let packed = pack(OLD_RULE, &image, &mut target);
-    write_number(rt, b"Ask 2 200 sectors, formatted", number_of(formatted))?;
-    write_number(rt, b"Ask 2 512 bytes stored", number_of(full))?;
-    write_number(rt, b"Ask 2 no bytes stored", number_of(none))?;
-    write_number(
-        rt,
-        b"Ask 2 32768 bytes stored",
-        number_after(number_of(long), &image),
-    )?;
-    write_number(
-        rt,
-        b"Ask 2 packed",
-        number_after(pack_number(packed), &target),
-    )?;
+    write_number(rt, b"Ask 2 200 sectors, formatted", formatted)?;
+    write_number(rt, b"Ask 2 512 bytes stored", full)?;
+    write_number(rt, b"Ask 2 no bytes stored", none)?;
+    write_number(rt, b"Ask 2 32768 bytes stored", after(long, &image))?;
+    write_number(rt, b"Ask 2 packed", after(packed, &target))?;
     write_listing(rt, OLD_RULE, &target)
 }
 
 // What a call that takes a name says: where the name is wrong, or its number.
-fn write_named(rt: HostRuntime, words: &[u8], answer: NamedAnswer) -> io::Result<()> {
+fn write_named(rt: HostRuntime, words: &[u8], answer: Result<(), Refusal>) -> io::Result<()> {
     match answer {
-        NamedAnswer::Misnamed(place) => write_line(rt, words, b": wrong at ", place as u64),
-        NamedAnswer::Done => write_number(rt, words, 0),
-        NamedAnswer::Refused(number) => write_number(rt, words, number),
+        Err(Refusal::Misnamed(place)) => write_line(rt, words, b": wrong at ", place as u64),
+        other => write_number(rt, words, other),
     }
 }
 
-fn write_renamed(rt: HostRuntime, words: &[u8], answer: RenameAnswer) -> io::Result<()> {
+fn write_renamed(
+    rt: HostRuntime,
+    words: &[u8],
+    answer: Result<(), RenameRefusal>,
+) -> io::Result<()> {
     match answer {
-        RenameAnswer::OldMisnamed(place) => {
+        Ok(()) => write_number(rt, words, Ok(())),
+        Err(RenameRefusal::OldMisnamed(place)) => {
             write_line(rt, words, b": the old name wrong at ", place as u64)
         }
-        RenameAnswer::NewMisnamed(place) => {
+        Err(RenameRefusal::NewMisnamed(place)) => {
             write_line(rt, words, b": the new name wrong at ", place as u64)
         }
-        RenameAnswer::Done => write_number(rt, words, 0),
-        RenameAnswer::Refused(number) => write_number(rt, words, number),
+        Err(RenameRefusal::Other(refusal)) => write_number(rt, words, Err(refusal)),
     }
 }
 
@@ -451,11 +417,11 @@ fn ask_11(rt: HostRuntime) -> io::Result<()> {
         &mut changes,
     );
     let cleared = clear_mark(OLD_RULE, &mut image, ROOT, b"ALPHA     ", &mut changes);
-    write_number(rt, b"Ask 11 formatted", number_of(formatted))?;
-    write_number(rt, b"Ask 11 ALPHA stored", number_of(stored))?;
-    write_number(rt, b"Ask 11 NOTES created", number_of(created))?;
-    write_number(rt, b"Ask 11 the mark of ALPHA cleared", number_of(cleared))?;
-    write_number(rt, b"Ask 11 by the old rule", judge(OLD_RULE, &image))?;
+    write_number(rt, b"Ask 11 formatted", formatted)?;
+    write_number(rt, b"Ask 11 ALPHA stored", stored)?;
+    write_number(rt, b"Ask 11 NOTES created", created)?;
+    write_number(rt, b"Ask 11 the mark of ALPHA cleared", cleared)?;
+    write_number(rt, b"Ask 11 by the old rule", judged(&image))?;
     write_listing(rt, WITH_MARKS, &image)
 }
 

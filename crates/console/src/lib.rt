@@ -4,6 +4,8 @@
 #![tactic(auto)]
 
 pub mod ground;
+pub mod images;
+pub mod mark;
 pub mod name;
 pub mod options;
 pub mod reason;

@@ -4,7 +4,7 @@ ghost use Rattle.std.specs.Io.{ReadsAtMost};
 ghost use Rattle.console.specs.Options.{word_of};
 
 use crate::reason::fail;
-use sector::bytes::{byte, same};
+use rules::Layout;
 use std::env::FillError;
 use std::io;
 use std::rt::Env;
@@ -27,7 +27,7 @@ enum Word {
 }
 
 // Which options there are, whether there is one that no program has, and the place of the first image.
-#[derive(Clone, Copy)]
+#[derive(Clone, Copy, Default)]
 pub struct Options {
     pub help: bool,
     pub verbose: bool,
@@ -38,37 +38,32 @@ pub struct Options {
     pub first: usize,
 }
 
+impl Options {
+    // The rules that the images are read by.
+    pub fn layout(&self) -> Layout
+        ensures { (result.marks ≡ self.now.marks) × (result.directories ≡ self.now.directories) }
+    {
+        Layout {
+            marks: self.marks,
+            directories: self.directories,
+        }
+    }
+}
+
+#[tactic(auto, using(crate::proofs::Words::word_by_bytes, std::proofs::lemmas::Bool::Decides::nat_tests))]
 fn word_of(argument: &[u8]) -> Word
     ensures { result ≡ word_of argument.now }
 {
-    if same(argument, b"-h") {
-        return Word::Help;
+    match argument {
+        b"-h" | b"--help" => Word::Help,
+        b"-v" => Word::Verbose,
+        b"--sums" => Word::Sums,
+        b"--marks" => Word::Marks,
+        b"--directories" => Word::Directories,
+        b"--" => Word::End,
+        [b'-', _, ..] => Word::Unknown,
+        _ => Word::Image,
     }
-    if same(argument, b"--help") {
-        return Word::Help;
-    }
-    if same(argument, b"-v") {
-        return Word::Verbose;
-    }
-    if same(argument, b"--sums") {
-        return Word::Sums;
-    }
-    if same(argument, b"--marks") {
-        return Word::Marks;
-    }
-    if same(argument, b"--directories") {
-        return Word::Directories;
-    }
-    if same(argument, b"--") {
-        return Word::End;
-    }
-    if byte(argument, 0) != 0x2D {
-        return Word::Image;
-    }
-    if argument.len() > 1 {
-        return Word::Unknown;
-    }
-    Word::Image
 }
 
 // How many arguments the program was started with, its own name among them.
@@ -94,10 +89,7 @@ fn argument_error(error: FillError) -> io::Error {
 pub fn read_argument(rt: HostRuntime, position: usize, argument: &mut [u8]) -> io::Result<usize>
     ensures { ReadsAtMost result argument.new }
 {
-    match rt.arg(position, argument) {
-        Ok(length) => Ok(length),
-        Err(error) => Err(argument_error(error)),
-    }
+    rt.arg(position, argument).map_err(argument_error)
 }
 
 // An argument that is too long to be read is taken for an image: what is done with it tells the reason.
@@ -112,19 +104,10 @@ fn word_at(rt: HostRuntime, position: usize, argument: &mut [u8]) -> Word {
 pub fn read_options(rt: HostRuntime, count: usize, argument: &mut [u8; ARGUMENT_ROOM]) -> Options
     ensures { result.first ≤ count }
 {
-    let mut options = Options {
-        help: false,
-        verbose: false,
-        sums: false,
-        marks: false,
-        directories: false,
-        unknown: false,
-        first: 1,
-    };
+    let mut options = Options::default();
     for position in 1..count {
-        let word = word_at(rt, position, argument);
         options.first = position;
-        match word {
+        match word_at(rt, position, argument) {
             Word::Help => options.help = true,
             Word::Verbose => options.verbose = true,
             Word::Sums => options.sums = true,

@@ -1,33 +1,28 @@
-// How many images of a run were sound, had each number, or were not read: eight counts, at 0 the sound ones, at 1 to 6
-// those of that number, at 7 the unread ones.
+// How many images of a run were sound, had each number, or were not read.
 ghost use Rattle.std.specs.Prelude.{◌≡◌, ◌≤◌, length};
 ghost use Rattle.line.specs.Laid.{Laid};
+ghost use Rattle.console.specs.Mark.{digit_of};
 ghost use Rattle.console.specs.Tally.{place_of, counted, count_text, numbers_text, images_text, sound_text, tally_text};
 
+use crate::mark::Mark;
 use line::{put, put_number};
 use sector::bytes::part;
 
-// The place of a mark among the counts: that of its digit, or the last for any other.
-#[tactic(auto, unfolding(crate::specs::Tally::place_of))]
-fn place_of(mark: u8) -> usize
-    ensures { (result ≡ place_of mark) × (result ≤ 7) }
-{
-    if mark < b'0' {
-        return 7;
-    }
-    if mark > b'6' {
-        return 7;
-    }
-    (mark - b'0') as usize
+// Eight counts: at 0 the sound images, at 1 to 6 those of that number, at 7 the unread ones.
+#[derive(Clone, Copy, Default)]
+pub struct Tally {
+    pub counts: [usize; 8],
 }
 
-// Counts an image. A count stays where it has reached the most that a usize holds.
-pub fn count(tally: &mut [usize; 8], mark: u8)
-    ensures { tally.new ≡ counted tally.old mark }
+// The place of a mark among the counts.
+#[tactic(auto, using(crate::proofs::Marks::fault_place, crate::proofs::Marks::fault_small), unfolding(crate::specs::Tally::place_of, crate::specs::Mark::digit_of))]
+fn place_of(mark: Mark) -> usize
+    ensures { (result ≡ place_of (digit_of mark)) × (result ≤ 7) }
 {
-    let place = place_of(mark);
-    if tally[place] < 18446744073709551615 {
-        tally[place] += 1;
+    match mark {
+        Some(Ok(())) => 0,
+        Some(Err(fault)) => u32::from(fault) as usize,
+        None => 7,
     }
 }
 
@@ -44,17 +39,15 @@ fn put_count(text: &mut [u8], at: usize, count: usize, words: &[u8]) -> usize
     put(text, counted, words)
 }
 
-// Those of the numbers 1 to 6.
-fn put_numbers(text: &mut [u8], at: usize, tally: &[usize; 8]) -> usize
-    requires { at ≤ 100 }
-    ensures { Laid 204 text.old text.new at result (numbers_text tally.now) }
+// What so many images are called.
+#[tactic(auto, unfolding(crate::specs::Tally::images_text, line::specs::Letters::letters))]
+fn images_text(images: usize) -> &'static [u8]
+    ensures { (result.now ≡ images_text images) × (length result.now ≤ 8) }
 {
-    let first = put_count(text, at, tally[1], b"of number 1");
-    let second = put_count(text, first, tally[2], b"of number 2");
-    let third = put_count(text, second, tally[3], b"of number 3");
-    let fourth = put_count(text, third, tally[4], b"of number 4");
-    let fifth = put_count(text, fourth, tally[5], b"of number 5");
-    put_count(text, fifth, tally[6], b"of number 6")
+    match images {
+        1 => b"image: ",
+        _ => b"images: ",
+    }
 }
 
 // How many images there were, and how many of them were sound.
@@ -62,34 +55,50 @@ fn put_sound(text: &mut [u8], images: usize, sound: usize) -> usize
     ensures { Laid 55 text.old text.new 0 result (sound_text images sound) }
 {
     let counted = put_number(text, 0, images, b' ');
-    let named = put_images(text, counted, images);
+    let named = put(text, counted, images_text(images));
     let next = put_number(text, named, sound, b' ');
     put(text, next, b"sound")
 }
 
-fn put_images(text: &mut [u8], at: usize, images: usize) -> usize
-    requires { at ≤ 100 }
-    ensures { Laid 8 text.old text.new at result (images_text images) }
-{
-    if images == 1 {
-        return put(text, at, b"image: ");
+impl Tally {
+    // Counts an image. A count stays where it has reached the most that a usize holds.
+    #[tactic(auto, unfolding(crate::specs::Tally::counted, crate::specs::Tally::more))]
+    pub fn count(&mut self, mark: Mark)
+        ensures { self.new.counts ≡ counted self.old.counts (digit_of mark) }
+    {
+        let place = place_of(mark);
+        self.counts[place] = self.counts[place].saturating_add(1);
     }
-    put(text, at, b"images: ")
-}
 
-// The last line of a run. As much of it as there is room for; its length is given in any case.
-fn put_tally(text: &mut [u8], images: usize, tally: &[usize; 8]) -> usize
-    ensures { Laid 294 text.old text.new 0 result (tally_text images tally.now) }
-{
-    let sound = put_sound(text, images, tally[0]);
-    let numbered = put_numbers(text, sound, tally);
-    let unread = put_count(text, numbered, tally[7], b"unread");
-    put(text, unread, b"\n")
-}
+    // Those of the numbers 1 to 6.
+    fn put_numbers(&self, text: &mut [u8], at: usize) -> usize
+        requires { at ≤ 100 }
+        ensures { Laid 204 text.old text.new at result (numbers_text self.now.counts) }
+    {
+        let mut next = at;
+        let mut words = *b"of number 0";
+        for count in &self.counts[1..7] {
+            // the digit in the words
+            words[10] += 1;
+            next = put_count(text, next, *count, &words);
+        }
+        next
+    }
 
-// Writes the last line of a run to standard error.
-pub fn tell(rt: HostRuntime, images: usize, tally: &[usize; 8]) {
-    let mut text = [0u8; 294];
-    let size = put_tally(&mut text, images, tally);
-    let _ = rt.stderr().write_all(part(&text, 0, size));
+    // The last line of a run. As much of it as there is room for; its length is given in any case.
+    fn put_tally(&self, text: &mut [u8], images: usize) -> usize
+        ensures { Laid 294 text.old text.new 0 result (tally_text images self.now.counts) }
+    {
+        let sound = put_sound(text, images, self.counts[0]);
+        let numbered = self.put_numbers(text, sound);
+        let unread = put_count(text, numbered, self.counts[7], b"unread");
+        put(text, unread, b"\n")
+    }
+
+    // Writes the last line of a run to standard error.
+    pub fn tell(&self, rt: HostRuntime, images: usize) {
+        let mut text = [0u8; 294];
+        let size = self.put_tally(&mut text, images);
+        let _ = rt.stderr().write_all(part(&text, 0, size));
+    }
 }

@@ -1,15 +1,15 @@
-// Creating: a file without sectors. The call takes any image and any arguments, answers with its number, and leaves the image with the
+// Creating: a file without sectors. The call takes any image and any arguments, says whether it refuses and why, and leaves the image with the
 // writes of the rules' definition laid over it, and their order in a list that is lent for it; a refusal has none.
 #![tactic(auto)]
 
-ghost use Rattle.std.specs.Prelude.{◌≡◌, true, ◌*◌, ◌<◌, length};
+ghost use Rattle.std.specs.Prelude.{◌≡◌, None, true, ◌*◌, length};
 ghost use Rattle.rules.specs.Bytes.{splice};
 ghost use Rattle.rules.specs.Name.{name_rule, wrong_place};
 ghost use Rattle.rules.specs.Descriptor.{new_descriptor};
 ghost use Rattle.rules.specs.Sound.{IsIndexed, Sound};
 ghost use Rattle.rules.specs.Outcome.{listed, NamedSays, Meets};
 ghost use Rattle.rules.specs.Calls.Create.{create_status, creating, create_of};
-ghost use Rattle.rules.specs.declared.WrongPlace.TheVariants.{None};
+ghost use Rattle.rules.specs.Refusal.{named_answered};
 
 use descriptor::header::new_descriptor;
 use descriptor::kind::marking;
@@ -18,37 +18,29 @@ use map::bits::mark;
 use map::choice::descriptor_choice;
 use map::free::free_count_of;
 use opening::find;
-use rules::{Layout, NamedAnswer, Opened};
+use rules::{Layout, Refusal};
 use sector::buffer::write_sector;
 use sector::bytes::{sector_of, word};
 use sector::order::list;
 
 // The four that a file can be created with.
+#[tactic(auto, unfolding(rules::specs::Calls::Create::create_status))]
 fn create_status(status: u8) -> bool
     ensures { result ≡ create_status status }
 {
-    if status == 0 {
-        return true;
-    }
-    if status == 0x02 {
-        return true;
-    }
-    if status == 0x80 {
-        return true;
-    }
-    status == 0x82
+    matches!(status, 0x00 | 0x02 | 0x80 | 0x82)
 }
 
 // The descriptor of the new file, written to sector k.
 fn write_descriptor(
     image: &mut [u8],
-    k: usize,
+    k: u16,
     name: &[u8],
     status: u8,
     records_per_sector: u8,
     record_length: u8,
 )
-    requires { (k < 65536) × (length name.now ≡ 10) }
+    requires { length name.now ≡ 10 }
     ensures { image.new ≡ splice image.old (256 * k) (new_descriptor name.now status records_per_sector 0 record_length) }
 {
     let mut descriptor = [0u8; 256];
@@ -67,35 +59,35 @@ fn write_descriptor(
 fn create_new(
     layout: Layout,
     image: &mut [u8],
-    i: usize,
+    i: u16,
     name: &[u8],
     status: u8,
     record_length: u8,
     records_per_sector: u8,
     changes: &mut [u32; 133],
-) -> NamedAnswer
+) -> Result<(), Refusal>
     requires { Sound layout image.old × IsIndexed layout image.old i × (name_rule name.now ≡ true) }
-    ensures meets { Meets (NamedSays None) (creating layout image.old name.now status record_length records_per_sector i) result image.old image.new }
+    ensures meets { Meets (NamedSays None) (creating layout image.old name.now status record_length records_per_sector i) (named_answered result) image.old image.new }
     ensures order { changes.new ≡ listed (creating layout image.old name.now status record_length records_per_sector i) changes.old }
 {
     if !create_status(status) {
-        return NamedAnswer::Refused(15);
+        return Err(Refusal::Argument);
     }
     // the 127th number of the index
     if word(sector_of(image, i), 252) != 0 {
-        return NamedAnswer::Refused(11);
+        return Err(Refusal::DirectoryFull);
     }
     if free_count_of(sector_of(image, 0)) == 0 {
-        return NamedAnswer::Refused(12);
+        return Err(Refusal::DiskFull);
     }
     let k = descriptor_choice(sector_of(image, 0));
     let marked = marking(layout, status);
     write_descriptor(image, k, name, marked, records_per_sector, record_length);
-    mark(&mut image[0..256], k);
+    mark(&mut image[0..256], usize::from(k));
     enter(image, i, name, k);
-    let order = [k as u32, 0, i as u32];
+    let order = [u32::from(k), 0, u32::from(i)];
     list(changes, 0, &order);
-    NamedAnswer::Done
+    Ok(())
 }
 
 pub fn create(
@@ -107,24 +99,22 @@ pub fn create(
     record_length: u8,
     records_per_sector: u8,
     changes: &mut [u32; 133],
-) -> NamedAnswer
-    ensures meets { Meets (NamedSays (wrong_place name.now)) (create_of layout image.old directory name.now status record_length records_per_sector) result image.old image.new }
+) -> Result<(), Refusal>
+    ensures meets { Meets (NamedSays (wrong_place name.now)) (create_of layout image.old directory name.now status record_length records_per_sector) (named_answered result) image.old image.new }
     ensures order { changes.new ≡ listed (create_of layout image.old directory name.now status record_length records_per_sector) changes.old }
 {
-    let opened = find(layout, image, directory, name);
-    match opened {
-        Opened::Refused(number) => NamedAnswer::Refused(number),
-        Opened::Misnamed(place) => NamedAnswer::Misnamed(place),
-        Opened::At(_, _, _) => NamedAnswer::Refused(9),
-        Opened::Absent(i) => create_new(
-            layout,
-            image,
-            i,
-            name,
-            status,
-            record_length,
-            records_per_sector,
-            changes,
-        ),
+    let looked = find(layout, image, directory, name)?;
+    if looked.file.is_some() {
+        return Err(Refusal::Present);
     }
+    create_new(
+        layout,
+        image,
+        looked.index,
+        name,
+        status,
+        record_length,
+        records_per_sector,
+        changes,
+    )
 }

@@ -21,11 +21,10 @@ use Rattle.rules.specs.Calls.Read.{read_of}
 use Rattle.rules.specs.Calls.Load.{load_of}
 use Rattle.rules.specs.Calls.Format.{format_number}
 use Rattle.rules.specs.declared.Layout.{Layout}
-use Rattle.rules.specs.declared.WrongPlace.{WrongPlace}
-use Rattle.rules.specs.declared.WrongPlace.TheVariants.{None}
-use Rattle.rules.specs.declared.Answer.TheVariants as answer
-use Rattle.rules.specs.declared.Amount.TheVariants as amount
-use Rattle.rules.specs.declared.Summary.TheVariants as summary
+use Rattle.std.specs.Prelude.{Option, None}
+use Rattle.rules.specs.Answers.Answer as answer
+use Rattle.rules.specs.Answers.Amount as amount
+use Rattle.rules.specs.Answers.Summary as summary
 use Rattle.rules.proofs.Tests.{unless_met_lem}
 use Rattle.rules.proofs.Name.{name_is}
 use Rattle.rules.proofs.Misnamed.{none_rule, place_wrong}
@@ -71,7 +70,7 @@ named_number_lem (call.both old new) number =
     (λ seven. wrong_cases (λ a. named_number (call.both old new) a ≡ number) (wrong_place old) _ _ (λ place there. sym seven)
     (λ kept. wrong_cases (λ a. named_number (call.both old new) a ≡ number) (wrong_place new) _ _ (λ place there. sym seven) (λ none. refl))) (λ some other. refl)
 
-pub loaded_number_lem : (wrong : WrongPlace) (report : Report) → loaded_number (named_amount_of wrong report) ≡ report.number
+pub loaded_number_lem : (wrong : Option ℕ) (report : Report) → loaded_number (named_amount_of wrong report) ≡ report.number
 unfolding named_amount_of loaded_number
 loaded_number_lem wrong report =
     by_cases report.number _ _ _ (λ a. loaded_number a ≡ report.number) sym

@@ -13,17 +13,17 @@ use Rattle.rules.specs.Calls.Pack.{together}
 use Rattle.rules.specs.Sound.{Sound}
 use Rattle.rules.specs.Verdict.{verdict}
 use Rattle.rules.specs.declared.Layout.{Layout}
-use Rattle.rules.specs.declared.Answer.{Answer}
-use Rattle.rules.specs.declared.Answer.TheVariants as answers
-use Rattle.rules.specs.declared.Amount.{Amount}
-use Rattle.rules.specs.declared.Amount.TheVariants as amounts
-use Rattle.rules.specs.declared.Summary.{Summary}
-use Rattle.rules.specs.declared.Summary.TheVariants as summaries
-use Rattle.rules.specs.declared.NamedAnswer.TheVariants as answered
-use Rattle.rules.specs.declared.NamedAmount.{NamedAmount}
-use Rattle.rules.specs.declared.NamedAmount.TheVariants as loads
-use Rattle.rules.specs.declared.RenameAnswer.TheVariants as renames
-use Rattle.rules.specs.declared.Entry.{Entry}
+use Rattle.rules.specs.Answers.Answer.{Answer}
+use Rattle.rules.specs.Answers.Answer as answers
+use Rattle.rules.specs.Answers.Amount.{Amount}
+use Rattle.rules.specs.Answers.Amount as amounts
+use Rattle.rules.specs.Answers.Summary.{Summary}
+use Rattle.rules.specs.Answers.Summary as summaries
+use Rattle.rules.specs.Answers.NamedAnswer as answered
+use Rattle.rules.specs.Answers.NamedAmount.{NamedAmount}
+use Rattle.rules.specs.Answers.NamedAmount as loads
+use Rattle.rules.specs.Answers.RenameAnswer as renames
+use Rattle.rules.specs.Answers.Entry.{Entry}
 use Rattle.rules.specs.declared.Row.{Row}
 use Rattle.rules.proofs.Misnamed.{wrong_one, wrong_unnamed}
 use Rattle.rules.proofs.Verdict.{sound}

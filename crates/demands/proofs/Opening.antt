@@ -13,9 +13,9 @@ use Rattle.rules.specs.Verdict.{volume_tests, verdict}
 use Rattle.rules.specs.Sound.{IsIndexed, Sound}
 use Rattle.rules.specs.Opening.{find_in, in_directory, on_sound, under_name}
 use Rattle.rules.specs.declared.Layout.{Layout}
-use Rattle.rules.specs.declared.WrongPlace.TheVariants.{None}
-use Rattle.rules.specs.declared.Opened.{Opened}
-use Rattle.rules.specs.declared.Opened.TheVariants.{At, Absent, Refused, Misnamed}
+use Rattle.std.specs.Prelude.{None}
+use Rattle.rules.specs.Answers.Opened.{Opened}
+use Rattle.rules.specs.Answers.Opened.{At, Absent, Refused, Misnamed}
 use Rattle.rules.proofs.Tests.{absurd_test}
 use Rattle.rules.proofs.Name.{name_is}
 use Rattle.rules.proofs.Misnamed.{none_rule, place_wrong, wrong_unnamed}

@@ -37,9 +37,9 @@ use Rattle.rules.specs.Calls.Protect.{setting_bit, set_bit_of}
 use Rattle.rules.specs.Calls.Store.{new_sectors, new_blocks, store_tests, storing, store_of}
 use Rattle.rules.specs.Calls.Delete.{delete_tests, deleting, delete_of}
 use Rattle.rules.specs.Calls.Rename.{rename_tests, renaming_in, renaming, open_both, rename_of}
-use Rattle.rules.specs.declared.WrongPlace.TheVariants.{None}
-use Rattle.rules.specs.declared.Opened.{Opened}
-use Rattle.rules.specs.declared.Opened.TheVariants.{At, Absent, Refused, Misnamed}
+use Rattle.std.specs.Prelude.{None}
+use Rattle.rules.specs.Answers.Opened.{Opened}
+use Rattle.rules.specs.Answers.Opened.{At, Absent, Refused, Misnamed}
 use Rattle.rules.proofs.Name.{name_is, is_name}
 use Rattle.rules.proofs.Verdict.{sound}
 use Rattle.rules.proofs.Indexes.{directory_indexed}

@@ -15,8 +15,8 @@ use Rattle.rules.specs.Calls.Store.{storing, store_of}
 use Rattle.rules.specs.Calls.Delete.{deleting, delete_of}
 use Rattle.rules.specs.Calls.Rename.{renaming_in, renaming, open_both, rename_of}
 use Rattle.rules.specs.declared.Layout.{Layout}
-use Rattle.rules.specs.declared.Opened.{Opened}
-use Rattle.rules.specs.declared.Opened.TheVariants.{At, Absent, Refused, Misnamed}
+use Rattle.rules.specs.Answers.Opened.{Opened}
+use Rattle.rules.specs.Answers.Opened.{At, Absent, Refused, Misnamed}
 use Rattle.rules.proofs.Tests.{unless_met_lem}
 use Rattle.demands.specs.Call as call
 use Rattle.demands.specs.Call.{Change}

@@ -19,7 +19,7 @@ use Rattle.rules.specs.Outcome.{Bare, write}
 use Rattle.rules.specs.Opening.{find_in}
 use Rattle.rules.specs.Calls.Rename.{rename_tests, renaming_in, renaming, open_both, rename_of}
 use Rattle.rules.specs.declared.Layout.{Layout}
-use Rattle.rules.specs.declared.Opened.TheVariants.{At, Refused}
+use Rattle.rules.specs.Answers.Opened.{At, Refused}
 use Rattle.rules.proofs.Tests.{unless_passed}
 use Rattle.rules.proofs.Splice.{splice-length, splice_front, splice-take, splice_above}
 use Rattle.rules.proofs.Sectors.{sector_length}

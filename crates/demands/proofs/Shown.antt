@@ -20,10 +20,10 @@ use Rattle.rules.specs.Calls.Read.{read_tests, reading, read_of}
 use Rattle.rules.specs.Calls.Load.{length_in, program_in, load_tests, loading, load_of}
 use Rattle.rules.specs.Calls.Listing.{listing_text, listing_tests, listing_of}
 use Rattle.rules.specs.declared.Layout.{Layout}
-use Rattle.rules.specs.declared.Entry.{Entry}
-use Rattle.rules.specs.declared.Answer.TheVariants.{Done}
-use Rattle.rules.specs.declared.Opened.{Opened}
-use Rattle.rules.specs.declared.Opened.TheVariants.{At, Absent, Refused, Misnamed}
+use Rattle.rules.specs.Answers.Entry.{Entry}
+use Rattle.rules.specs.Answers.Answer.{Done}
+use Rattle.rules.specs.Answers.Opened.{Opened}
+use Rattle.rules.specs.Answers.Opened.{At, Absent, Refused, Misnamed}
 use Rattle.rules.proofs.Tests.{all_passed, passed_both, unless_passed}
 use Rattle.rules.proofs.Volume.{contents_count, content_at, header_at, header_name}
 use Rattle.rules.proofs.Outcome.{reported_given}

@@ -8,11 +8,11 @@ use Rattle.rules.specs.Outcome.{Report, answer_of}
 use Rattle.rules.specs.Calls.Summary.{free_count_of, summary_of, SummarySays, summary_answer}
 use Rattle.rules.specs.Calls.Entry.{EntrySays}
 use Rattle.rules.specs.declared.Layout.{Layout}
-use Rattle.rules.specs.declared.Answer.{Answer}
-use Rattle.rules.specs.declared.Entry.{Entry}
+use Rattle.rules.specs.Answers.Answer.{Answer}
+use Rattle.rules.specs.Answers.Entry.{Entry}
 use Rattle.rules.specs.declared.Row.{Row}
-use Rattle.rules.specs.declared.Summary.{Summary}
-use Rattle.rules.specs.declared.Summary.TheVariants as summary
+use Rattle.rules.specs.Answers.Summary.{Summary}
+use Rattle.rules.specs.Answers.Summary as summary
 use Rattle.rules.proofs.Tests.{unless_passed, unless_met_lem}
 use Rattle.rules.proofs.Splice.{splice_none}
 use Rattle.rules.proofs.Outcome.{says_answer, says_amount, says_named, says_named_amount, says_rename}

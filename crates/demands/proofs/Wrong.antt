@@ -20,7 +20,7 @@ use Rattle.rules.specs.Verdict.{size_rule, volume_tests, verdict}
 use Rattle.rules.specs.Calls.Summary.{free_count_of}
 use Rattle.rules.specs.Calls.Format.{formatted}
 use Rattle.rules.specs.Calls.Append.{append_of}
-use Rattle.rules.specs.declared.Amount.TheVariants as amount
+use Rattle.rules.specs.Answers.Amount as amount
 use Rattle.rules.proofs.Map.{count_none, count_other}
 use Rattle.rules.proofs.Marking.{all_other}
 use Rattle.rules.proofs.Verdict.{sound}

@@ -7,12 +7,12 @@ use Rattle.rules.specs.Sound.{Sound}
 use Rattle.rules.specs.Calls.Format.{Geometry}
 use Rattle.rules.specs.Calls.Pack.{together}
 use Rattle.rules.specs.declared.Layout.{Layout}
-use Rattle.rules.specs.declared.Amount.{Amount}
-use Rattle.rules.specs.declared.Amount.TheVariants as amount
-use Rattle.rules.specs.declared.NamedAmount.TheVariants as loaded
-use Rattle.rules.specs.declared.Answer.TheVariants as answer
-use Rattle.rules.specs.declared.Summary.{Summary}
-use Rattle.rules.specs.declared.Summary.TheVariants as summary
+use Rattle.rules.specs.Answers.Amount.{Amount}
+use Rattle.rules.specs.Answers.Amount as amount
+use Rattle.rules.specs.Answers.NamedAmount as loaded
+use Rattle.rules.specs.Answers.Answer as answer
+use Rattle.rules.specs.Answers.Summary.{Summary}
+use Rattle.rules.specs.Answers.Summary as summary
 use Rattle.demands.specs.Effects.{Kept, Changed}
 use Rattle.demands.specs.Lines.{Lists}
 use Rattle.demands.specs.Touches.{Touches}

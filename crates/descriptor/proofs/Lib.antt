@@ -1,3 +1,5 @@
--- The laws that the proofs of the walk and of the cursor, and of what goes by them, share.
-pub mod Walk
+-- The laws that the iterators' proofs, and those of what goes by them, share.
+pub mod Blocks
 pub mod Ahead
+pub mod Places
+pub mod Order

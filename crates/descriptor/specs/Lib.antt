@@ -1,3 +1,3 @@
--- The walk over the blocks of a chain, and the cursor over its places.
+-- The iterators over the blocks of a chain and over its places.
 pub mod Walk
-pub mod Cursor
+pub mod Ahead

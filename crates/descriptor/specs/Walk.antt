@@ -1,18 +1,19 @@
--- What a walk over the blocks of a chain meets.
-use Rattle.std.specs.Prelude.{◌≡◌, List, [], ◌∷◌, ℕ, ◌+◌, ◌≤◌, ◌<◌, length, drop}
+-- What the iterator over the blocks of a chain has still to give, and a step of it.
+use Rattle.std.specs.Prelude.{Option, List, ◌<◌, IfSome}
+use Rattle.std.specs.Iterator.{YieldsFirst}
 use Rattle.rules.specs.Chain.{blocks}
 use Rattle.rules.specs.declared.Block.{Block}
-use Rattle.descriptor.specs.declared.chain.Met.{Met}
-use Rattle.descriptor.specs.declared.chain.Met.TheVariants.{Found, Ended}
+use Rattle.descriptor.specs.declared.chain.Blocks.{Blocks}
 
--- a block in the three bytes from `at` on, the others behind it; its numbers are small
-pub record BlockHere (chain : List ℕ) (at : ℕ) (block : Block) : Type 0 where
-  pub is : blocks (drop at chain) ≡ block ∷ blocks (drop (at + 3) chain)
-  pub inside : at + 3 ≤ length chain
+abbrev pub blocks_left : Blocks → List Block
+blocks_left left = blocks left.chain.now
+
+-- its numbers are small
+pub record Small (block : Block) : Type 0 where
   pub start : block.start < 4096
   pub last : block.last < 4096
 
--- the blocks from byte `at` on begin with the one that is found, or there is none
-unfoldable pub BlocksFrom : List ℕ → ℕ → Met → Type 0
-BlocksFrom chain at Ended = blocks (drop at chain) ≡ []
-BlocksFrom chain at (Found block) = BlockHere chain at block
+-- the first of those that are left, or none where none is left
+pub record NextBlock (left : Blocks) (block : Option Block) (behind : Blocks) : Type 0 where
+  pub is : YieldsFirst blocks_left left block behind
+  pub small : IfSome block Small

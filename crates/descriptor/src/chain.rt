@@ -1,9 +1,10 @@
-// Blocks, the walk over those of a chain, and the cursor that goes through its places.
-ghost use Rattle.std.specs.Prelude.{◌≡◌, ◌+◌, ◌-◌, ◌/◌, ◌%◌, ◌≤◌, ◌<◌, eqb, length, get_or};
-ghost use Rattle.rules.specs.Chain.{block_of, block_bytes, ends_chain, places};
+// Blocks, and the iterators over those of a chain and over its places.
+ghost use Rattle.std.specs.Prelude.{◌≡◌, ◌+◌, ◌-◌, ◌/◌, ◌%◌, ◌≤◌, ◌<◌, IfSome, eqb, slice_get};
+ghost use Rattle.std.specs.Iterator.{item_count};
+ghost use Rattle.rules.specs.Chain.{blocks, block_of, block_bytes, ends_chain, places};
 ghost use Rattle.rules.specs.declared.Block.{Block};
-ghost use Rattle.descriptor.specs.Walk.{BlocksFrom};
-ghost use Rattle.descriptor.specs.Cursor.{Steady, first, past, Stepped};
+ghost use Rattle.descriptor.specs.Walk.{blocks_left, NextBlock};
+ghost use Rattle.descriptor.specs.Ahead.{places_left, Steady, NextPlace, past};
 
 use rules::Block;
 
@@ -11,10 +12,7 @@ use rules::Block;
 fn fields_of(a: u8, b: u8, c: u8) -> usize
     ensures { (eqb result 0 ≡ ends_chain a b c) × (◌≡◌ {A = Block} (record { start = result % 4096; last = result / 4096 }) (block_of a b c)) × (result < 16777216) }
 {
-    let low = a as usize;
-    let middle = b as usize;
-    let high = c as usize;
-    low + 256 * middle + 65536 * high
+    usize::from(a) + 256 * usize::from(b) + 65536 * usize::from(c)
 }
 
 // The three bytes of a block.
@@ -28,137 +26,115 @@ pub fn block_bytes(start: usize, last: usize) -> [u8; 3]
     [low, middle, high]
 }
 
-// What a walk over a chain meets at a byte: a block, or the end.
-#[derive(Clone, Copy)]
-pub enum Met {
-    Found(Block),
-    Ended,
+// The blocks of a chain that are still to come: those of its bytes that are left. Three zero bytes end them, and so do fewer than three.
+#[derive(Clone, Copy, Debug)]
+pub struct Blocks<'a> {
+    pub chain: &'a [u8],
 }
 
-// The block at byte `at` of a chain. Three zero bytes end it, and so do fewer than three.
-pub fn block_at(chain: &[u8], at: usize) -> Met
-    requires { at ≤ length chain.now }
-    ensures { BlocksFrom chain.now at result }
+pub fn blocks_of(chain: &[u8]) -> Blocks<'_>
+    ensures { blocks_left result ≡ blocks chain.now }
 {
-    if at + 3 > chain.len() {
-        return Met::Ended;
-    }
-    let fields = fields_of(chain[at], chain[at + 1], chain[at + 2]);
-    if fields == 0 {
-        return Met::Ended;
-    }
-    Met::Found(Block {
-        start: fields % 4096,
-        last: fields / 4096,
-    })
+    Blocks { chain }
 }
 
-// a - b, and 0 where b is greater.
-fn less(a: usize, b: usize) -> usize
-    ensures { result ≡ a - b }
-{
-    if b <= a {
-        return a - b;
+impl<'a> Iterator for Blocks<'a> {
+    type Item = Block;
+
+    ghost next_gives = { NextBlock };
+
+    ghost remaining = { item_count blocks_left };
+
+    fn next(&mut self) -> Option<Block> {
+        let Some((block, left)) = self.chain.split_first_chunk::<3>() else {
+            return None;
+        };
+        let fields = fields_of(block[0], block[1], block[2]);
+        if fields == 0 {
+            return None;
+        }
+        self.chain = left;
+        Some(Block {
+            start: fields % 4096,
+            last: fields / 4096,
+        })
     }
-    0
 }
 
-// A place in the walk through a chain: `left` sectors of the present block, from `place` on, then the
-// blocks from byte `at` on, the first of which covers the file from its sector `next` on.
-#[derive(Clone, Copy)]
-pub struct Cursor {
-    pub at: usize,
+// The places of a chain that are still to come: `left` sectors of the present block, from `place` on, then those of the other blocks, the first of which
+// covers the file from its sector `next` on.
+#[derive(Clone, Copy, Debug)]
+pub struct Places<'a> {
+    pub blocks: Blocks<'a>,
     pub next: usize,
     pub place: usize,
     pub left: usize,
 }
 
-// The next place with the cursor behind it, or the end of the file.
-#[derive(Clone, Copy)]
-pub enum Step {
-    Place(usize, Cursor),
-    End,
+pub fn places_of(chain: &[u8]) -> Places<'_>
+    ensures all { places_left result ≡ places chain.now }
+    ensures steady { Steady result }
+{
+    Places {
+        blocks: blocks_of(chain),
+        next: 0,
+        place: 0,
+        left: 0,
+    }
 }
 
-impl Cursor {
-    pub fn first() -> Cursor
-        ensures { result ≡ first }
-    {
-        Cursor {
-            at: 0,
-            next: 0,
-            place: 0,
-            left: 0,
-        }
-    }
+impl<'a> Iterator for Places<'a> {
+    type Item = u16;
+
+    ghost can_next = { Steady };
+
+    ghost next_gives = { NextPlace };
+
+    ghost remaining = { item_count places_left };
 
     // One sector further, in constant time.
-    pub fn step(self, chain: &[u8]) -> Step
-        requires { Steady chain.now self }
-        ensures { Stepped chain.now self result }
-    {
-        let at = self.at;
-        let next = self.next;
-        let place = self.place;
-        let left = self.left;
-        if left > 0 {
-            return Step::Place(
-                place,
-                Cursor {
-                    at,
-                    next,
-                    place: place + 1,
-                    left: left - 1,
-                },
-            );
+    fn next(&mut self) -> Option<u16> {
+        if self.left > 0 {
+            let place = self.place;
+            self.place = place + 1;
+            self.left -= 1;
+            return Some(place as u16);
         }
-        let Met::Found(block) = block_at(chain, at) else {
-            return Step::End;
+        let Some(block) = self.blocks.next() else {
+            return None;
         };
-        let start = block.start;
-        let last = block.last;
-        Step::Place(
-            start,
-            Cursor {
-                at: at + 3,
-                next: last + 1,
-                place: start + 1,
-                left: less(last, next),
-            },
-        )
-    }
-
-    // `many` sectors further in the present block.
-    pub fn past(self, many: usize) -> Cursor
-        requires { (many ≤ self.left) × (self.place + self.left < 8192) }
-        ensures { result ≡ past self many }
-    {
-        Cursor {
-            at: self.at,
-            next: self.next,
-            place: self.place + many,
-            left: self.left - many,
-        }
+        self.place = block.start + 1;
+        self.left = block.last.saturating_sub(self.next);
+        self.next = block.last + 1;
+        Some(block.start as u16)
     }
 }
 
-// The place of file sector `offset`, or 0 where the file has none: block by block.
-pub fn place_at(chain: &[u8], offset: usize) -> usize
-    ensures { (result ≡ get_or (places chain.now) offset 0) × (result < 8192) }
+impl<'a> Places<'a> {
+    // `many` sectors further in the present block.
+    pub fn pass(&mut self, many: usize)
+        requires { (many ≤ self.old.left) × (self.old.place + self.old.left < 8192) }
+        ensures { self.new ≡ past self.old many }
+    {
+        self.place += many;
+        self.left -= many;
+    }
+}
+
+// The place of file sector `offset`, where the file has one: block by block.
+pub fn place_at(chain: &[u8], offset: usize) -> Option<u16>
+    ensures value { result ≡ slice_get (places chain.now) offset }
+    ensures small { IfSome result (λ place. place < 8192) }
 {
-    let mut at = 0;
     let mut next = 0;
     let mut left = offset;
-    while let Met::Found(block) = block_at(chain, at) {
-        let start = block.start;
-        let last = block.last;
-        let many = less(last, next) + 1;
-        if left < many {
-            return start + left;
+    for block in blocks_of(chain) {
+        let more = block.last.saturating_sub(next);
+        if left <= more {
+            return Some((block.start + left) as u16);
         }
-        left -= many;
-        next = last + 1;
-        at += 3;
+        left -= more + 1;
+        next = block.last + 1;
     }
-    0
+    None
 }

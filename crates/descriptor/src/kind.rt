@@ -1,5 +1,5 @@
 // Status and kind.
-ghost use Rattle.std.specs.Prelude.{◌≡◌, ◌<◌};
+ghost use Rattle.std.specs.Prelude.{◌≡◌};
 ghost use Rattle.rules.specs.Kind.{program_length, allowed_bits, status_rule, marking, kind_of};
 ghost use Rattle.rules.specs.Calls.Listing.{kind_length};
 
@@ -45,22 +45,21 @@ pub fn marking(layout: Layout, status: u8) -> u8
 }
 
 // Past the full sectors the last is used up to the end offset; end offset 0 means that it is full too.
-fn program_length(c: usize, end_offset: usize) -> usize
-    requires { (c < 65536) × (end_offset < 256) }
+fn program_length(c: u16, end_offset: u8) -> usize
     ensures { result ≡ program_length c end_offset }
 {
+    let sectors = usize::from(c);
     if end_offset == 0 {
-        return 256 * c;
+        return 256 * sectors;
     }
-    if c == 0 {
-        return end_offset;
+    if sectors == 0 {
+        return usize::from(end_offset);
     }
-    256 * (c - 1) + end_offset
+    256 * (sectors - 1) + usize::from(end_offset)
 }
 
 // The kind of a file of that status, with its number of sectors, end offset and record length.
-pub fn kind_of(status: usize, c: usize, end_offset: usize, record_length: usize) -> Kind
-    requires { (c < 65536) × (end_offset < 256) }
+pub fn kind_of(status: usize, c: u16, end_offset: u8, record_length: usize) -> Kind
     ensures { result ≡ kind_of status c end_offset record_length }
 {
     if status % 2 == 1 {
@@ -87,13 +86,7 @@ pub fn kind_length(kind: Kind) -> usize
 {
     match kind {
         Kind::Program { length } => length,
-        Kind::Fixed {
-            record_length,
-            internal: _,
-        } => record_length,
-        Kind::Variable {
-            record_length,
-            internal: _,
-        } => record_length,
+        Kind::Fixed { record_length, .. } => record_length,
+        Kind::Variable { record_length, .. } => record_length,
     }
 }

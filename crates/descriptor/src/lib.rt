@@ -3,6 +3,7 @@
 #![tactic(auto)]
 
 pub mod chain;
+pub mod fields;
 pub mod header;
 pub mod kind;
 pub mod name;

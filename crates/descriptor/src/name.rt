@@ -1,10 +1,8 @@
 // Names: the rule, where a name breaks it, and the order.
-ghost use Rattle.std.specs.Prelude.{◌≡◌, true, cond, eqb, drop};
+ghost use Rattle.std.specs.Prelude.{◌≡◌, None, Some, true, cond, eqb, drop};
 ghost use Rattle.rules.specs.Name.{name_byte, name_rule, wrong_from, wrong_place, precedes};
 ghost use Rattle.rules.specs.Outcome.{if_wrong};
-ghost use Rattle.rules.specs.declared.WrongPlace.TheVariants.{None, At};
 
-use rules::WrongPlace;
 use sector::bytes::all_are;
 
 fn name_byte(b: u8) -> bool
@@ -16,7 +14,7 @@ fn name_byte(b: u8) -> bool
     if b > 126 {
         return false;
     }
-    b != 46
+    b != b'.'
 }
 
 // Ten bytes: one to ten bytes of a name, then spaces.
@@ -29,14 +27,11 @@ pub fn name_rule(name: &[u8]) -> bool
     if !name_byte(name[0]) {
         return false;
     }
-    let mut i = 0;
-    while i < name.len() {
-        let b = name[i];
-        i += 1;
-        if b == 32 {
-            return all_are(32, name, i);
+    for (i, b) in name.iter().enumerate() {
+        if *b == b' ' {
+            return all_are(b' ', name, i + 1);
         }
-        if !name_byte(b) {
+        if !name_byte(*b) {
             return false;
         }
     }
@@ -44,58 +39,42 @@ pub fn name_rule(name: &[u8]) -> bool
 }
 
 // Behind the first `used` bytes a name has spaces alone: the place of what is none; or 0, where no byte stands before them.
-fn wrong_padding(name: &[u8], used: usize) -> WrongPlace
-    ensures { result ≡ if_wrong (wrong_from true used (drop used name.now)) At (cond (eqb used 0) (At 0) None) }
+fn wrong_padding(name: &[u8], used: usize) -> Option<usize>
+    ensures { result ≡ if_wrong (wrong_from true used (drop used name.now)) Some (cond (eqb used 0) (Some 0) None) }
 {
-    let mut behind = used;
-    while behind < name.len() {
-        if name[behind] != 32 {
-            return WrongPlace::At(behind);
+    for behind in used..name.len() {
+        if name[behind] != b' ' {
+            return Some(behind);
         }
-        behind += 1;
     }
     if used == 0 {
-        return WrongPlace::At(0);
+        return Some(0);
     }
-    WrongPlace::None
+    None
 }
 
-// Where a name is wrong, for a call that takes one: `name_rule` says only whether, which is all that the judge asks of the names on a disk.
-pub fn wrong_place(name: &[u8]) -> WrongPlace
+// Where a name is wrong, for a call that takes one: the place of its first wrong byte, or 10 where it is not ten bytes long. `name_rule` says only whether,
+// which is all that the judge asks of the names on a disk.
+pub fn wrong_place(name: &[u8]) -> Option<usize>
     ensures { result ≡ wrong_place name.now }
 {
     if name.len() != 10 {
-        return WrongPlace::At(10);
+        return Some(10);
     }
-    let mut used = 0;
-    while used < name.len() {
-        let here = name[used];
-        if here == 32 {
+    for (used, here) in name.iter().enumerate() {
+        if *here == b' ' {
             return wrong_padding(name, used);
         }
-        if !name_byte(here) {
-            return WrongPlace::At(used);
+        if !name_byte(*here) {
+            return Some(used);
         }
-        used += 1;
     }
-    WrongPlace::None
+    None
 }
 
 // Whether the first name comes before the second.
 pub fn precedes(first: &[u8], second: &[u8]) -> bool
     ensures { result ≡ precedes first.now second.now }
 {
-    let mut i = 0;
-    while i < first.len() {
-        if i >= second.len() {
-            return false;
-        }
-        let a = first[i];
-        let b = second[i];
-        if a != b {
-            return a < b;
-        }
-        i += 1;
-    }
-    i < second.len()
+    first < second
 }

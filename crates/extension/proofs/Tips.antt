@@ -2,16 +2,22 @@
 use mathlib.Core.Path.{◌≡◌, refl, sym, ap, ◌∙◌}
 use mathlib.Core.Bool.{Bool, true, false, cond}
 use mathlib.Core.List.{List, [], ◌∷◌, ◌++◌}
-use Prim.Native.Nat.{ℕ, suc, ◌+◌, ◌-◌, ◌<◌}
+use Prim.Native.Nat.{ℕ, suc, ◌+◌, ◌-◌, ◌*◌, ◌≤◌, ◌<◌}
 use native.Mathlib.Omega.{arith}
 use lib.Dec.{eqb}
 use lib.ListN.{length, take}
 use borrow.Author.Tests.{lt-ltb}
-use Rattle.rules.specs.Chain.{extended, Linked}
+use Rattle.rules.specs.Chain.{block_of, ends_chain, blocks, extended, Linked}
 use Rattle.rules.specs.declared.Block.{Block}
 use Rattle.rules.proofs.Extended.{extended-length}
 use Rattle.extension.specs.declared.Tip.{Tip}
 use Rattle.extension.specs.Tip.{no_tip, tip_from, tip_of, is_next, tip_with}
+
+-- the tip of no blocks, by its numbers
+pub tip_none : (tip : Tip) → tip.used ≡ 0 → tip.start ≡ 0 → tip.first ≡ 0 → tip.next ≡ 0 → tip ≡ no_tip
+tip_none tip used start first next =
+    let e : tip ≡ record { used = tip.used; start = tip.start; first = tip.first; next = tip.next } = refl in
+    e ∙ rw (used, start, first, next)
 
 -- behind a tip, one block and the rest, and none
 module _ (tip : Tip) (bs : List Block) where
@@ -23,6 +29,18 @@ module _ (tip : Tip) (bs : List Block) where
   pub tip_end : bs ≡ [] → tip_from tip bs ≡ tip
   unfolding tip_from
   tip_end none = rw none
+
+-- a chain has a block in three bytes each
+pub blocks_few : (chain : List ℕ) → 3 * length (blocks chain) ≤ length chain
+unfolding blocks
+blocks_few [] = omega arith
+blocks_few (a ∷ []) = omega arith
+blocks_few (a ∷ (b ∷ [])) = omega arith
+blocks_few (a ∷ (b ∷ (c ∷ chain))) = go (ends_chain a b c) (blocks_few chain)
+  where
+    go : (t : Bool) → 3 * length (blocks chain) ≤ length chain → 3 * length (cond t [] (block_of a b c ∷ blocks chain)) ≤ suc (suc (suc (length chain)))
+    go true few = omega arith
+    go false few = omega (arith, few)
 
 -- how many blocks, and where they end
 tip_from-used : (tip : Tip) (bs : List Block) → (tip_from tip bs).used ≡ tip.used + length bs

@@ -6,12 +6,12 @@ ghost use Rattle.std.specs.Prelude.{◌≡◌, ◌<◌};
 ghost use Rattle.extension.specs.Tip.{is_next, tip_with, IsTip};
 ghost use Rattle.extension.specs.Built.{Extendable, Extends};
 
-use descriptor::chain::{Met, block_at, block_bytes};
+use descriptor::chain::{block_bytes, blocks_of};
 use sector::buffer::lay;
 
 // How many blocks a chain has; where the last one starts, the first file sector that it covers, and the first file sector
 // behind it. All are 0 for a chain without blocks.
-#[derive(Clone, Copy)]
+#[derive(Clone, Copy, Debug, Default, PartialEq, Eq)]
 pub struct Tip {
     pub used: usize,
     pub start: usize,
@@ -19,65 +19,48 @@ pub struct Tip {
     pub next: usize,
 }
 
-// The tip of any bytes.
-pub fn tip_of(chain: &[u8]) -> Tip
-    ensures { IsTip chain.now result }
-{
-    let mut at = 0;
-    let mut used = 0;
-    let mut start = 0;
-    let mut first = 0;
-    let mut next = 0;
-    while let Met::Found(block) = block_at(chain, at) {
-        used += 1;
-        start = block.start;
-        first = next;
-        next = block.last + 1;
-        at += 3;
+impl Tip {
+    // The tip of any bytes.
+    pub fn of(chain: &[u8]) -> Tip
+        ensures { IsTip chain.now result }
+    {
+        let mut tip = Tip::default();
+        for block in blocks_of(chain) {
+            tip = Tip {
+                used: tip.used + 1,
+                start: block.start,
+                first: tip.next,
+                next: block.last + 1,
+            };
+        }
+        tip
     }
-    Tip {
-        used,
-        start,
-        first,
-        next,
-    }
-}
 
-// Whether sector k follows the last sector of the last block.
-pub fn is_next(tip: Tip, k: usize) -> bool
-    ensures { result ≡ is_next tip k }
-{
-    if tip.used == 0 {
-        return false;
+    // Whether sector k follows the last sector of the last block.
+    pub fn is_next(self, k: usize) -> bool
+        ensures { result ≡ is_next self k }
+    {
+        if self.used == 0 || k < self.start {
+            return false;
+        }
+        k - self.start == self.next.saturating_sub(self.first)
     }
-    if k < tip.start {
-        return false;
-    }
-    let past = k - tip.start;
-    if tip.next < tip.first {
-        return past == 0;
-    }
-    past == tip.next - tip.first
-}
 
-// The tip with sector k behind it. A chain has room for k where that one's `used` is at most 76.
-pub fn tip_with(tip: Tip, k: usize) -> Tip
-    requires { (tip.used < 65536) × (tip.next < 65536) }
-    ensures { result ≡ tip_with tip k }
-{
-    if is_next(tip, k) {
-        return Tip {
-            used: tip.used,
-            start: tip.start,
-            first: tip.first,
-            next: tip.next + 1,
-        };
-    }
-    Tip {
-        used: tip.used + 1,
-        start: k,
-        first: tip.next,
-        next: tip.next + 1,
+    // The tip with sector k behind it. A chain has room for k where that one's `used` is at most 76.
+    pub fn with(self, k: usize) -> Tip
+        requires { (self.used < 65536) × (self.next < 65536) }
+        ensures { result ≡ tip_with self k }
+    {
+        let next = self.next + 1;
+        if self.is_next(k) {
+            return Tip { next, ..self };
+        }
+        Tip {
+            used: self.used + 1,
+            start: k,
+            first: self.next,
+            next,
+        }
     }
 }
 
@@ -86,7 +69,7 @@ pub fn extend(chain: &mut [u8], tip: Tip, k: usize) -> Tip
     requires { Extendable chain.old tip k }
     ensures { Extends chain.old tip k chain.new result }
 {
-    let longer = tip_with(tip, k);
+    let longer = tip.with(k);
     let number = longer.used - 1;
     let last = longer.next - 1;
     let block = block_bytes(longer.start, last);

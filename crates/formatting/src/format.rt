@@ -3,16 +3,17 @@ ghost use Rattle.std.specs.Prelude.{◌≡◌, [], ◌∷◌, ◌++◌, ◌*◌,
 ghost use Rattle.rules.specs.Name.{wrong_place};
 ghost use Rattle.rules.specs.Map.{map_of};
 ghost use Rattle.rules.specs.Outcome.{NamedSays};
+ghost use Rattle.rules.specs.Refusal.{named_answered};
 ghost use Rattle.rules.specs.Calls.Format.{new_label, formatted, format_number, after_format};
 ghost use Rattle.formatting.specs.Geometry.{geometry_of};
 
 use descriptor::name::wrong_place;
 use map::laid::lay_map;
-use rules::{NamedAnswer, WrongPlace};
-use sector::buffer::{fill, lay};
+use rules::{Fault, Refusal};
+use sector::buffer::lay;
 
 // What the label says of the drive.
-#[derive(Clone, Copy)]
+#[derive(Clone, Copy, Debug, PartialEq, Eq)]
 pub struct Geometry {
     pub sectors_per_track: u8,
     pub tracks: u8,
@@ -25,8 +26,7 @@ fn new_label(n: usize, name: &[u8], geometry: Geometry) -> [u8; 56]
     requires { (n ≤ 1600) × (length name.now ≡ 10) }
     ensures { result ≡ new_label n name.now (geometry_of geometry) }
 {
-    let high = (n / 256) as u8;
-    let low = (n % 256) as u8;
+    let [high, low] = (n as u16).to_be_bytes();
     let behind = [
         high,
         low,
@@ -61,35 +61,32 @@ fn write_volume(image: &mut [u8], n: usize, name: &[u8], geometry: Geometry)
     ensures { image.new ≡ formatted n name.now (geometry_of geometry) }
 {
     lay_sector0(&mut image[0..256], n, name, geometry);
-    fill(&mut image[256..512], 0);
-    fill(&mut image[512..], 0xE5);
+    image[256..512].fill(0);
+    image[512..].fill(0xE5);
 }
 
 // Makes the image an empty volume of n sectors. Nothing of the image is read but its length: 1 where that is not n sectors,
 // n from 3 to 1,600, and 7 for a name that breaks the rule, with the place where it does.
-pub fn format(image: &mut [u8], n: usize, name: &[u8], geometry: Geometry) -> NamedAnswer
-    ensures named_says { NamedSays (wrong_place name.now) result (format_number image.old n name.now) }
+pub fn format(image: &mut [u8], n: usize, name: &[u8], geometry: Geometry) -> Result<(), Refusal>
+    ensures named_says { NamedSays (wrong_place name.now) (named_answered result) (format_number image.old n name.now) }
     ensures image_after { image.new ≡ after_format image.old n name.now (geometry_of geometry) }
 {
     if image.len() % 256 != 0 {
-        return NamedAnswer::Refused(1);
+        return Err(Refusal::Unsound(Fault::Length));
     }
     let sectors = image.len() / 256;
     if sectors < 3 {
-        return NamedAnswer::Refused(1);
+        return Err(Refusal::Unsound(Fault::Length));
     }
     if sectors > 1600 {
-        return NamedAnswer::Refused(1);
+        return Err(Refusal::Unsound(Fault::Length));
     }
     if n != sectors {
-        return NamedAnswer::Refused(1);
+        return Err(Refusal::Unsound(Fault::Length));
     }
-    let wrong = wrong_place(name);
-    match wrong {
-        WrongPlace::At(place) => NamedAnswer::Misnamed(place),
-        WrongPlace::None => {
-            write_volume(image, n, name, geometry);
-            NamedAnswer::Done
-        }
+    if let Some(place) = wrong_place(name) {
+        return Err(Refusal::Misnamed(place));
     }
+    write_volume(image, n, name, geometry);
+    Ok(())
 }

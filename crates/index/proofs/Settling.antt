@@ -78,39 +78,27 @@ module _ (image index₀ : List ℕ) (at : ℕ) (front : List ℕ) (is : InFront
   pub none_behind : (p : ℕ) → p ≡ 0 → Behind p
   none_behind p e q h = absurd (omega arith)
 
-  -- the number j stands before them, and is the next to be looked at
-  module _ (index : List ℕ) (to j : ℕ) (shifted : Shifted image name index₀ front (to / 2) index) (even : to % 2 ≡ 0) (some : 0 < to) (read : j ≡ word_at index (to - 2)) where
-    abbrev p : ℕ
-    p = (to - 2) / 2
-
-    next : to / 2 ≡ suc p
-    next = omega (arith, even, some)
-
+  -- the number j stands at place p, right before them
+  module _ (index : List ℕ) (upper p j : ℕ) (shifted : Shifted image name index₀ front upper index) (next : upper ≡ suc p) (read : j ≡ word_at index (2 * p)) where
     there : p < length front
     there = omega (arith, shifted.inside, next)
 
     front_byte : (i : ℕ) → i < at → byte_at index₀ i ≡ byte_at (numbers_bytes front) i
     front_byte i h = sym (get_or-take at index₀ i 0 h) ∙ ap (λ (l : List ℕ). byte_at l i) is.stand
 
-    kept_byte : (i : ℕ) → i < to → byte_at index i ≡ byte_at (numbers_bytes front) i
+    kept_byte : (i : ℕ) → i < 2 * upper → byte_at index i ≡ byte_at (numbers_bytes front) i
     kept_byte i h =
         ap (λ (l : List ℕ). byte_at l i) shifted.moved
-        ∙ splice_below index₀ (2 * (to / 2) + 2) (numbers_bytes (drop (to / 2) front)) i (omega (arith, h))
-        ∙ front_byte i (omega (arith, h, is.many, shifted.inside, even))
+        ∙ splice_below index₀ (2 * upper + 2) (numbers_bytes (drop upper front)) i (omega (arith, h))
+        ∙ front_byte i (omega (arith, h, is.many, shifted.inside))
 
     standing : j ≡ get_or front p 0
-    standing =
-        let e : to - 2 ≡ 2 * p = omega (arith, even, some) in
-        let high = rw e at (kept_byte (to - 2) (omega (arith, some))) in
-        let low = rw e at (kept_byte (to - 2 + 1) (omega (arith, some, even))) in
-        let here = rw e at read in
-        here ∙ rw (high, low) (numbers_word front p there)
+    standing = read ∙ rw (kept_byte (2 * p) (omega (arith, next)), kept_byte (2 * p + 1) (omega (arith, next))) (numbers_word front p there)
 
     -- its name comes after
-    pub one_shifted : (laid : List ℕ) → laid ≡ splice index to (word_bytes j) → precedes name (name_in image j) ≡ true → Shifted image name index₀ front p laid
+    pub one_shifted : (laid : List ℕ) → laid ≡ splice index (2 * p + 2) (word_bytes j) → precedes name (name_in image j) ≡ true → Shifted image name index₀ front p laid
     one_shifted laid e before =
-        let up : to ≡ 2 * p + 2 = omega (arith, even, some) in
-        let more : 2 * (to / 2) + 2 ≡ to + 2 = omega (arith, even) in
+        let more : 2 * upper + 2 ≡ 2 * p + 2 + 2 = omega (arith, next) in
         let moved = rw more at shifted.moved in
         record {
           inside = omega (arith, there);
@@ -121,10 +109,9 @@ module _ (image index₀ : List ℕ) (at : ℕ) (front : List ℕ) (is : InFront
               ];
           moved =
               e
-              ∙ ap (λ (l : List ℕ). splice l to (word_bytes j)) moved
-              ∙ laid_before index₀ to j (drop (to / 2) front)
-              ∙ ap (λ (ks : List ℕ). splice index₀ to (numbers_bytes ks)) (rw (next, standing) (sym (drop-cons front p 0 there)))
-              ∙ ap (λ (n : ℕ). splice index₀ n (numbers_bytes (drop p front))) up;
+              ∙ ap (λ (l : List ℕ). splice l (2 * p + 2) (word_bytes j)) moved
+              ∙ laid_before index₀ (2 * p + 2) j (drop upper front)
+              ∙ ap (λ (ks : List ℕ). splice index₀ (2 * p + 2) (numbers_bytes ks)) (rw (next, standing) (sym (drop-cons front p 0 there)));
         }
 
     -- it has that name
@@ -136,7 +123,7 @@ module _ (image index₀ : List ℕ) (at : ℕ) (front : List ℕ) (is : InFront
         go false f = absurd (named_none image name front f j (rw standing (count_at front p there)) (same_is name (name_in image j) e))
 
     -- neither
-    pub all_behind : length name ≡ 10 → precedes name (name_in image j) ≡ false → same name (name_in image j) ≡ false → Behind (to / 2)
+    pub all_behind : length name ≡ 10 → precedes name (name_in image j) ≡ false → same name (name_in image j) ≡ false → Behind upper
     all_behind long unpreceded other q h =
         elim (dec_lt q p) [
           | yes earlier ↦ before_trans (name_in image (get_or front q 0)) (name_in image (get_or front p 0)) name (is.ascending q p earlier there) (rw standing at last)

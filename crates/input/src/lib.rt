@@ -4,9 +4,11 @@
 
 ghost use Rattle.std.specs.Prelude.{◌≡◌, length, OnErr};
 ghost use Rattle.console.specs.Name.{one_line};
+ghost use Rattle.console.specs.Mark.{digit_of};
 ghost use Rattle.input.specs.Filled.{Filled, received_of};
 ghost use Rattle.input.specs.Mark.{mark_of};
 
+use console::mark::Mark;
 use console::name::{one_line, path_text};
 use console::reason::fail;
 use judge::judge;
@@ -19,13 +21,6 @@ use std::{fs, io};
 // One byte more than the longest image that can be sound. An image that is too long fills the buffer and is refused for its length, whatever
 // comes after the bytes that were read.
 pub const IMAGE_ROOM: usize = 409601;
-
-// What a reading gives: how many bytes it put at the start of the buffer.
-#[derive(Clone, Copy)]
-pub enum Received {
-    Bytes(usize),
-    Failed,
-}
 
 // Reads until the input ends or the buffer is full. `Read::read_exact` has an input that ends early as an error and `Read::read_to_end` has no
 // bound, and the bytes before a failure are no image: of them nothing is said.
@@ -44,20 +39,20 @@ pub fn read_image<R: Read>(reader: &mut R, buffer: &mut [u8]) -> io::Result<usiz
     Ok(filled)
 }
 
-// The same, with the reason on standard error where it fails, which begins with `name`.
+// The same, with the reason on standard error where it fails, which begins with `name`: then nothing was read.
 pub fn read_or_tell<R: Read>(
     rt: HostRuntime,
     reader: &mut R,
     name: &[u8],
     buffer: &mut [u8],
-) -> Received
+) -> Option<usize>
     ensures { Filled result buffer.new }
 {
     match read_image(reader, buffer) {
-        Ok(count) => Received::Bytes(count),
+        Ok(count) => Some(count),
         Err(error) => {
             fail(rt, name, error);
-            Received::Failed
+            None
         }
     }
 }
@@ -68,7 +63,7 @@ fn open_image(rt: HostRuntime, path: &[u8]) -> io::Result<File> {
 }
 
 // The image in a file. Once that is open its path is only shown, so it becomes one line.
-pub fn read_file(rt: HostRuntime, path: &mut [u8], buffer: &mut [u8]) -> Received
+pub fn read_file(rt: HostRuntime, path: &mut [u8], buffer: &mut [u8]) -> Option<usize>
     ensures filled { Filled result buffer.new }
     ensures path_after { path.new ≡ one_line path.old }
 {
@@ -78,17 +73,16 @@ pub fn read_file(rt: HostRuntime, path: &mut [u8], buffer: &mut [u8]) -> Receive
         Ok(mut file) => read_or_tell(rt, &mut file, path, buffer),
         Err(error) => {
             fail(rt, path, error);
-            Received::Failed
+            None
         }
     }
 }
 
-// The judge's number, which has one digit, or that there was no image to judge.
-pub fn mark_of(layout: Layout, received: Received, buffer: &[u8]) -> u8
-    ensures { result ≡ mark_of layout received buffer.now }
+// The mark of what was put into the buffer.
+#[tactic(auto, unfolding(crate::specs::Mark::mark_of, console::specs::Mark::digit_of))]
+pub fn mark_of(layout: Layout, received: Option<usize>, buffer: &[u8]) -> Mark
+    ensures { digit_of result ≡ mark_of layout received buffer.now }
 {
-    match received {
-        Received::Bytes(length) => b'0' + judge(layout, part(buffer, 0, length)) as u8,
-        Received::Failed => b'-',
-    }
+    let length = received?;
+    Some(judge(layout, part(buffer, 0, length)))
 }

@@ -8,7 +8,7 @@ use lib.Dec.{eqb}
 use lib.ListN.{length, length-append}
 use borrow.Author.Tests.{not-true, not-false}
 use Rattle.rules.specs.Sectors.{sector_of}
-use Rattle.rules.specs.Chain.{run}
+use Rattle.rules.specs.Chain.{run, places}
 use Rattle.rules.specs.Descriptor.{chain_of}
 use Rattle.rules.specs.Map.{map_bit, count, marked, marked_all}
 use Rattle.rules.specs.Volume.{files_in, places_in, file_holders}
@@ -17,9 +17,9 @@ use Rattle.rules.proofs.Chain.{run_length, run_none, run_step, run_counts, run_o
 use Rattle.rules.proofs.Map.{count_here, count_more, count_append, count_apart}
 use Rattle.rules.proofs.Marking.{marked_other, all_append}
 use Rattle.judge.specs.Claim.{as_map, all_free, clashes, Below, claims}
-use Rattle.descriptor.specs.Cursor.{ahead, first, past}
-use Rattle.descriptor.specs.declared.chain.Cursor.{Cursor}
-use Rattle.descriptor.proofs.Ahead.{at_first, in_block_past}
+use Rattle.descriptor.specs.Ahead.{places_left, past}
+use Rattle.descriptor.specs.declared.chain.Places.{Places}
+use Rattle.descriptor.proofs.Ahead.{in_block_past}
 
 -- a sector that is marked changes nothing for others
 free_marked : (sector0 : List ℕ) (k : ℕ) (ks : List ℕ) → count k ks ≡ 0 → all_free (marked 1 sector0 k) ks ≡ all_free sector0 ks
@@ -137,25 +137,25 @@ module _ (image ks : List ℕ) where
   unfolding file_holders
   files_past none = rw none
 
--- a file's places are what a cursor at the first of them has ahead
-pub places_ahead : (image chain descriptor : List ℕ) (k : ℕ) → descriptor ≡ sector_of image k → chain ≡ chain_of descriptor → places_in image k ≡ ahead chain first
+-- a file's places are those of its chain
+pub places_ahead : (image chain descriptor : List ℕ) (k : ℕ) → descriptor ≡ sector_of image k → chain ≡ chain_of descriptor → places_in image k ≡ places chain
 unfolding places_in
-places_ahead image chain descriptor k ed ec = rw (at_first chain, ec, ed)
+places_ahead image chain descriptor k ed ec = rw (ec, ed)
 
 -- a sector alone is a run of one
 pub run_alone : (k : ℕ) (rest : List ℕ) → k ∷ rest ≡ run k (0 + 1) ++ rest
 run_alone k rest = rw (run_step k 0, run_none (k + 1))
 
--- A place with `more` of what is left of its block behind it is a run, and the cursor goes past them.
-module _ (chain : List ℕ) (cursor next : Cursor) (place more : ℕ) (step : ahead chain cursor ≡ place ∷ ahead chain next) (follows : next.place ≡ place + 1) (inside : more ≤ next.left) where
-  stretched : ahead chain cursor ≡ run place (more + 1) ++ ahead chain (past next more)
+-- A place with `more` of what is left of its block behind it is a run, and the iterator passes them.
+module _ (left next : Places) (place more : ℕ) (step : places_left left ≡ place ∷ places_left next) (follows : next.place ≡ place + 1) (inside : more ≤ next.left) where
+  stretched : places_left left ≡ run place (more + 1) ++ places_left (past next more)
   stretched =
-      step ∙ ap (λ (ps : List ℕ). place ∷ ps) (in_block_past chain next more inside ∙ ap (λ (p : ℕ). run p more ++ ahead chain (past next more)) follows)
-      ∙ sym (ap (λ (ps : List ℕ). ps ++ ahead chain (past next more)) (run_step place more))
+      step ∙ ap (λ (ps : List ℕ). place ∷ ps) (in_block_past next.place next.left next.next next.blocks.chain.now more inside ∙ ap (λ (p : ℕ). run p more ++ places_left (past next more)) follows)
+      ∙ sym (ap (λ (ps : List ℕ). ps ++ places_left (past next more)) (run_step place more))
 
-  pub stretch_ahead : (rest : List ℕ) → ahead chain cursor ++ rest ≡ run place (more + 1) ++ (ahead chain (past next more) ++ rest)
-  stretch_ahead rest = ap (λ (ps : List ℕ). ps ++ rest) stretched ∙ append_assoc (run place (more + 1)) (ahead chain (past next more)) rest
+  pub stretch_ahead : (rest : List ℕ) → places_left left ++ rest ≡ run place (more + 1) ++ (places_left (past next more) ++ rest)
+  stretch_ahead rest = ap (λ (ps : List ℕ). ps ++ rest) stretched ∙ append_assoc (run place (more + 1)) (places_left (past next more)) rest
 
-  pub stretch_less : length (ahead chain (past next more)) < length (ahead chain cursor)
+  pub stretch_less : length (places_left (past next more)) < length (places_left left)
   stretch_less =
-      omega (arith, ap length stretched, length-append (run place (more + 1)) (ahead chain (past next more)), run_length place (more + 1))
+      omega (arith, ap length stretched, length-append (run place (more + 1)) (places_left (past next more)), run_length place (more + 1))

@@ -1,5 +1,5 @@
 -- The entries, by their places, and the indexes: a turn of each loop over them.
-use mathlib.Core.Path.{◌≡◌, refl, ◌∙◌}
+use mathlib.Core.Path.{◌≡◌, refl}
 use mathlib.Core.Bool.{Bool, true, false, ◌&&◌, ◌||◌}
 use mathlib.Core.List.{List, [], ◌∷◌}
 use Prim.Native.Nat.{ℕ, zero, suc, ◌+◌, ◌*◌, ◌≤◌, ◌<◌}
@@ -7,11 +7,11 @@ use native.Mathlib.Omega.{arith}
 use lib.ListN.{drop, drop_of_length-le}
 use Rattle.rules.specs.Bytes.{part, same}
 use Rattle.rules.specs.Directory.{entries, entry_name, is_absent, is_named, entry_rule, entries_rule}
-use Rattle.rules.specs.Volume.{index_at, every}
-use Rattle.rules.specs.Sound.{IsIndexed}
+use Rattle.rules.specs.Volume.{every}
 use Rattle.rules.specs.declared.Layout.{Layout}
-use Rattle.rules.proofs.Indexes.{directory_indexed}
+use Rattle.rules.proofs.Map.{count_here, count_more}
 use Rattle.judge.specs.Entered.{three_entries}
+use Rattle.judge.specs.Claim.{Below}
 
 -- the three entries, and none where the layout has no directories
 module _ (layout : Layout) (sector0 : List ℕ) where
@@ -57,9 +57,11 @@ module _ (n : ℕ) (sector0 : List ℕ) (place : ℕ) where
   unfolding entries_rule
   rule_past h = rw (entries_past sector0 place h)
 
--- an index that a walk over the directories meets is one of them
-pub from_indexed : (layout : Layout) (image : List ℕ) (directory i : ℕ) → i ≡ index_at layout image directory → (i ≡ 0 → ⊥) → IsIndexed layout image i
-from_indexed layout image directory i is some = rw is (directory_indexed layout image directory (λ none. some (is ∙ none)))
+-- a number below an end, and those behind it
+pub below_step : (n k : ℕ) (ks more : List ℕ) → Below n ks → ks ≡ k ∷ more → (k < n) × Below n more
+below_step n k ks more below here =
+    let all : Below n (k ∷ more) = rw here at below in
+    (all k (omega (arith, count_here k more)), λ j some. all j (omega (arith, some, count_more j k more)))
 
 -- a test of each of them
 module _ (test : ℕ → Bool) (is : List ℕ) where

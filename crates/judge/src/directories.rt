@@ -12,19 +12,17 @@ use crate::system::index_rule;
 use descriptor::name::name_rule;
 use rules::Layout;
 use sector::bytes::{all_are, part, same, sector_in, word};
-use sector::directories::{directory_count, index_at};
+use sector::directories::indexes_of;
 
 // Whether one of the entries from the one at place `from` on has that name.
 fn is_named(name: &[u8], sector0: &[u8], from: usize) -> bool
     ensures { result ≡ is_named name.now (drop from (three_entries sector0.now)) }
 {
-    let mut later = from;
-    while later < 3 {
+    for later in from..3 {
         let entry = part(sector0, 20 + 12 * later, 12);
         if same(name, part(entry, 0, 10)) {
             return true;
         }
-        later += 1;
     }
     false
 }
@@ -42,7 +40,7 @@ fn entry_rule(n: usize, sector0: &[u8], place: usize) -> bool
     if !name_rule(name) {
         return false;
     }
-    let i = word(entry, 10);
+    let i = usize::from(word(entry, 10));
     if i < 2 {
         return false;
     }
@@ -58,12 +56,10 @@ pub fn entries_rule(layout: Layout, n: usize, sector0: &[u8]) -> bool
     if !layout.directories {
         return true;
     }
-    let mut place = 0;
-    while place < 3 {
+    for place in 0..3 {
         if !entry_rule(n, sector0, place) {
             return false;
         }
-        place += 1;
     }
     true
 }
@@ -73,15 +69,8 @@ pub fn indexes_rule(layout: Layout, n: usize, image: &[u8]) -> bool
     requires { (length image.now ≡ 256 * n) × Below n (indexes layout image.now) }
     ensures { result ≡ every (λ i. index_rule n (sector_of image.now i)) (indexes layout image.now) }
 {
-    let many = directory_count(layout);
-    let mut directory = 0;
-    while directory < many {
-        let i = index_at(layout, image, directory);
-        directory += 1;
-        if i == 0 {
-            continue;
-        }
-        if !index_rule(n, sector_in(image, i)) {
+    for i in indexes_of(layout, image) {
+        if !index_rule(n, sector_in(image, usize::from(i))) {
             return false;
         }
     }

@@ -9,34 +9,34 @@ ghost use Rattle.rules.specs.Verdict.{descriptors_rule};
 ghost use Rattle.rules.specs.Volume.{indexes, every, files_in};
 ghost use Rattle.judge.specs.Claim.{Below};
 
-use descriptor::chain::{Met, block_at};
-use descriptor::kind::{kind_of, status_rule};
+use descriptor::chain::blocks_of;
+use descriptor::fields::Descriptor;
+use descriptor::kind::status_rule;
 use descriptor::name::{name_rule, precedes};
 use rules::{Kind, Layout};
-use sector::bytes::{all_are, byte, part, sector_in, word};
-use sector::directories::{directory_count, index_at};
-use sector::numbers::number_at;
+use sector::bytes::{all_are, part, sector_in};
+use sector::directories::indexes_of;
+use sector::numbers::numbers_of;
 
-// The chain decoder: it receives the part of the descriptor that starts at byte 28. Past the last block c sectors are covered, and the rest is zero.
+// The chain decoder: it receives the part of the descriptor that starts at byte 28. Past the last block c sectors are covered, and the rest is zero: the bytes
+// of the blocks are counted on the way, so that the chain is read once.
 fn chain_rule(n: usize, c: usize, chain: &[u8]) -> bool
     ensures { result ≡ chain_rule n c chain.now }
 {
     let mut at = 0;
     let mut next = 0;
-    while let Met::Found(block) = block_at(chain, at) {
-        let start = block.start;
-        let last = block.last;
-        if start < 2 {
+    for block in blocks_of(chain) {
+        if block.start < 2 {
             return false;
         }
-        if last < next {
+        if block.last < next {
             return false;
         }
-        if start + (last - next) >= n {
+        if block.start + (block.last - next) >= n {
             return false;
         }
         at += 3;
-        next = last + 1;
+        next = block.last + 1;
     }
     if next != c {
         return false;
@@ -44,39 +44,31 @@ fn chain_rule(n: usize, c: usize, chain: &[u8]) -> bool
     all_are(0, chain, at)
 }
 
-fn kind_rule(kind: Kind, c: usize, end_offset: usize) -> bool
+fn kind_rule(kind: Kind, c: u16, end_offset: u8) -> bool
     ensures { result ≡ kind_rule kind c end_offset }
 {
     match kind {
-        Kind::Program { length: _ } => c != 0 || end_offset == 0,
-        Kind::Fixed {
-            record_length: _,
-            internal: _,
-        } => true,
-        Kind::Variable {
-            record_length: _,
-            internal: _,
-        } => true,
+        Kind::Program { .. } => c != 0 || end_offset == 0,
+        Kind::Fixed { .. } => true,
+        Kind::Variable { .. } => true,
     }
 }
 
 pub fn descriptor_rule(layout: Layout, n: usize, descriptor: &[u8]) -> bool
     ensures { result ≡ descriptor_rule layout n descriptor.now }
 {
-    if !name_rule(part(descriptor, 0, 10)) {
+    let fields = Descriptor { bytes: descriptor };
+    if !name_rule(fields.name()) {
         return false;
     }
-    let status = byte(descriptor, 12);
-    if !status_rule(layout, status) {
+    if !status_rule(layout, usize::from(fields.status())) {
         return false;
     }
-    let c = word(descriptor, 14);
-    let end_offset = byte(descriptor, 16);
-    let kind = kind_of(status, c, end_offset, byte(descriptor, 17));
-    if !kind_rule(kind, c, end_offset) {
+    let c = fields.sectors();
+    if !kind_rule(fields.kind(), c, fields.end_offset()) {
         return false;
     }
-    chain_rule(n, c, part(descriptor, 28, 228))
+    chain_rule(n, usize::from(c), part(descriptor, 28, 228))
 }
 
 // The descriptors that the index in sector i leads to.
@@ -84,15 +76,9 @@ fn descriptors_rule(layout: Layout, n: usize, image: &[u8], i: usize) -> bool
     requires { (i < n) × (length image.now ≡ 256 * n) × (range_rule n (files_in image.now i) ≡ true) }
     ensures { result ≡ descriptors_rule layout n image.now [] (files_in image.now i) }
 {
-    let index = sector_in(image, i);
     let mut previous = part(image, 0, 0);
-    let mut at = 0;
-    loop {
-        let k = number_at(index, at);
-        if k == 0 {
-            return true;
-        }
-        let descriptor = sector_in(image, k);
+    for k in numbers_of(sector_in(image, i)) {
+        let descriptor = sector_in(image, usize::from(k));
         if !descriptor_rule(layout, n, descriptor) {
             return false;
         }
@@ -101,8 +87,8 @@ fn descriptors_rule(layout: Layout, n: usize, image: &[u8], i: usize) -> bool
             return false;
         }
         previous = name;
-        at += 2;
     }
+    true
 }
 
 // Those of every index that is there.
@@ -110,15 +96,8 @@ pub(crate) fn catalogues_rule(layout: Layout, n: usize, image: &[u8]) -> bool
     requires { (length image.now ≡ 256 * n) × Below n (indexes layout image.now) × (every (λ i. index_rule n (sector_of image.now i)) (indexes layout image.now) ≡ true) }
     ensures { result ≡ every (λ i. descriptors_rule layout n image.now [] (files_in image.now i)) (indexes layout image.now) }
 {
-    let many = directory_count(layout);
-    let mut directory = 0;
-    while directory < many {
-        let i = index_at(layout, image, directory);
-        directory += 1;
-        if i == 0 {
-            continue;
-        }
-        if !descriptors_rule(layout, n, image, i) {
+    for i in indexes_of(layout, image) {
+        if !descriptors_rule(layout, n, image, usize::from(i)) {
             return false;
         }
     }

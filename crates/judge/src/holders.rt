@@ -6,11 +6,11 @@ ghost use Rattle.rules.specs.Volume.{indexes, files_in, file_holders};
 ghost use Rattle.judge.specs.Claim.{as_map, clashes, Below, claims};
 
 use crate::marks::take;
-use descriptor::chain::{Cursor, Step};
+use descriptor::chain::places_of;
 use rules::Layout;
 use sector::bytes::{part, sector_in};
-use sector::directories::{directory_count, index_at};
-use sector::numbers::number_at;
+use sector::directories::indexes_of;
+use sector::numbers::numbers_of;
 
 // How many of the `left` sectors behind sector k are taken with it: those that share its byte of the marks.
 fn beside(k: usize, left: usize) -> usize
@@ -25,55 +25,40 @@ fn beside(k: usize, left: usize) -> usize
 
 // Marks the sectors of each file of the index in sector i, the descriptor's and then its places, and answers whether one was taken already:
 // it stops at the first sector claimed twice.
-fn claim_files(image: &[u8], i: usize, marks: &mut [u8]) -> bool
-    requires { (length marks.old ≡ 200) × (i < sector_count image.now) × (sector_count image.now ≤ 1600) × Below (sector_count image.now) (file_holders image.now (files_in image.now i)) }
+fn claim_files(image: &[u8], i: usize, marks: &mut [u8; 200]) -> bool
+    requires { (i < sector_count image.now) × (sector_count image.now ≤ 1600) × Below (sector_count image.now) (file_holders image.now (files_in image.now i)) }
     ensures value { result ≡ clashes (as_map marks.old) (file_holders image.now (files_in image.now i)) }
     ensures marks_after { result ≡ false → as_map marks.new ≡ marked_all 1 (as_map marks.old) (file_holders image.now (files_in image.now i)) }
 {
-    let index = sector_in(image, i);
     let mut twice = false;
-    let mut at = 0;
-    'files: loop {
-        let k = number_at(index, at);
-        if k == 0 {
-            break 'files;
-        }
+    'files: for k in numbers_of(sector_in(image, i)) {
+        let k = usize::from(k);
         if !take(marks, k, 0) {
             twice = true;
             break 'files;
         }
-        let chain = part(sector_in(image, k), 28, 228);
-        let mut cursor = Cursor::first();
-        loop {
-            let Step::Place(place, next) = cursor.step(chain) else {
-                break;
-            };
-            let more = beside(place, next.left);
-            if !take(marks, place, more) {
+        // No `for`: the places that are taken with one are passed on the iterator.
+        let mut places = places_of(part(sector_in(image, k), 28, 228));
+        while let Some(place) = places.next() {
+            let more = beside(usize::from(place), places.left);
+            if !take(marks, usize::from(place), more) {
                 twice = true;
                 break 'files;
             }
-            cursor = next.past(more);
+            places.pass(more);
         }
-        at += 2;
     }
     twice
 }
 
 // Marks every holder but sector 0: each index that is there, and what its files hold. Answers whether one was taken already.
-pub fn claim_holders(layout: Layout, image: &[u8], marks: &mut [u8]) -> bool
-    requires { (length marks.old ≡ 200) × (sector_count image.now ≤ 1600) × Below (sector_count image.now) (claims image.now (indexes layout image.now)) }
+pub fn claim_holders(layout: Layout, image: &[u8], marks: &mut [u8; 200]) -> bool
+    requires { (sector_count image.now ≤ 1600) × Below (sector_count image.now) (claims image.now (indexes layout image.now)) }
     ensures value { result ≡ clashes (as_map marks.old) (claims image.now (indexes layout image.now)) }
     ensures marks_after { result ≡ false → as_map marks.new ≡ marked_all 1 (as_map marks.old) (claims image.now (indexes layout image.now)) }
 {
-    let many = directory_count(layout);
-    let mut directory = 0;
-    while directory < many {
-        let i = index_at(layout, image, directory);
-        directory += 1;
-        if i == 0 {
-            continue;
-        }
+    for i in indexes_of(layout, image) {
+        let i = usize::from(i);
         if !take(marks, i, 0) {
             return true;
         }

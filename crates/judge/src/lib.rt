@@ -3,6 +3,7 @@
 #![tactic(auto)]
 
 ghost use Rattle.std.specs.Prelude.{◌≡◌};
+ghost use Rattle.rules.specs.Refusal.{judged};
 ghost use Rattle.rules.specs.Verdict.{verdict};
 
 pub mod directories;
@@ -15,45 +16,44 @@ use directories::{entries_rule, indexes_rule};
 use files::catalogues_rule;
 use holders::claim_holders;
 use map::laid::lay_map;
-use marks::map_rule;
-use rules::Layout;
-use sector::bytes::{part, sector_in};
+use rules::{Fault, Layout};
+use sector::bytes::{part, same, sector_in};
 use system::label_rule;
 
-// The number of an image by the table: 0 where it is a sound volume, else the first of 1 to 6 that is due.
-pub fn judge(layout: Layout, image: &[u8]) -> u32
-    ensures { result ≡ verdict layout image.now }
+// The first fault of an image by the table, or that it is a sound volume.
+pub fn judge(layout: Layout, image: &[u8]) -> Result<(), Fault>
+    ensures { judged result ≡ verdict layout image.now }
 {
     if image.len() % 256 != 0 {
-        return 1;
+        return Err(Fault::Length);
     }
     let n = image.len() / 256;
     if n < 3 {
-        return 1;
+        return Err(Fault::Length);
     }
     if n > 1600 {
-        return 1;
+        return Err(Fault::Length);
     }
     let sector0 = sector_in(image, 0);
     if !label_rule(n, sector0) {
-        return 2;
+        return Err(Fault::Label);
     }
     if !entries_rule(layout, n, sector0) {
-        return 3;
+        return Err(Fault::Index);
     }
     if !indexes_rule(layout, n, image) {
-        return 3;
+        return Err(Fault::Index);
     }
     if !catalogues_rule(layout, n, image) {
-        return 4;
+        return Err(Fault::Descriptor);
     }
     let mut marks = [0u8; 200];
     lay_map(&mut marks, n, 1);
     if claim_holders(layout, image, &mut marks) {
-        return 5;
+        return Err(Fault::Holders);
     }
-    if !map_rule(part(sector0, 56, 200), &marks) {
-        return 6;
+    if !same(part(sector0, 56, 200), &marks) {
+        return Err(Fault::Map);
     }
-    0
+    Ok(())
 }

@@ -1,6 +1,5 @@
 // The marks: a bit for each of 1,600 sectors, 200 bytes in the map's own order: sector k is bit k mod 8, lowest bit first, of byte k/8. One means taken.
 ghost use Rattle.std.specs.Prelude.{◌≡◌, cond, ◌+◌, ◌-◌, ◌%◌, ◌^◌, ◌<◌, length};
-ghost use Rattle.rules.specs.Bytes.{same};
 ghost use Rattle.rules.specs.Chain.{run};
 ghost use Rattle.rules.specs.Map.{marked_all};
 ghost use Rattle.judge.specs.Claim.{as_map, all_free};
@@ -16,8 +15,8 @@ fn ones(more: usize) -> u8
 }
 
 // Marks sector k and the `more` behind it, which share its byte, and answers whether all were free; where one was not, nothing is marked.
-pub(crate) fn take(marks: &mut [u8], k: usize, more: usize) -> bool
-    requires { (length marks.old ≡ 200) × (k < 1600) × (k % 8 + more < 8) }
+pub(crate) fn take(marks: &mut [u8; 200], k: usize, more: usize) -> bool
+    requires { (k < 1600) × (k % 8 + more < 8) }
     ensures { (result ≡ all_free (as_map marks.old) (run k (more + 1))) × (as_map marks.new ≡ cond result (marked_all 1 (as_map marks.old) (run k (more + 1))) (as_map marks.old)) }
 {
     let i = k / 8;
@@ -28,18 +27,4 @@ pub(crate) fn take(marks: &mut [u8], k: usize, more: usize) -> bool
     }
     marks[i] = byte | bits;
     true
-}
-
-// Test 6: whether the 200 bytes of a map are the marks. There is no early way out, so that the compiler takes many bytes a step.
-pub(crate) fn map_rule(map: &[u8], marks: &[u8]) -> bool
-    requires { (length map.now ≡ 200) × (length marks.now ≡ 200) }
-    ensures { result ≡ same map.now marks.now }
-{
-    let mut differing = 0u8;
-    let mut i = 0;
-    while i < 200 {
-        differing = differing | (map[i] ^ marks[i]);
-        i += 1;
-    }
-    differing == 0
 }

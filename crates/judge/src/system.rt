@@ -5,7 +5,7 @@ ghost use Rattle.rules.specs.Index.{index_rule};
 
 use descriptor::name::name_rule;
 use sector::bytes::{all_are, byte, part, word};
-use sector::numbers::number_at;
+use sector::numbers::numbers_of;
 
 pub fn label_rule(n: usize, sector0: &[u8]) -> bool
     ensures { result ≡ label_rule n sector0.now }
@@ -13,37 +13,34 @@ pub fn label_rule(n: usize, sector0: &[u8]) -> bool
     if !name_rule(part(sector0, 0, 10)) {
         return false;
     }
-    if word(sector0, 10) != n {
+    if usize::from(word(sector0, 10)) != n {
         return false;
     }
-    if byte(sector0, 13) != 0x44 {
+    if byte(sector0, 13) != b'D' {
         return false;
     }
-    if byte(sector0, 14) != 0x53 {
+    if byte(sector0, 14) != b'S' {
         return false;
     }
-    byte(sector0, 15) == 0x4B
+    byte(sector0, 15) == b'K'
 }
 
-// Past the last number not all 128 are used, and the rest is zero.
+// Past the last number not all 128 are used, and the rest is zero. The bytes of the numbers are counted on the way, so that the index is read once.
 pub(crate) fn index_rule(n: usize, index: &[u8]) -> bool
     ensures { result ≡ index_rule n index.now }
 {
     let mut at = 0;
-    loop {
-        let k = number_at(index, at);
-        if k == 0 {
-            if at >= 256 {
-                return false;
-            }
-            return all_are(0, index, at);
-        }
+    for k in numbers_of(index) {
         if k < 2 {
             return false;
         }
-        if k >= n {
+        if usize::from(k) >= n {
             return false;
         }
         at += 2;
     }
+    if at >= 256 {
+        return false;
+    }
+    all_are(0, index, at)
 }

@@ -7,7 +7,6 @@ ghost use Rattle.rules.specs.Calls.Listing.{decimal};
 ghost use Rattle.line.specs.Laid.{Laid};
 
 use sector::buffer::lay;
-use sector::bytes::part;
 
 pub fn put(text: &mut [u8], at: usize, bytes: &[u8]) -> usize
     requires { at + length bytes.now < 18446744073709551616 }
@@ -21,11 +20,12 @@ fn digit(value: usize) -> u8
     requires { value < 10 }
     ensures { result ≡ 48 + value }
 {
-    48 + value as u8
+    b'0' + value as u8
 }
 
 // A number in decimal, then the mark that ends it, as a space or a newline. The digits come last one first, so they are
-// set from the end of an array that holds the largest number.
+// set from the end of an array that holds the largest number. The loop ends with the number and keeps the place of its first digit, which a `for` over the places would
+// have to carry out of it.
 pub fn put_number(text: &mut [u8], at: usize, number: usize, mark: u8) -> usize
     requires { at + 21 < 18446744073709551616 }
     ensures { Laid 21 text.old text.new at result (decimal number ++ (mark ∷ [])) }
@@ -36,9 +36,9 @@ pub fn put_number(text: &mut [u8], at: usize, number: usize, mark: u8) -> usize
     let mut first = 19;
     while left >= 10 {
         figures[first] = digit(left % 10);
-        left = left / 10;
+        left /= 10;
         first -= 1;
     }
     figures[first] = digit(left);
-    put(text, at, part(&figures, first, 21))
+    put(text, at, &figures[first..])
 }

@@ -1,4 +1,4 @@
--- The laws that the proofs share: a turn of each loop said of the definitions, and what is shown of an image.
+-- The laws that the proofs share: a name up to its padding, a turn of the loop over the files, and what is shown of an image.
 mod FieldSteps
 mod LineSteps
 pub mod Showing

@@ -12,7 +12,7 @@ use Rattle.rules.specs.Verdict.{verdict}
 use Rattle.rules.specs.Outcome.{Report, AmountSays, Gives}
 use Rattle.rules.specs.Calls.Listing.{listing_text, listing_tests, listing_of, refused_line, listed, shown}
 use Rattle.rules.specs.declared.Layout.{Layout}
-use Rattle.rules.specs.declared.Amount.TheVariants.{Given, Refused}
+use Rattle.rules.specs.Answers.Amount.{Given, Refused}
 use Rattle.rules.proofs.Tests.{unless_passed, unless_met_lem}
 use Rattle.rules.proofs.Splice.{splice_none, splice_front}
 use Rattle.rules.proofs.Indexes.{root_at, root_indexed}
@@ -63,13 +63,13 @@ module _ (layout : Layout) (image before : List ℕ) where
       )
 
   -- the number in either case
-  pub number_given : {size : ℕ} {after : List ℕ} → Gives AmountSays report (Given size) before after → 0 ≡ report.number
+  pub number_given : {size : ℕ} {after : List ℕ} → Gives AmountSays report (Given size) before after → report.number ≡ 0
   unfolding AmountSays
-  number_given gave = sym gave.said.0
+  number_given gave = gave.said.0
 
-  pub number_refused : {number : ℕ} {after : List ℕ} → Gives AmountSays report (Refused number) before after → number ≡ report.number
+  pub number_refused : {number : ℕ} {after : List ℕ} → Gives AmountSays report (Refused number) before after → (number ≡ report.number) × (report.number ≡ 0 → ⊥)
   unfolding AmountSays
-  number_refused gave = gave.said.0
+  number_refused gave = gave.said
 
 -- the line of a refusal is short
 pub refused_short : (number : ℕ) → number < 10 → length (refused_line number) ≤ 10

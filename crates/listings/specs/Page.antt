@@ -1,16 +1,14 @@
 -- What is written for an argument: a line that names it, as head has it, then its text. Pages are parted by an empty line.
-use Rattle.std.specs.Prelude.{Bool, cond, List, [], ◌∷◌, ◌++◌, ℕ}
+use Rattle.std.specs.Prelude.{Bool, cond, List, [], ◌∷◌, ◌++◌, ℕ, Option, Some, None}
 use Rattle.rules.specs.Bytes.{part}
 use Rattle.rules.specs.Calls.Listing.{listed}
 use Rattle.rules.specs.declared.Layout.{Layout}
 use Rattle.line.specs.Letters.{letters}
-use Rattle.input.specs.declared.Received.{Received}
-use Rattle.input.specs.declared.Received.TheVariants.{Bytes, Failed}
 
 -- the text of what was put into the buffer, or the line of an image that was not read
-unfoldable pub text_of : Layout → Received → List ℕ → List ℕ
-text_of layout (Bytes count) buffer = listed layout (part buffer 0 count)
-text_of layout Failed buffer = letters "-\n"
+unfoldable pub text_of : Layout → Option ℕ → List ℕ → List ℕ
+text_of layout (Some count) buffer = listed layout (part buffer 0 count)
+text_of layout None buffer = letters "-\n"
 
 -- an empty line in front of all pages but the first
 unfoldable pub parting_of : Bool → List ℕ

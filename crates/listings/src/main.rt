@@ -8,17 +8,18 @@
 // line `-`, with the reason on standard error, and the images after it are listed all the same.
 #![tactic(auto)]
 
-ghost use Rattle.std.specs.Prelude.{◌≡◌, [], ◌∷◌, ◌+◌, length};
+ghost use Rattle.std.specs.Prelude.{◌≡◌, [], ◌∷◌, ◌+◌, ◌≤◌, length};
 ghost use Rattle.rules.specs.Bytes.{part, splice};
 ghost use Rattle.rules.specs.Verdict.{verdict};
 ghost use Rattle.rules.specs.Calls.Listing.{listed};
 ghost use Rattle.line.specs.Laid.{Laid};
+ghost use Rattle.console.specs.Mark.{digit_of};
 ghost use Rattle.listings.specs.Page.{text_of, parting_of, page_of};
 
-use console::options::{ARGUMENT_ROOM, count_arguments, read_argument, read_options, usage};
-use console::reason::fail;
-use console::tally::{count, tell};
-use input::{IMAGE_ROOM, Received, read_file};
+use console::images::{Program, each_image, finish};
+use console::mark::{Mark, mark_by};
+use console::options::{ARGUMENT_ROOM, count_arguments, read_options, usage};
+use input::{IMAGE_ROOM, read_file};
 use line::put;
 use listing::show;
 use rules::Layout;
@@ -29,34 +30,44 @@ use std::io;
 // Room for every listing: a line of at most 21 bytes and at most 127 of at most 35.
 const TEXT_ROOM: usize = 4466;
 
+const USAGE: &[u8] = b"usage: listings [--marks] [--directories] [--] IMAGE...
+Lists each image of a disk behind a line that names it: its name, size and free count, then a line a
+file. REFUSED and its number for one that is no sound volume, - for one that cannot be read.
+How many there were of each number is the last line on standard error.
+  --marks        by the rule with marks: status bit 10 hex, changed since backup, is allowed, and
+                 each file has a last field, M where the bit is set or else a hyphen
+  --directories  by the second edition: sector 0 has entries of directories; the files are the root's
+  -h, --help     this text
+";
+
 // What an image is counted as, and the length of its text.
-#[derive(Drop)]
+#[derive(Clone, Copy)]
 struct Listed {
-    mark: u8,
+    mark: Mark,
     size: usize,
 }
 
 // Each `put_` puts a text at the front of the lent one and gives its length.
-fn put_listing(layout: Layout, image: &[u8], text: &mut [u8]) -> Listed
-    requires { length text.old ≡ 4466 }
+fn put_listing(layout: Layout, image: &[u8], text: &mut [u8; TEXT_ROOM]) -> Listed
     ensures size_after { part text.new 0 result.size ≡ listed layout image.now }
     ensures size_value { (result.size ≡ length (listed layout image.now)) × (text.new ≡ splice text.old 0 (listed layout image.now)) }
-    ensures mark_value { result.mark ≡ 48 + verdict layout image.now }
+    ensures mark_value { digit_of result.mark ≡ 48 + verdict layout image.now }
 {
     let shown = show(layout, image, text);
     Listed {
-        mark: b'0' + shown.number as u8,
+        mark: mark_by(shown.verdict),
         size: shown.size,
     }
 }
 
+#[tactic(auto, unfolding(console::specs::Mark::digit_of))]
 fn put_unread(text: &mut [u8]) -> Listed
     ensures size_value { (result.size ≡ 2) × (text.new ≡ splice text.old 0 (0x2D ∷ (10 ∷ []))) }
-    ensures mark_value { result.mark ≡ 0x2D }
+    ensures mark_value { digit_of result.mark ≡ 0x2D }
 {
     lay(text, 0, b"-\n");
     Listed {
-        mark: b'-',
+        mark: None,
         size: 2,
     }
 }
@@ -71,122 +82,71 @@ fn put_parting(first: bool, page: &mut [u8]) -> usize
     put(page, 0, b"\n")
 }
 
-// The text is the first `size` bytes of that lent. As much of the page as there is room for; its length is given in any case.
-fn put_page(first: bool, path: &[u8], text: &[u8], size: usize, page: &mut [u8]) -> usize
-    requires { length text.now ≡ 4466 }
-    ensures { (result ≡ length (page_of first path.now (part text.now 0 size))) × (page.new ≡ splice page.old 0 (page_of first path.now (part text.now 0 size))) }
+// As much of the page as there is room for; its length is given in any case.
+fn put_page(first: bool, path: &[u8], text: &[u8], page: &mut [u8]) -> usize
+    requires { length text.now ≤ 4466 }
+    ensures { (result ≡ length (page_of first path.now text.now)) × (page.new ≡ splice page.old 0 (page_of first path.now text.now)) }
 {
     let parted = put_parting(first, page);
     let begun = put(page, parted, b"==> ");
     let named = put(page, begun, path);
     let headed = put(page, named, b" <==\n");
-    put(page, headed, part(text, 0, size))
+    put(page, headed, text)
 }
 
-fn put_received(layout: Layout, received: Received, buffer: &[u8], text: &mut [u8]) -> Listed
-    requires { length text.old ≡ 4466 }
+#[tactic(auto, unfolding(crate::specs::Page::text_of, line::specs::Letters::letters))]
+fn put_received(
+    layout: Layout,
+    received: Option<usize>,
+    buffer: &[u8],
+    text: &mut [u8; TEXT_ROOM],
+) -> Listed
     ensures { (result.size ≡ length (text_of layout received buffer.now)) × (text.new ≡ splice text.old 0 (text_of layout received buffer.now)) }
 {
     match received {
-        Received::Bytes(length) => put_listing(layout, part(buffer, 0, length), text),
-        Received::Failed => put_unread(text),
+        Some(length) => put_listing(layout, part(buffer, 0, length), text),
+        None => put_unread(text),
     }
 }
 
-// The page is put together where the image was, and written at once, so that the pages of several
-// processes on one output do not mix; on a pipe this holds for 4,096 bytes. The answer, here and below,
-// is whether it could be written.
-fn write_page(
-    rt: HostRuntime,
-    first: bool,
-    path: &[u8],
-    size: usize,
-    buffer: &mut [u8],
-    text: &[u8],
-) -> io::Result<()>
-    requires { length text.now ≡ 4466 }
-{
-    let end = put_page(first, path, text, size, buffer);
-    rt.stdout().write_all(part(buffer, 0, end))
-}
-
-// Lists the image of that path, counts it and writes its page.
-fn list_file(
+// How images are listed, whether the next page is the first, the buffer that each image is read into, and that of its text.
+#[derive(Drop)]
+struct Lister<'a> {
     rt: HostRuntime,
     layout: Layout,
     first: bool,
-    path: &mut [u8],
-    buffer: &mut [u8],
-    text: &mut [u8],
-    tally: &mut [usize; 8],
-) -> io::Result<()>
-    requires { length text.old ≡ 4466 }
-{
-    let received = read_file(rt, path, buffer);
-    let listed = put_received(layout, received, buffer, text);
-    count(tally, listed.mark);
-    write_page(rt, first, path, listed.size, buffer, text)
+    buffer: &'a mut [u8; IMAGE_ROOM],
+    text: &'a mut [u8; TEXT_ROOM],
 }
 
-fn list_argument(
-    rt: HostRuntime,
-    layout: Layout,
-    first: bool,
-    position: usize,
-    argument: &mut [u8],
-    buffer: &mut [u8],
-    text: &mut [u8],
-    tally: &mut [usize; 8],
-) -> io::Result<()>
-    requires { length text.old ≡ 4466 }
-{
-    match read_argument(rt, position, argument) {
-        Ok(length) => list_file(
-            rt,
-            layout,
-            first,
-            &mut argument[..length],
-            buffer,
-            text,
-            tally,
-        ),
-        Err(error) => {
-            fail(rt, b"argument", error);
-            let listed = put_unread(text);
-            count(tally, listed.mark);
-            write_page(rt, first, b"", listed.size, buffer, text)
-        }
+impl Lister<'_> {
+    // The text is that of so many bytes. The page is put together where the image was, and written at once, so that the
+    // pages of several processes on one output do not mix; on a pipe this holds for 4,096 bytes.
+    fn write_page(&mut self, path: &[u8], size: usize) -> io::Result<()> {
+        let page = &mut *self.buffer;
+        let end = put_page(self.first, path, part(self.text, 0, size), page);
+        self.first = false;
+        self.rt.stdout().write_all(part(page, 0, end))
     }
 }
 
-fn list_arguments(
-    rt: HostRuntime,
-    layout: Layout,
-    first: usize,
-    end: usize,
-    argument: &mut [u8; ARGUMENT_ROOM],
-    buffer: &mut [u8; IMAGE_ROOM],
-    text: &mut [u8; TEXT_ROOM],
-    tally: &mut [usize; 8],
-) -> io::Result<()> {
-    for position in first..end {
-        list_argument(
-            rt,
-            layout,
-            position == first,
-            position,
-            argument,
-            buffer,
-            text,
-            tally,
-        )?;
+impl Program for Lister<'_> {
+    fn take(&mut self, path: &mut [u8]) -> io::Result<Mark> {
+        let received = read_file(self.rt, path, self.buffer);
+        let listed = put_received(self.layout, received, self.buffer, self.text);
+        self.write_page(path, listed.size)?;
+        Ok(listed.mark)
     }
-    Ok(())
+
+    fn take_unread(&mut self) -> io::Result<Mark> {
+        let listed = put_unread(self.text);
+        self.write_page(b"", listed.size)?;
+        Ok(listed.mark)
+    }
 }
 
-// Argument 0 is the program's own name. A page that cannot be written ends the run: no later one would
-// do better. The buffers are arrays down to the loop, which keeps their lengths by their types; of a
-// slice of a large array the prover would count them.
+// Argument 0 is the program's own name. The buffers are arrays, which keep their lengths by their types; of
+// a slice of a large array the prover would count them.
 fn run(
     rt: HostRuntime,
     argument: &mut [u8; ARGUMENT_ROOM],
@@ -195,35 +155,22 @@ fn run(
 ) {
     let end = count_arguments(rt);
     let options = read_options(rt, end, argument);
-    if usage(
-        rt,
-        options.help,
-        options.unknown || options.verbose || options.sums,
-        b"usage: listings [--marks] [--directories] [--] IMAGE...
-Lists each image of a disk behind a line that names it: its name, size and free count, then a line a
-file. REFUSED and its number for one that is no sound volume, - for one that cannot be read.
-How many there were of each number is the last line on standard error.
-  --marks        by the rule with marks: status bit 10 hex, changed since backup, is allowed, and
-                 each file has a last field, M where the bit is set or else a hyphen
-  --directories  by the second edition: sector 0 has entries of directories; the files are the root's
-  -h, --help     this text
-",
-    ) {
+    let wrong = options.unknown || options.verbose || options.sums;
+    if usage(rt, options.help, wrong, USAGE) {
         return;
     }
-    let layout = Layout {
-        marks: options.marks,
-        directories: options.directories,
+    let mut lister = Lister {
+        rt,
+        layout: options.layout(),
+        first: true,
+        buffer,
+        text,
     };
-    let first = options.first;
-    let mut tally = [0usize; 8];
-    match list_arguments(rt, layout, first, end, argument, buffer, text, &mut tally) {
-        Ok(()) => tell(rt, end - first, &tally),
-        Err(error) => fail(rt, b"standard output", error),
-    }
+    let outcome = each_image(rt, options.first..end, argument, &mut lister);
+    finish(rt, end - options.first, outcome);
 }
 
-// The buffers are lent from here, once; every function below the loop works on plain slices.
+// The buffers are lent from here, once.
 fn main(rt: HostRuntime) {
     let mut argument = [0u8; ARGUMENT_ROOM];
     let mut buffer = [0u8; IMAGE_ROOM];

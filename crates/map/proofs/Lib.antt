@@ -2,4 +2,5 @@
 mod FreeSteps
 mod BitLaws
 mod HeldBytes
+mod MapFilled
 pub mod SearchLaws

@@ -4,7 +4,7 @@ ghost use Rattle.rules.specs.Bytes.{with_bit};
 ghost use Rattle.rules.specs.Chain.{places};
 ghost use Rattle.rules.specs.Map.{marked, marked_all};
 
-use descriptor::chain::{Cursor, Step};
+use descriptor::chain::places_of;
 
 // A byte with its bit j made `bit`.
 pub fn with_bit(value: u8, j: usize, bit: u8) -> u8
@@ -38,9 +38,7 @@ pub fn clear_file(sector0: &mut [u8], k: usize, chain: &[u8])
     ensures { sector0.new ≡ marked_all 0 sector0.old (k ∷ places chain.now) }
 {
     mark_as(sector0, k, 0);
-    let mut cursor = Cursor::first();
-    while let Step::Place(place, next) = cursor.step(chain) {
-        mark_as(sector0, place, 0);
-        cursor = next;
+    for place in places_of(chain) {
+        mark_as(sector0, usize::from(place), 0);
     }
 }

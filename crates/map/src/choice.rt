@@ -5,7 +5,8 @@ ghost use Rattle.map.specs.Search.{first, Searched};
 
 use sector::bytes::byte;
 
-// The lowest free sector from `from` on, or `end` where all before it are taken. A full byte of the map is passed at once.
+// The lowest free sector from `from` on, or `end` where all before it are taken. A full byte of the map is passed at once, so the step
+// is one or eight and no range has it.
 fn lowest_free(sector0: &[u8], from: usize, end: usize) -> usize
     requires { (from ≤ end) × (end ≤ 1600) }
     ensures { (result ≡ lowest_free sector0.now (end - from) from) × (result ≤ end) }
@@ -25,16 +26,16 @@ fn lowest_free(sector0: &[u8], from: usize, end: usize) -> usize
 }
 
 // The sector for a new descriptor: the lowest free one from 2 up.
-pub fn descriptor_choice(sector0: &[u8]) -> usize
+pub fn descriptor_choice(sector0: &[u8]) -> u16
     ensures { (result ≡ descriptor_choice sector0.now) × (result ≤ 1600) }
 {
-    lowest_free(sector0, 2, 1600)
+    lowest_free(sector0, 2, 1600) as u16
 }
 
 // The search for data: the sector that it found, and how far it has come, so that the next one does not begin anew.
-#[derive(Clone, Copy)]
+#[derive(Clone, Copy, Debug, PartialEq, Eq)]
 pub struct Search {
-    pub sector: usize,
+    pub sector: u16,
     pub high: usize,
     pub low: usize,
 }
@@ -60,14 +61,14 @@ impl Search {
         let high = lowest_free(sector0, self.high, 1600);
         if high < 1600 {
             return Search {
-                sector: high,
+                sector: high as u16,
                 high,
                 low,
             };
         }
         let lowest = lowest_free(sector0, low, 34);
         Search {
-            sector: lowest,
+            sector: lowest as u16,
             high,
             low: lowest,
         }

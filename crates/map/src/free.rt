@@ -8,12 +8,9 @@ use sector::bytes::part;
 pub fn free_count_of(sector0: &[u8]) -> usize
     ensures { (result ≡ free_count sector0.now) × (result ≤ 1600) }
 {
-    let map = part(sector0, 56, 200);
-    let mut taken = 0u32;
-    let mut i = 0;
-    while i < map.len() {
-        taken += u8::count_ones(map[i]);
-        i += 1;
+    let mut taken = 0;
+    for byte in part(sector0, 56, 200) {
+        taken += byte.count_ones();
     }
     1600 - taken as usize
 }

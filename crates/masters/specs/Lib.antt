@@ -1,3 +1,4 @@
 -- The definitions that the contracts of `masters` cite.
+pub mod Master
 pub mod Packed
 pub mod Line

@@ -2,8 +2,7 @@
 use Rattle.std.specs.Prelude.{ℕ, ◌+◌, ◌/◌, ◌%◌, cond, List, [], ◌∷◌, ◌++◌, nat_lt}
 use Rattle.rules.specs.Calls.Listing.{decimal}
 use Rattle.line.specs.Letters.{letters}
-use Rattle.masters.specs.declared.Master.{Master}
-use Rattle.masters.specs.declared.Master.TheVariants.{Packed, Refused, Unread}
+use Rattle.masters.specs.Master.{Master, Packed, Refused, Unread}
 use Rattle.masters.specs.declared.Middle.{Middle}
 use Rattle.masters.specs.declared.Middle.TheVariants.{Nothing, Place, Sum}
 

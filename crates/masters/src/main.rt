@@ -15,22 +15,38 @@
 ghost use Rattle.std.specs.Prelude.{◌≡◌, ◌+◌, ◌<◌, length};
 ghost use Rattle.rules.specs.Bytes.{splice};
 ghost use Rattle.line.specs.Laid.{Laid};
-ghost use Rattle.sums.specs.Table.{Table};
-ghost use Rattle.masters.specs.Packed.{master_of, packed_over};
+ghost use Rattle.sums.specs.Lent.{AllBelow};
+ghost use Rattle.console.specs.Mark.{digit_of};
+ghost use Rattle.masters.specs.Packed.{mastered, master_of, packed_over};
 ghost use Rattle.masters.specs.Line.{mark_of, hex_digit, sum_text, middle_of, line_of};
 
+use console::images::finish;
+use console::mark::{Mark, digit_of, mark_by};
 use console::name::one_line;
 use console::options::{ARGUMENT_ROOM, count_arguments, read_argument, read_options, usage};
 use console::reason::fail;
-use console::tally::{count, tell};
-use input::{IMAGE_ROOM, Received, read_file};
+use console::tally::Tally;
+use input::{IMAGE_ROOM, read_file};
 use line::{put, put_number};
 use packing::pack;
-use rules::{Answer, Layout};
+use rules::{Fault, Layout, Refusal};
 use sector::bytes::{part, same};
 use std::io;
 use sums::sum::sum_of;
-use sums::table::{enter, first_under, next_under};
+use sums::table::Table;
+
+const USAGE: &[u8] = b"usage: masters [--sums] [--marks] [--directories] [--] IMAGE...
+Finds duplicate disks: for each image a line with its number, the place among the images, from 1, of
+the first one that packs to the same bytes, and the image; - in the place of one that is no sound
+volume, - - for one that cannot be read.
+How many there were of each number is the last line on standard error.
+  --sums         in the place's stead the sum of the packed bytes, in 16 hexadecimal digits: images
+                 with different sums are different disks, and those with equal ones are equal but
+                 for chance
+  --marks        by the rule with marks: status bit 10 hex, changed since backup, is allowed
+  --directories  by the second edition: sector 0 has entries of directories, which are packed too
+  -h, --help     this text
+";
 
 // The longest image that can be sound.
 const PACKED_ROOM: usize = 409600;
@@ -38,13 +54,8 @@ const PACKED_ROOM: usize = 409600;
 // The table's places, one more than it has images: more than are named on most command lines.
 const PLACES: usize = 131072;
 
-// What packing an image gives: how many bytes its packed form has, its number, or that there was no image.
-#[derive(Clone, Copy)]
-enum Master {
-    Packed(usize),
-    Refused(u32),
-    Unread,
-}
+// How many bytes the packed form of an image has, or why it has none; nothing of one that was not read.
+type Master = Option<Result<usize, Refusal>>;
 
 // What stands in the middle of a line.
 #[derive(Clone, Copy)]
@@ -55,37 +66,31 @@ enum Middle {
 }
 
 // Packs what was read. What is longer than the packed form can be is no volume.
-fn pack_received(layout: Layout, received: Received, source: &[u8], packed: &mut [u8]) -> Master
-    ensures value { result ≡ master_of layout received source.now packed.old }
+fn pack_received(
+    layout: Layout,
+    received: Option<usize>,
+    source: &[u8],
+    packed: &mut [u8],
+) -> Master
+    ensures value { mastered result ≡ master_of layout received source.now packed.old }
     ensures packed_after { packed.new ≡ packed_over layout received source.now packed.old }
 {
-    let Received::Bytes(length) = received else {
-        return Master::Unread;
-    };
+    let length = received?;
     if length > packed.len() {
-        return Master::Refused(1);
+        return Some(Err(Refusal::Unsound(Fault::Length)));
     }
-    let answer = pack(layout, part(source, 0, length), &mut packed[0..length]);
-    match answer {
-        Answer::Done => Master::Packed(length),
-        Answer::Refused(number) => Master::Refused(number),
+    match pack(layout, part(source, 0, length), &mut packed[0..length]) {
+        Ok(()) => Some(Ok(length)),
+        Err(refusal) => Some(Err(refusal)),
     }
 }
 
-// What a line begins with. Packing into as many bytes is refused with 1 to 6 and no other number.
-fn mark_of(master: Master) -> u8
-    ensures { result ≡ mark_of master }
+// What a line begins with. Packing into as many bytes is refused for a fault of the image alone.
+fn mark_of(master: Master) -> Mark
+    ensures { digit_of result ≡ mark_of (mastered master) }
 {
-    match master {
-        Master::Packed(_) => b'0',
-        Master::Refused(number) => {
-            if number > 6 {
-                return b'-';
-            }
-            b'0' + number as u8
-        }
-        Master::Unread => b'-',
-    }
+    let answer = master?;
+    mark_by(answer)
 }
 
 // The hexadecimal digit of a sum that counts units of so many.
@@ -139,307 +144,207 @@ fn put_middle(text: &mut [u8], at: usize, middle: Middle) -> usize
 }
 
 // As much of the line as there is room for; its length is given in any case.
-fn put_line(mark: u8, middle: Middle, path: &[u8], buffer: &mut [u8]) -> usize
-    ensures { (result ≡ length (line_of mark middle path.now)) × (buffer.new ≡ splice buffer.old 0 (line_of mark middle path.now)) }
+fn put_line(mark: Mark, middle: Middle, path: &[u8], buffer: &mut [u8]) -> usize
+    ensures { (result ≡ length (line_of (digit_of mark) middle path.now)) × (buffer.new ≡ splice buffer.old 0 (line_of (digit_of mark) middle path.now)) }
 {
-    let front = [mark, b' '];
+    let front = [digit_of(mark), b' '];
     let next = put(buffer, 0, &front);
     let told = put_middle(buffer, next, middle);
     let named = put(buffer, told, path);
     put(buffer, named, b"\n")
 }
 
-// Packs the image that an argument names. There are `skipped` options in front of the images, so the sum is an argument's position.
-fn pack_argument(
+// How images are packed, how many options stand in front of them, and the buffers that a path and an image are read into.
+#[derive(Drop)]
+struct Packer<'a> {
     rt: HostRuntime,
     layout: Layout,
-    place: usize,
     skipped: usize,
-    argument: &mut [u8],
-    source: &mut [u8],
-    packed: &mut [u8],
-) -> Master {
-    match read_argument(rt, skipped.wrapping_add(place), argument) {
-        Ok(length) => {
-            let received = read_file(rt, &mut argument[..length], source);
-            pack_received(layout, received, source, packed)
+    argument: &'a mut [u8; ARGUMENT_ROOM],
+    source: &'a mut [u8; IMAGE_ROOM],
+}
+
+impl Packer<'_> {
+    // Packs the image at a place. There are `skipped` options in front of the images, so the sum is an argument's position.
+    fn pack_at(&mut self, place: usize, packed: &mut [u8; PACKED_ROOM]) -> Master {
+        let argument = &mut *self.argument;
+        match read_argument(self.rt, self.skipped.wrapping_add(place), argument) {
+            Ok(length) => {
+                let source = &mut *self.source;
+                let received = read_file(self.rt, &mut argument[..length], source);
+                pack_received(self.layout, received, source, packed)
+            }
+            Err(error) => {
+                fail(self.rt, b"argument", error);
+                None
+            }
         }
-        Err(error) => {
-            fail(rt, b"argument", error);
-            Master::Unread
+    }
+
+    // The line is put together where the image was, and written at once, so that the lines of several processes on one output do not mix.
+    fn write_line(&mut self, mark: Mark, middle: Middle, length: usize) -> io::Result<()> {
+        let rt = self.rt;
+        let source = &mut *self.source;
+        let path = part(self.argument, 0, length);
+        let size = put_line(mark, middle, path, source);
+        rt.stdout().write_all(part(source, 0, size))
+    }
+
+    // The line of the image at a place, or of none where its argument cannot be read: why was told when its image was to be packed.
+    fn write_at(&mut self, place: usize, mark: Mark, middle: Middle) -> io::Result<()> {
+        let argument = &mut *self.argument;
+        match read_argument(self.rt, self.skipped.wrapping_add(place), argument) {
+            Ok(length) => {
+                one_line(&mut argument[..length]);
+                self.write_line(mark, middle, length)
+            }
+            Err(_) => self.write_line(mark, middle, 0),
         }
     }
 }
 
-// Whether the image at a place has this packed form.
-fn has_form(
-    rt: HostRuntime,
-    layout: Layout,
-    place: usize,
-    skipped: usize,
-    form: &[u8],
-    argument: &mut [u8],
-    source: &mut [u8],
-    other: &mut [u8],
-) -> bool {
-    let master = pack_argument(rt, layout, place, skipped, argument, source, other);
-    match master {
-        Master::Packed(length) => same(form, part(other, 0, length)),
-        Master::Refused(_) => false,
-        Master::Unread => false,
-    }
+// What finds the images of a packed form, with the buffer that another image's form is packed into.
+#[derive(Drop)]
+struct Finder<'a> {
+    packer: Packer<'a>,
+    other: &'a mut [u8; PACKED_ROOM],
 }
 
-// The place of the image in the table that has this sum and this packed form, or 0.
-fn entered_with(
-    rt: HostRuntime,
-    layout: Layout,
-    sum: u64,
-    skipped: usize,
-    form: &[u8],
-    argument: &mut [u8; ARGUMENT_ROOM],
-    source: &mut [u8; IMAGE_ROOM],
-    other: &mut [u8; PACKED_ROOM],
-    last: &[u32; PLACES],
-    earlier: &[u32; PLACES],
-    sums: &[u64; PLACES],
-) -> usize {
-    let mut place = first_under(sum, last, earlier, sums);
-    while place != 0 {
-        if has_form(rt, layout, place, skipped, form, argument, source, other) {
+impl Finder<'_> {
+    // Whether the image at a place has this packed form.
+    fn has_form(&mut self, place: usize, form: &[u8]) -> bool {
+        match self.packer.pack_at(place, self.other) {
+            Some(Ok(length)) => same(form, part(self.other, 0, length)),
+            _ => false,
+        }
+    }
+
+    // The place of the image in the table that has this sum and this packed form.
+    fn entered_with(&mut self, sum: u64, form: &[u8], table: &Table<'_>) -> Option<usize> {
+        for place in table.places_under(sum) {
+            if self.has_form(place, form) {
+                return Some(place);
+            }
+        }
+        None
+    }
+
+    // The first place past the table's end, and before this one, whose image has this packed form, or this one.
+    fn first_past(&mut self, own: usize, form: &[u8]) -> usize {
+        for place in PLACES..own {
+            if self.has_form(place, form) {
+                return place;
+            }
+        }
+        own
+    }
+
+    // The place of the first image that has this packed form, which the image at `own` has. One that is the first of its kind is
+    // entered into the table, so that under a sum no two are equal.
+    fn first_with(&mut self, own: usize, form: &[u8], table: &mut Table<'_>) -> usize
+        requires { AllBelow table.old own }
+        ensures { AllBelow table.new (own + 1) }
+    {
+        let sum = sum_of(form);
+        if let Some(place) = self.entered_with(sum, form, table) {
             return place;
         }
-        place = next_under(place, sum, earlier, sums);
+        table.enter(own, sum);
+        self.first_past(own, form)
     }
-    0
-}
 
-// The first place past the table's end, and before this one, whose image has this packed form, or this one.
-fn first_past(
-    rt: HostRuntime,
-    layout: Layout,
-    own: usize,
-    skipped: usize,
-    form: &[u8],
-    argument: &mut [u8; ARGUMENT_ROOM],
-    source: &mut [u8; IMAGE_ROOM],
-    other: &mut [u8; PACKED_ROOM],
-) -> usize {
-    for place in PLACES..own {
-        if has_form(rt, layout, place, skipped, form, argument, source, other) {
-            return place;
+    // What stands in the middle of the line of a sound image.
+    fn middle_of(
+        &mut self,
+        own: usize,
+        only_sums: bool,
+        form: &[u8],
+        table: &mut Table<'_>,
+    ) -> Middle
+        requires { AllBelow table.old own }
+        ensures { AllBelow table.new (own + 1) }
+    {
+        if only_sums {
+            return Middle::Sum(sum_of(form));
         }
+        Middle::Place(self.first_with(own, form, table))
     }
-    own
-}
 
-// The place of the first image that has this packed form, which the image at `own` has. One that is the first of its kind is entered
-// into the table, so that under a sum no two are equal.
-fn first_with(
-    rt: HostRuntime,
-    layout: Layout,
-    own: usize,
-    skipped: usize,
-    form: &[u8],
-    argument: &mut [u8; ARGUMENT_ROOM],
-    source: &mut [u8; IMAGE_ROOM],
-    other: &mut [u8; PACKED_ROOM],
-    last: &mut [u32; PLACES],
-    earlier: &mut [u32; PLACES],
-    sums: &mut [u64; PLACES],
-) -> usize
-    requires { Table last.old own }
-    ensures { Table last.new (own + 1) }
-{
-    let sum = sum_of(form);
-    let entered = entered_with(
-        rt, layout, sum, skipped, form, argument, source, other, last, earlier, sums,
-    );
-    if entered != 0 {
-        return entered;
+    // Packs an image, counts it and writes its line.
+    fn find_one(
+        &mut self,
+        own: usize,
+        only_sums: bool,
+        packed: &mut [u8; PACKED_ROOM],
+        table: &mut Table<'_>,
+        tally: &mut Tally,
+    ) -> io::Result<()>
+        requires { AllBelow table.old own }
+        ensures { AllBelow table.new (own + 1) }
+    {
+        let master = self.packer.pack_at(own, packed);
+        let mark = mark_of(master);
+        tally.count(mark);
+        let Some(Ok(length)) = master else {
+            return self.packer.write_at(own, mark, Middle::Nothing);
+        };
+        let middle = self.middle_of(own, only_sums, part(packed, 0, length), table);
+        self.packer.write_at(own, mark, middle)
     }
-    enter(own, sum, last, earlier, sums);
-    first_past(rt, layout, own, skipped, form, argument, source, other)
-}
 
-// What stands in the middle of the line of a sound image.
-fn middle_of(
-    rt: HostRuntime,
-    layout: Layout,
-    own: usize,
-    skipped: usize,
-    only_sums: bool,
-    form: &[u8],
-    argument: &mut [u8; ARGUMENT_ROOM],
-    source: &mut [u8; IMAGE_ROOM],
-    other: &mut [u8; PACKED_ROOM],
-    last: &mut [u32; PLACES],
-    earlier: &mut [u32; PLACES],
-    sums: &mut [u64; PLACES],
-) -> Middle
-    requires { Table last.old own }
-    ensures { Table last.new (own + 1) }
-{
-    if only_sums {
-        return Middle::Sum(sum_of(form));
+    // Its own loop and not `each_image`: that the table's places are before the image's is an invariant of it.
+    fn find_all(
+        &mut self,
+        images: usize,
+        only_sums: bool,
+        packed: &mut [u8; PACKED_ROOM],
+        table: &mut Table<'_>,
+    ) -> io::Result<Tally>
+        requires { AllBelow table.old 1 }
+    {
+        let mut tally = Tally::default();
+        for own in 1..=images {
+            self.find_one(own, only_sums, packed, table, &mut tally)?;
+        }
+        Ok(tally)
     }
-    let first = first_with(
-        rt, layout, own, skipped, form, argument, source, other, last, earlier, sums,
-    );
-    Middle::Place(first)
-}
-
-// The line is put together where the image was, and written at once, so that the lines of several processes on one output do not mix.
-// The answer, here and below, is whether it could be written.
-fn write_line(
-    rt: HostRuntime,
-    mark: u8,
-    middle: Middle,
-    path: &mut [u8],
-    source: &mut [u8],
-) -> io::Result<()> {
-    one_line(path);
-    let size = put_line(mark, middle, path, source);
-    rt.stdout().write_all(part(source, 0, size))
-}
-
-// The line of the image that an argument names, or of none where it cannot be read: why was told when its image was to be packed.
-fn write_argument(
-    rt: HostRuntime,
-    mark: u8,
-    middle: Middle,
-    position: usize,
-    argument: &mut [u8],
-    source: &mut [u8],
-) -> io::Result<()> {
-    match read_argument(rt, position, argument) {
-        Ok(length) => write_line(rt, mark, middle, &mut argument[..length], source),
-        Err(_) => write_line(rt, mark, middle, &mut [], source),
-    }
-}
-
-// Packs an image, counts it and writes its line.
-fn find_one(
-    rt: HostRuntime,
-    layout: Layout,
-    own: usize,
-    skipped: usize,
-    only_sums: bool,
-    argument: &mut [u8; ARGUMENT_ROOM],
-    source: &mut [u8; IMAGE_ROOM],
-    packed: &mut [u8; PACKED_ROOM],
-    other: &mut [u8; PACKED_ROOM],
-    last: &mut [u32; PLACES],
-    earlier: &mut [u32; PLACES],
-    sums: &mut [u64; PLACES],
-    tally: &mut [usize; 8],
-) -> io::Result<()>
-    requires { Table last.old own }
-    ensures { Table last.new (own + 1) }
-{
-    let master = pack_argument(rt, layout, own, skipped, argument, source, packed);
-    let mark = mark_of(master);
-    count(tally, mark);
-    let position = skipped.wrapping_add(own);
-    let Master::Packed(length) = master else {
-        return write_argument(rt, mark, Middle::Nothing, position, argument, source);
-    };
-    let form = part(packed, 0, length);
-    let middle = middle_of(
-        rt, layout, own, skipped, only_sums, form, argument, source, other, last, earlier, sums,
-    );
-    write_argument(rt, mark, middle, position, argument, source)
-}
-
-fn find_all(
-    rt: HostRuntime,
-    layout: Layout,
-    images: usize,
-    skipped: usize,
-    only_sums: bool,
-    argument: &mut [u8; ARGUMENT_ROOM],
-    source: &mut [u8; IMAGE_ROOM],
-    packed: &mut [u8; PACKED_ROOM],
-    other: &mut [u8; PACKED_ROOM],
-    last: &mut [u32; PLACES],
-    earlier: &mut [u32; PLACES],
-    sums: &mut [u64; PLACES],
-    tally: &mut [usize; 8],
-) -> io::Result<()>
-    requires { Table last.old 1 }
-{
-    for own in 1..=images {
-        find_one(
-            rt, layout, own, skipped, only_sums, argument, source, packed, other, last, earlier,
-            sums, tally,
-        )?;
-    }
-    Ok(())
 }
 
 // Argument 0 is the program's own name. A line that cannot be written ends the run: no later one would do better. The buffers are
-// arrays down to the loops, which keep their lengths by their types; of a slice of a large array the prover would count them.
-fn run(
+// arrays, which keep their lengths by their types; of a slice of a large array the prover would count them.
+fn run<'a>(
     rt: HostRuntime,
-    argument: &mut [u8; ARGUMENT_ROOM],
-    source: &mut [u8; IMAGE_ROOM],
+    argument: &'a mut [u8; ARGUMENT_ROOM],
+    source: &'a mut [u8; IMAGE_ROOM],
     packed: &mut [u8; PACKED_ROOM],
-    other: &mut [u8; PACKED_ROOM],
-    last: &mut [u32; PLACES],
-    earlier: &mut [u32; PLACES],
-    sums: &mut [u64; PLACES],
+    other: &'a mut [u8; PACKED_ROOM],
+    table: &mut Table<'_>,
 )
-    requires { Table last.old 1 }
+    requires { AllBelow table.old 1 }
 {
     let end = count_arguments(rt);
     let options = read_options(rt, end, argument);
-    if usage(
-        rt,
-        options.help,
-        options.unknown || options.verbose,
-        b"usage: masters [--sums] [--marks] [--directories] [--] IMAGE...
-Finds duplicate disks: for each image a line with its number, the place among the images, from 1, of
-the first one that packs to the same bytes, and the image; - in the place of one that is no sound
-volume, - - for one that cannot be read.
-How many there were of each number is the last line on standard error.
-  --sums         in the place's stead the sum of the packed bytes, in 16 hexadecimal digits: images
-                 with different sums are different disks, and those with equal ones are equal but
-                 for chance
-  --marks        by the rule with marks: status bit 10 hex, changed since backup, is allowed
-  --directories  by the second edition: sector 0 has entries of directories, which are packed too
-  -h, --help     this text
-",
-    ) {
+    let wrong = options.unknown || options.verbose;
+    if usage(rt, options.help, wrong, USAGE) {
         return;
     }
     let first = options.first;
     if first == 0 {
         return;
     }
-    let layout = Layout {
-        marks: options.marks,
-        directories: options.directories,
+    let mut finder = Finder {
+        packer: Packer {
+            rt,
+            layout: options.layout(),
+            skipped: first - 1,
+            argument,
+            source,
+        },
+        other,
     };
     let images = end - first;
-    let mut tally = [0usize; 8];
-    match find_all(
-        rt,
-        layout,
-        images,
-        first - 1,
-        options.sums,
-        argument,
-        source,
-        packed,
-        other,
-        last,
-        earlier,
-        sums,
-        &mut tally,
-    ) {
-        Ok(()) => tell(rt, images, &tally),
-        Err(error) => fail(rt, b"standard output", error),
-    }
+    let outcome = finder.find_all(images, options.sums, packed, table);
+    finish(rt, images, outcome);
 }
 
 // The buffers are lent from here, once; every function below the loops works on plain slices.
@@ -451,14 +356,17 @@ fn main(rt: HostRuntime) {
     let mut last = [0u32; PLACES];
     let mut earlier = [0u32; PLACES];
     let mut sums = [0u64; PLACES];
+    let mut table = Table {
+        last: &mut last,
+        earlier: &mut earlier,
+        sums: &mut sums,
+    };
     run(
         rt,
         &mut argument,
         &mut source,
         &mut packed,
         &mut other,
-        &mut last,
-        &mut earlier,
-        &mut sums,
+        &mut table,
     );
 }

@@ -12,22 +12,24 @@
 // goes to standard error, and the images after it are mended all the same.
 #![tactic(auto)]
 
-ghost use Rattle.std.specs.Prelude.{◌≡◌, ◌+◌, ◌<◌, length};
+ghost use Rattle.std.specs.Prelude.{◌≡◌, ◌≤◌, length};
 ghost use Rattle.rules.specs.Bytes.{splice};
-ghost use Rattle.line.specs.Laid.{Laid};
+ghost use Rattle.console.specs.Mark.{digit_of};
 ghost use Rattle.input.specs.Filled.{Filled};
 ghost use Rattle.input.specs.Mark.{mark_of};
 ghost use Rattle.mend.specs.Mending.{fate_of, mended_over, SoundNow, counted_as};
 ghost use Rattle.mend.specs.Line.{words_of, line_of, beside_of};
 
+use console::images::{Program, each_image, finish};
+use console::mark::{Mark, digit_of};
 use console::name::path_text;
-use console::options::{ARGUMENT_ROOM, count_arguments, read_argument, read_options, usage};
+use console::options::{ARGUMENT_ROOM, count_arguments, read_options, usage};
 use console::reason::fail;
-use console::tally::{count, tell};
-use input::{IMAGE_ROOM, Received, mark_of, read_file};
+use input::{IMAGE_ROOM, read_file};
+use judge::judge;
 use line::put;
 use repairing::repair;
-use rules::{Answer, Layout};
+use rules::Layout;
 use sector::bytes::part;
 use std::fs::{File, OpenOptions};
 use std::io::Write;
@@ -35,6 +37,19 @@ use std::{fs, io};
 
 // One byte more than the longest path that the system takes.
 const PATH_ROOM: usize = 4096;
+
+const USAGE: &[u8] = b"usage: mend [--marks] [--directories] [--] IMAGE...
+Repairs images of disks in their files, as after a stop between two writes: the files of each index
+in the order of their names, and the map made anew. For each image a line with the number it had and
+what became of it: sound, mended, not mended, not read or not written.
+A mended image is written to a new file, IMAGE.mending, which takes the image's place when it is whole.
+How many there are of each number now is the last line on standard error; an image that could not be
+read or written counts as unread.
+  --marks        by the rule with marks: status bit 10 hex, changed since backup, is allowed
+  --directories  by the second edition: sector 0 has entries of directories. Without it a disk that
+                 has them is number 6, and mended to one whose map frees what they hold
+  -h, --help     this text
+";
 
 // What becomes of an image: it is sound, and left alone; it is mended, and its so many bytes are to be
 // written; repair refuses it; it was not read; it was mended, and could not be written.
@@ -48,84 +63,85 @@ enum Fate {
 }
 
 // The mark of an image as it was, and what becomes of it.
-#[derive(Drop)]
+#[derive(Clone, Copy)]
 struct Mending {
-    mark: u8,
+    mark: Mark,
     fate: Fate,
 }
 
 // Mends what was read, where it stands.
-#[tactic(auto, using(crate::proofs::MendingLaws::sound_by_mark, crate::proofs::MendingLaws::stays_by_mark), unfolding(crate::specs::Mending::SoundNow))]
-fn mend_received(layout: Layout, received: Received, buffer: &mut [u8]) -> Mending
+#[tactic(auto, unfolding(crate::specs::Mending::SoundNow, crate::specs::Mending::fate_of, crate::specs::Mending::mended_over, input::specs::Mark::mark_of, console::specs::Mark::digit_of))]
+fn mend_received(layout: Layout, received: Option<usize>, buffer: &mut [u8]) -> Mending
     requires { Filled received buffer.old }
-    ensures mark_value { result.mark ≡ mark_of layout received buffer.old }
+    ensures mark_value { digit_of result.mark ≡ mark_of layout received buffer.old }
     ensures fate_value { result.fate ≡ fate_of layout received buffer.old }
     ensures buffer_after { buffer.new ≡ mended_over layout received buffer.old }
     ensures sound_now { SoundNow layout result.fate buffer.new }
 {
-    let mark = mark_of(layout, received, buffer);
-    let Received::Bytes(length) = received else {
+    let Some(length) = received else {
         return Mending {
-            mark,
+            mark: None,
             fate: Fate::Unread,
         };
     };
-    if mark == b'0' {
+    let judged = judge(layout, part(buffer, 0, length));
+    let mark = Some(judged);
+    if judged.is_ok() {
         return Mending {
             mark,
             fate: Fate::Sound,
         };
     }
     let mut changes = [0u32; 133];
-    let answer = repair(layout, &mut buffer[0..length], &mut changes);
-    match answer {
-        Answer::Done => Mending {
+    match repair(layout, &mut buffer[..length], &mut changes) {
+        Ok(()) => Mending {
             mark,
             fate: Fate::Mended(length),
         },
-        Answer::Refused(_) => Mending {
+        Err(_) => Mending {
             mark,
             fate: Fate::Refused,
         },
     }
 }
 
-// The mark that an image counts by: a mended one is sound now, and one that repair refused has its number.
-fn counted_as(mark: u8, fate: Fate) -> u8
-    ensures { result ≡ counted_as mark fate }
+#[tactic(auto, unfolding(crate::specs::Line::words_of, line::specs::Letters::letters))]
+fn words_of(fate: Fate) -> &'static [u8]
+    ensures { (result.now ≡ words_of fate) × (length result.now ≤ 11) }
 {
     match fate {
-        Fate::Sound => b'0',
-        Fate::Mended(_) => b'0',
-        Fate::Refused => mark,
-        Fate::Unread => b'-',
-        Fate::Unwritten => b'-',
+        Fate::Sound => b"sound",
+        Fate::Mended(_) => b"mended",
+        Fate::Refused => b"not mended",
+        Fate::Unread => b"not read",
+        Fate::Unwritten => b"not written",
     }
 }
 
-fn put_words(text: &mut [u8], at: usize, fate: Fate) -> usize
-    requires { at + 11 < 18446744073709551616 }
-    ensures { Laid 11 text.old text.new at result (words_of fate) }
-{
-    match fate {
-        Fate::Sound => put(text, at, b"sound"),
-        Fate::Mended(_) => put(text, at, b"mended"),
-        Fate::Refused => put(text, at, b"not mended"),
-        Fate::Unread => put(text, at, b"not read"),
-        Fate::Unwritten => put(text, at, b"not written"),
+impl Mending {
+    // The mark that an image counts by: a mended one is sound now, and one that repair refused has its number.
+    #[tactic(auto, unfolding(crate::specs::Mending::counted_as, console::specs::Mark::digit_of))]
+    fn counted_as(self) -> Mark
+        ensures { digit_of result ≡ counted_as (digit_of self.mark) self.fate }
+    {
+        match self.fate {
+            Fate::Sound | Fate::Mended(_) => Some(Ok(())),
+            Fate::Refused => self.mark,
+            Fate::Unread | Fate::Unwritten => None,
+        }
     }
-}
 
-// As much of the line as there is room for; its length is given in any case.
-fn put_line(mark: u8, fate: Fate, path: &[u8], buffer: &mut [u8]) -> usize
-    ensures { (result ≡ length (line_of mark fate path.now)) × (buffer.new ≡ splice buffer.old 0 (line_of mark fate path.now)) }
-{
-    let front = [mark, b' '];
-    let next = put(buffer, 0, &front);
-    let named = put(buffer, next, path);
-    let parted = put(buffer, named, b": ");
-    let told = put_words(buffer, parted, fate);
-    put(buffer, told, b"\n")
+    // As much of the line as there is room for; its length is given in any case.
+    fn put_line(self, path: &[u8], buffer: &mut [u8]) -> usize
+        ensures { (result ≡ length (line_of (digit_of self.mark) self.fate path.now)) × (buffer.new ≡ splice buffer.old 0 (line_of (digit_of self.mark) self.fate path.now)) }
+    {
+        let front = [digit_of(self.mark), b' '];
+        let next = put(buffer, 0, &front);
+        let named = put(buffer, next, path);
+        let parted = put(buffer, named, b": ");
+        let told = put(buffer, parted, words_of(self.fate));
+        put(buffer, told, b"\n")
+    }
 }
 
 // The path of the file beside an image, as much of it as there is room for; its length is given in any case.
@@ -134,12 +150,6 @@ fn put_beside(path: &[u8], text: &mut [u8]) -> usize
 {
     let named = put(text, 0, path);
     put(text, named, b".mending")
-}
-
-// Tells why the file beside the image of that path was not written. What is in the buffer is of no more use.
-fn tell_beside(rt: HostRuntime, path: &[u8], error: io::Error, buffer: &mut [u8]) {
-    let size = put_beside(path, buffer);
-    fail(rt, part(buffer, 0, size), error);
 }
 
 // Makes a new file of that path: nothing has it yet.
@@ -164,159 +174,125 @@ fn remove(rt: HostRuntime, path: &[u8]) {
     }
 }
 
-// Writes the image, the first `length` bytes of the buffer, to a new file with the path `beside`. The answer
-// is whether it did; where not, no file of ours is left there.
-fn write_beside(
-    rt: HostRuntime,
-    path: &[u8],
-    beside: &[u8],
-    length: usize,
-    buffer: &mut [u8],
-) -> bool {
-    let file = match create(rt, beside) {
-        Ok(file) => file,
-        Err(error) => {
-            tell_beside(rt, path, error, buffer);
-            return false;
-        }
-    };
-    match write_image(file, part(buffer, 0, length)) {
-        Ok(()) => true,
-        Err(error) => {
-            tell_beside(rt, path, error, buffer);
-            remove(rt, beside);
-            false
-        }
-    }
-}
-
 // Gives the file of the first path the second one, in the place of the file that has it.
 fn rename(rt: HostRuntime, from: &[u8], to: &[u8]) -> io::Result<()> {
     fs::rename(&rt, path_text(from)?, path_text(to)?)
 }
 
-// Has the image that is in the buffer in the file of its path. `path` is shown, and as long as the path
-// itself, `own`.
-fn replace(
-    rt: HostRuntime,
-    path: &[u8],
-    own: &[u8],
-    beside: &[u8],
-    length: usize,
-    buffer: &mut [u8],
-) -> bool {
-    if !write_beside(rt, path, beside, length, buffer) {
-        return false;
+// The path of an image as it is shown, its own, which is as long, and that of the file beside it.
+#[derive(Clone, Copy)]
+struct Paths<'a> {
+    shown: &'a [u8],
+    own: &'a [u8],
+    beside: &'a [u8],
+}
+
+impl Paths<'_> {
+    // Tells why the file beside the image was not written. What is in the buffer is of no more use.
+    fn tell_beside(&self, rt: HostRuntime, error: io::Error, buffer: &mut [u8]) {
+        let size = put_beside(self.shown, buffer);
+        fail(rt, part(buffer, 0, size), error);
     }
-    match rename(rt, beside, own) {
-        Ok(()) => true,
-        Err(error) => {
-            fail(rt, path, error);
-            remove(rt, beside);
-            false
+
+    // Writes the image, the first `length` bytes of the buffer, to a new file beside that of the image. The
+    // answer is whether it did; where not, no file of ours is left there.
+    fn write_beside(&self, rt: HostRuntime, length: usize, buffer: &mut [u8]) -> bool {
+        let file = match create(rt, self.beside) {
+            Ok(file) => file,
+            Err(error) => {
+                self.tell_beside(rt, error, buffer);
+                return false;
+            }
+        };
+        match write_image(file, part(buffer, 0, length)) {
+            Ok(()) => true,
+            Err(error) => {
+                self.tell_beside(rt, error, buffer);
+                remove(rt, self.beside);
+                false
+            }
+        }
+    }
+
+    // Has the image that is in the buffer in the file of its path.
+    fn replace(&self, rt: HostRuntime, length: usize, buffer: &mut [u8]) -> bool {
+        if !self.write_beside(rt, length, buffer) {
+            return false;
+        }
+        match rename(rt, self.beside, self.own) {
+            Ok(()) => true,
+            Err(error) => {
+                fail(rt, self.shown, error);
+                remove(rt, self.beside);
+                false
+            }
+        }
+    }
+
+    // What becomes of the image, once a mended one is written.
+    fn settle(&self, rt: HostRuntime, made: Mending, buffer: &mut [u8]) -> Mending {
+        let Fate::Mended(length) = made.fate else {
+            return made;
+        };
+        if self.replace(rt, length, buffer) {
+            return made;
+        }
+        Mending {
+            mark: made.mark,
+            fate: Fate::Unwritten,
         }
     }
 }
 
-// What becomes of an image whose path is the front of `beside`, once a mended one is written.
-fn settle(rt: HostRuntime, fate: Fate, path: &[u8], beside: &[u8], buffer: &mut [u8]) -> Fate {
-    let Fate::Mended(length) = fate else {
-        return fate;
-    };
-    if replace(
-        rt,
-        path,
-        part(beside, 0, path.len()),
-        beside,
-        length,
-        buffer,
-    ) {
-        return fate;
-    }
-    Fate::Unwritten
-}
-
-// The line is put together where the image was, and written at once, so that the lines of several
-// processes on one output do not mix.
-fn write_line(
-    rt: HostRuntime,
-    mark: u8,
-    fate: Fate,
-    path: &[u8],
-    buffer: &mut [u8],
-) -> io::Result<()> {
-    let size = put_line(mark, fate, path, buffer);
-    rt.stdout().write_all(part(buffer, 0, size))
-}
-
-// Mends the image of that path, counts it and writes its line. The answer, here and below, is whether the
-// line could be written.
-fn mend_file(
+// How images are mended, the path of the file beside an image, and the buffer that each is read into.
+#[derive(Drop)]
+struct Mender<'a> {
     rt: HostRuntime,
     layout: Layout,
-    path: &mut [u8],
-    beside: &[u8],
-    buffer: &mut [u8],
-    tally: &mut [usize; 8],
-) -> io::Result<()> {
-    let received = read_file(rt, path, buffer);
-    let mending = mend_received(layout, received, buffer);
-    let made = mending.fate;
-    let fate = settle(rt, made, path, beside, buffer);
-    count(tally, counted_as(mending.mark, fate));
-    write_line(rt, mending.mark, fate, path, buffer)
+    beside: &'a mut [u8; PATH_ROOM],
+    buffer: &'a mut [u8; IMAGE_ROOM],
 }
 
-// The path is only shown once its file is read, so its own bytes stay in front of those of the file beside
-// it. A path that has no room there is too long for the system.
-fn mend_argument(
-    rt: HostRuntime,
-    layout: Layout,
-    position: usize,
-    argument: &mut [u8],
-    beside: &mut [u8],
-    buffer: &mut [u8],
-    tally: &mut [usize; 8],
-) -> io::Result<()> {
-    match read_argument(rt, position, argument) {
-        Ok(length) => {
-            let end = put_beside(part(argument, 0, length), beside);
-            mend_file(
-                rt,
-                layout,
-                &mut argument[..length],
-                part(beside, 0, end),
-                buffer,
-                tally,
-            )
-        }
-        Err(error) => {
-            fail(rt, b"argument", error);
-            count(tally, b'-');
-            write_line(rt, b'-', Fate::Unread, b"", buffer)
-        }
+impl Mender<'_> {
+    // The line is put together where the image was, and written at once, so that the lines of several
+    // processes on one output do not mix.
+    fn write_line(&mut self, mending: Mending, path: &[u8]) -> io::Result<()> {
+        let size = mending.put_line(path, self.buffer);
+        self.rt.stdout().write_all(part(self.buffer, 0, size))
     }
 }
 
-fn mend_arguments(
-    rt: HostRuntime,
-    layout: Layout,
-    first: usize,
-    end: usize,
-    argument: &mut [u8; ARGUMENT_ROOM],
-    beside: &mut [u8; PATH_ROOM],
-    buffer: &mut [u8; IMAGE_ROOM],
-    tally: &mut [usize; 8],
-) -> io::Result<()> {
-    for position in first..end {
-        mend_argument(rt, layout, position, argument, beside, buffer, tally)?;
+impl Program for Mender<'_> {
+    // The path is only shown once its file is read, so its own bytes stay in front of those of the file beside
+    // it. A path that has no room there is too long for the system.
+    fn take(&mut self, path: &mut [u8]) -> io::Result<Mark> {
+        let rt = self.rt;
+        let end = put_beside(path, self.beside);
+        let buffer = &mut *self.buffer;
+        let received = read_file(rt, path, buffer);
+        let made = mend_received(self.layout, received, buffer);
+        let paths = Paths {
+            shown: path,
+            own: part(self.beside, 0, path.len()),
+            beside: part(self.beside, 0, end),
+        };
+        let mending = paths.settle(rt, made, buffer);
+        self.write_line(mending, path)?;
+        Ok(mending.counted_as())
     }
-    Ok(())
+
+    fn take_unread(&mut self) -> io::Result<Mark> {
+        let mending = Mending {
+            mark: None,
+            fate: Fate::Unread,
+        };
+        self.write_line(mending, b"")?;
+        Ok(mending.counted_as())
+    }
 }
 
-// Argument 0 is the program's own name. A line that cannot be written ends the run: no later one would
-// do better. The buffers are arrays down to the loop, which keeps their lengths by their types; of a
-// slice of a large array the prover would count them.
+// Argument 0 is the program's own name. The buffers are arrays, which keep their lengths by their types; of
+// a slice of a large array the prover would count them.
 fn run(
     rt: HostRuntime,
     argument: &mut [u8; ARGUMENT_ROOM],
@@ -325,38 +301,21 @@ fn run(
 ) {
     let end = count_arguments(rt);
     let options = read_options(rt, end, argument);
-    let first = options.first;
-    if usage(
-        rt,
-        options.help,
-        options.unknown || options.verbose || options.sums || first == end,
-        b"usage: mend [--marks] [--directories] [--] IMAGE...
-Repairs images of disks in their files, as after a stop between two writes: the files of each index
-in the order of their names, and the map made anew. For each image a line with the number it had and
-what became of it: sound, mended, not mended, not read or not written.
-A mended image is written to a new file, IMAGE.mending, which takes the image's place when it is whole.
-How many there are of each number now is the last line on standard error; an image that could not be
-read or written counts as unread.
-  --marks        by the rule with marks: status bit 10 hex, changed since backup, is allowed
-  --directories  by the second edition: sector 0 has entries of directories. Without it a disk that
-                 has them is number 6, and mended to one whose map frees what they hold
-  -h, --help     this text
-",
-    ) {
+    let wrong = options.unknown || options.verbose || options.sums || options.first == end;
+    if usage(rt, options.help, wrong, USAGE) {
         return;
     }
-    let layout = Layout {
-        marks: options.marks,
-        directories: options.directories,
+    let mut mender = Mender {
+        rt,
+        layout: options.layout(),
+        beside,
+        buffer,
     };
-    let mut tally = [0usize; 8];
-    match mend_arguments(rt, layout, first, end, argument, beside, buffer, &mut tally) {
-        Ok(()) => tell(rt, end - first, &tally),
-        Err(error) => fail(rt, b"standard output", error),
-    }
+    let outcome = each_image(rt, options.first..end, argument, &mut mender);
+    finish(rt, end - options.first, outcome);
 }
 
-// The buffers are lent from here, once; every function below the loop works on plain slices.
+// The buffers are lent from here, once.
 fn main(rt: HostRuntime) {
     let mut argument = [0u8; ARGUMENT_ROOM];
     let mut beside = [0u8; PATH_ROOM];

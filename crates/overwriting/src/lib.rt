@@ -1,34 +1,32 @@
-// Overwriting: one data sector of a file, by its offset in the file; by the rule with marks its descriptor before it. The call takes any image and any arguments, answers with its number,
-// and leaves the image with the writes of the rules' definition laid over it, and their order in a list that is lent for it; a refusal has none.
+// Overwriting: one data sector of a file, by its offset in the file; by the rule with marks its descriptor before it. The call takes any image and any arguments, answers that it is done or
+// why it refuses, and leaves the image with the writes of the rules' definition laid over it, and their order in a list that is lent for it; a refusal has none.
 #![tactic(auto)]
 
-ghost use Rattle.std.specs.Prelude.{◌≡◌, ◌∷◌, [], cond, ℕ, ◌<◌};
+ghost use Rattle.std.specs.Prelude.{◌≡◌, ◌∷◌, [], cond, ℕ, None};
 ghost use Rattle.rules.specs.Bytes.{splice};
 ghost use Rattle.rules.specs.Name.{wrong_place};
 ghost use Rattle.rules.specs.Sound.{IsFile};
 ghost use Rattle.rules.specs.Outcome.{listed, NamedSays, Meets};
+ghost use Rattle.rules.specs.Refusal.{named_answered};
 ghost use Rattle.rules.specs.Calls.Overwrite.{overwriting, overwrite_of};
-ghost use Rattle.rules.specs.declared.WrongPlace.TheVariants.{None};
 
 use descriptor::chain::place_at;
+use descriptor::fields::descriptor_of;
 use descriptor::header::mark_descriptor;
 use opening::find;
-use rules::{Layout, NamedAnswer, Opened};
-use sector::buffer::copy;
-use sector::bytes::{byte, part, sector_of, word};
+use rules::{Layout, Refusal};
 use sector::order::list;
 
 // The data sector, and by the rule with marks the descriptor before it.
-fn list_overwrite(layout: Layout, k: usize, place: usize, changes: &mut [u32; 133])
-    requires { (k < 65536) × (place < 65536) }
+fn list_overwrite(layout: Layout, k: u16, place: u16, changes: &mut [u32; 133])
     ensures { changes.new ≡ splice changes.old 1 (cond layout.marks (2 ∷ (k ∷ (place ∷ []))) (1 ∷ (place ∷ []))) }
 {
     if layout.marks {
-        let order = [k as u32, place as u32];
+        let order = [u32::from(k), u32::from(place)];
         list(changes, 0, &order);
         return;
     }
-    let order = [place as u32];
+    let order = [u32::from(place)];
     list(changes, 0, &order);
 }
 
@@ -36,36 +34,32 @@ fn list_overwrite(layout: Layout, k: usize, place: usize, changes: &mut [u32; 13
 fn overwrite_at(
     layout: Layout,
     image: &mut [u8],
-    k: usize,
+    k: u16,
     offset: usize,
     bytes: &[u8],
     changes: &mut [u32; 133],
-) -> NamedAnswer
+) -> Result<(), Refusal>
     requires { (i : ℕ) × IsFile layout image.old i k }
-    ensures meets { Meets (NamedSays None) (overwriting layout image.old offset bytes.now k) result image.old image.new }
+    ensures meets { Meets (NamedSays None) (overwriting layout image.old offset bytes.now k) (named_answered result) image.old image.new }
     ensures order { changes.new ≡ listed (overwriting layout image.old offset bytes.now k) changes.old }
 {
-    let descriptor = sector_of(image, k);
-    let status = byte(descriptor, 12);
-    if status / 8 % 2 == 1 {
-        return NamedAnswer::Refused(10);
+    let descriptor = descriptor_of(image, k);
+    if descriptor.is_protected() {
+        return Err(Refusal::Protected);
     }
-    if status % 2 == 1 {
-        return NamedAnswer::Refused(14);
+    if descriptor.is_program() {
+        return Err(Refusal::OtherKind);
     }
-    if offset >= word(descriptor, 14) {
-        return NamedAnswer::Refused(15);
-    }
+    let place = place_at(descriptor.chain(), offset).ok_or(Refusal::Argument)?;
     if bytes.len() != 256 {
-        return NamedAnswer::Refused(15);
+        return Err(Refusal::Argument);
     }
-    let place = place_at(part(descriptor, 28, 228), offset);
-    let at = 256 * place;
+    let at = 256 * usize::from(place);
     let end = at + 256;
-    mark_descriptor(layout, image, k);
-    copy(&mut image[at..end], bytes);
+    mark_descriptor(layout, image, usize::from(k));
+    image[at..end].copy_from_slice(bytes);
     list_overwrite(layout, k, place, changes);
-    NamedAnswer::Done
+    Ok(())
 }
 
 pub fn overwrite(
@@ -76,15 +70,11 @@ pub fn overwrite(
     offset: usize,
     bytes: &[u8],
     changes: &mut [u32; 133],
-) -> NamedAnswer
-    ensures meets { Meets (NamedSays (wrong_place name.now)) (overwrite_of layout image.old directory name.now offset bytes.now) result image.old image.new }
+) -> Result<(), Refusal>
+    ensures meets { Meets (NamedSays (wrong_place name.now)) (overwrite_of layout image.old directory name.now offset bytes.now) (named_answered result) image.old image.new }
     ensures order { changes.new ≡ listed (overwrite_of layout image.old directory name.now offset bytes.now) changes.old }
 {
-    let opened = find(layout, image, directory, name);
-    match opened {
-        Opened::Refused(number) => NamedAnswer::Refused(number),
-        Opened::Misnamed(place) => NamedAnswer::Misnamed(place),
-        Opened::Absent(_) => NamedAnswer::Refused(8),
-        Opened::At(_, _, k) => overwrite_at(layout, image, k, offset, bytes, changes),
-    }
+    let looked = find(layout, image, directory, name)?;
+    let file = looked.file.ok_or(Refusal::Absent)?;
+    overwrite_at(layout, image, file.sector, offset, bytes, changes)
 }

@@ -50,8 +50,8 @@ module _ (image : List ℕ) (k : ℕ) (descriptor : List ℕ) (is : descriptor �
   unfolding header_in
   header_read header e = e ∙ ap (λ (d : List ℕ). part d 0 28) is
 
-  pub contents_read : (chain : List ℕ) → chain ≡ part descriptor 28 228 → map (sector_of image) (places chain) ≡ (file_in image k).contents
-  unfolding file_in contents_in places_in chain_of
+  pub contents_read : (chain : List ℕ) → chain ≡ chain_of descriptor → map (sector_of image) (places chain) ≡ (file_in image k).contents
+  unfolding file_in contents_in places_in
   contents_read chain e = rw (e, is)
 
 pub descriptor_packed : (image : List ℕ) (k start sectors : ℕ) (header : List ℕ) → header ≡ header_in image k → length (file_in image k).contents ≡ sectors

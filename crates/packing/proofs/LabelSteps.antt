@@ -1,6 +1,7 @@
 -- Laying the label: what the index sectors of the entries from a directory on still make of it, at the start, an entry further, and behind the last.
 use mathlib.Core.Path.{◌≡◌, refl, sym, ap, ◌∙◌}
 use mathlib.Core.Logic.{inl, inr}
+use mathlib.Core.Bool.{Bool, true, false}
 use mathlib.Core.List.{List, [], ◌∷◌, map}
 use Prim.Native.Nat.{ℕ, zero, suc, ◌+◌, ◌-◌, ◌*◌, ◌≤◌, ◌<◌}
 use native.Mathlib.Omega.{arith}
@@ -17,9 +18,19 @@ use Rattle.rules.proofs.Splice.{splice-length, splice_inside, splice_above}
 use Rattle.rules.proofs.Sectors.{sector_length}
 use Rattle.rules.proofs.Volume.{get_mapped}
 use Rattle.rules.proofs.Pack.{entry_byte, numbered_from, numbered_absent, numbered_there, numbered_length, front_length, front_byte, packed_label_lem}
-use Rattle.sector.specs.Directories.{indexes_from}
+use Rattle.std.specs.Option.{is_some}
+use Rattle.sector.specs.Directories.{some_index, indexes_from}
 use Rattle.sector.proofs.DirectoryLaws.{directories_few, behind_root, from_absent, from_there, from_past}
 use Rattle.packing.proofs.DirectoryLaws.{left, Here, left_here, left_end}
+
+-- an entry has an index, or it has none
+pub index_there : (i : ℕ) (there : Bool) → there ≡ is_some (some_index i) → there ≡ true → i ≡ 0 → ⊥
+index_there zero there e some none = absurd (let z : true ≡ false = sym some ∙ e in cc)
+index_there (suc less) there e some none = omega (arith, none)
+
+pub index_absent : (i : ℕ) (there : Bool) → there ≡ is_some (some_index i) → there ≡ false → i ≡ 0
+index_absent zero there e gone = refl
+index_absent (suc less) there e gone = absurd (let z : true ≡ false = sym e ∙ gone in cc)
 
 -- bytes that stand there already
 over_stands : (buffer bytes : List ℕ) → ((i : ℕ) → i < length bytes → byte_at buffer i ≡ byte_at bytes i) → over buffer bytes ≡ buffer

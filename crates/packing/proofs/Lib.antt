@@ -1,6 +1,5 @@
 -- The laws that the proofs share.
 mod DirectoryLaws
-mod WalkLaws
 mod LabelSteps
 mod FileLaws
 mod IndexSteps

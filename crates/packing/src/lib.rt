@@ -7,6 +7,7 @@ ghost use Rattle.rules.specs.Sectors.{sector_count};
 ghost use Rattle.rules.specs.Volume.{catalogues};
 ghost use Rattle.rules.specs.Sound.{Sound};
 ghost use Rattle.rules.specs.Outcome.{AnswerSays};
+ghost use Rattle.rules.specs.Refusal.{answered};
 ghost use Rattle.rules.specs.Calls.Pack.{label_area, packed, pack_number, after_pack};
 
 mod files;
@@ -14,16 +15,16 @@ mod system;
 mod walk;
 
 use files::{lay_data, lay_descriptors};
+use judge::judge;
 use map::laid::lay_map;
-use rules::{Answer, Layout};
-use sector::buffer::fill;
+use rules::{Layout, Refusal};
 use system::{lay_indexes, lay_label};
 
 // The free sectors, whatever the source has in them: every byte is E5.
 fn fill_free(rest: &mut [u8])
     ensures { rest.new ≡ replicate (length rest.old) 229 }
 {
-    fill(rest, 0xE5);
+    rest.fill(0xE5);
 }
 
 // The parts of the packed form: those of sector 0 are the first and the last, since the map needs the sectors that all others take.
@@ -33,25 +34,21 @@ fn write_packed(layout: Layout, source: &[u8], target: &mut [u8])
 {
     let first = lay_label(layout, source, target);
     let behind = lay_indexes(layout, source, target, first);
-    let used = lay_descriptors(layout, source, target, first, behind);
+    let used = usize::from(lay_descriptors(layout, source, target, first, behind));
     lay_data(layout, source, target, behind);
-    let end = 256 * used;
-    fill_free(&mut target[end..]);
+    fill_free(&mut target[256 * used..]);
     lay_map(&mut target[56..256], source.len() / 256, used);
 }
 
 // Writes the source's packed form over the target: 1 to 6 of the source, then 15 for a target of another length.
-pub fn pack(layout: Layout, source: &[u8], target: &mut [u8]) -> Answer
-    ensures answer_says { AnswerSays result (pack_number layout source.now target.old) }
+pub fn pack(layout: Layout, source: &[u8], target: &mut [u8]) -> Result<(), Refusal>
+    ensures answer_says { AnswerSays (answered result) (pack_number layout source.now target.old) }
     ensures target_after { target.new ≡ after_pack layout source.now target.old }
 {
-    let number = judge::judge(layout, source);
-    if number != 0 {
-        return Answer::Refused(number);
-    }
+    judge(layout, source)?;
     if target.len() != source.len() {
-        return Answer::Refused(15);
+        return Err(Refusal::Argument);
     }
     write_packed(layout, source, target);
-    Answer::Done
+    Ok(())
 }

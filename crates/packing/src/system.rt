@@ -9,26 +9,23 @@ ghost use Rattle.rules.specs.Sound.{Sound};
 ghost use Rattle.rules.specs.Calls.Pack.{label_area, packed_label, packed_indexes};
 
 use rules::Layout;
-use sector::buffer::{fill, lay};
+use sector::buffer::lay;
 use sector::bytes::{part, sector_of};
-use sector::directories::index_at;
-use sector::numbers::{lay_number, number_at};
+use sector::directories::{index_at, indexes_of};
+use sector::numbers::{lay_number, numbers_of};
 
 // The label, over the front of the target. Gives the sector behind the indexes.
-pub(crate) fn lay_label(layout: Layout, source: &[u8], target: &mut [u8]) -> usize
+pub(crate) fn lay_label(layout: Layout, source: &[u8], target: &mut [u8]) -> u16
     requires { Sound layout source.now × (56 ≤ length target.old) }
     ensures value { result ≡ 1 + length (indexes layout source.now) }
     ensures target_after { target.new ≡ splice target.old 0 (packed_label layout (label_area layout source.now)) }
 {
     lay(target, 0, part(sector_of(source, 0), 0, 56));
+    // Only the directories that are there take a number.
     let mut number = 2;
-    let mut directory = 1;
-    while directory < 4 {
-        let at = 18 + 12 * directory;
-        let index = index_at(layout, source, directory);
-        directory += 1;
-        if index != 0 {
-            lay_number(target, at, number);
+    for directory in 1..4 {
+        if index_at(layout, source, directory).is_some() {
+            lay_number(target, 18 + 12 * directory, number);
             number += 1;
         }
     }
@@ -36,41 +33,31 @@ pub(crate) fn lay_label(layout: Layout, source: &[u8], target: &mut [u8]) -> usi
 }
 
 // An index with as many numbers as the source's, from `first` on, and zeros behind them. Gives the number behind the last.
-fn lay_index(index: &mut [u8], old: &[u8], first: usize) -> usize
+fn lay_index(index: &mut [u8], old: &[u8], first: u16) -> u16
     requires { (length index.old ≡ 256) × (length old.now ≤ 256) × (first < 4096) }
     ensures value { result ≡ first + length (numbers old.now) }
     ensures index_after { index.new ≡ index_of (run first (length (numbers old.now))) }
 {
-    fill(index, 0);
-    let mut number = first;
-    let mut at = 0;
-    loop {
-        if number_at(old, at) == 0 {
-            return number;
-        }
-        lay_number(index, at, number);
-        number += 1;
-        at += 2;
+    index.fill(0);
+    let end = first + numbers_of(old).count() as u16;
+    for number in first..end {
+        lay_number(index, 2 * usize::from(number - first), number);
     }
+    end
 }
 
 // The indexes from sector 1 on, for descriptors from sector `first` on. Gives the sector behind the descriptors.
-pub(crate) fn lay_indexes(layout: Layout, source: &[u8], target: &mut [u8], first: usize) -> usize
+pub(crate) fn lay_indexes(layout: Layout, source: &[u8], target: &mut [u8], first: u16) -> u16
     requires { Sound layout source.now × (length target.old ≡ length source.now) × (first ≡ 1 + length (indexes layout source.now)) }
     ensures value { result ≡ first + length (files_of source.now (indexes layout source.now)) }
     ensures target_after { target.new ≡ splice target.old 256 (packed_indexes first (catalogues layout source.now)) }
 {
     let mut next = first;
     let mut to = 256;
-    let mut directory = 0;
-    while directory < 4 {
-        let old = index_at(layout, source, directory);
-        directory += 1;
-        if old != 0 {
-            let end = to + 256;
-            next = lay_index(&mut target[to..end], sector_of(source, old), next);
-            to = end;
-        }
+    for i in indexes_of(layout, source) {
+        let end = to + 256;
+        next = lay_index(&mut target[to..end], sector_of(source, i), next);
+        to = end;
     }
     next
 }

@@ -1,76 +1,46 @@
-// The walk through the files of all indexes, the root's first: the number of each, in the order of its index.
-ghost use Rattle.std.specs.Prelude.{◌≡◌, ◌≤◌, ◌<◌, length};
-ghost use Rattle.rules.specs.Sectors.{sector_of};
-ghost use Rattle.packing.specs.Walk.{NumbersOf, Steady, first, Stepped};
+// The files of all indexes, the root's first: the number of each, in the order of its index.
+ghost use Rattle.std.specs.Prelude.{◌≡◌};
+ghost use Rattle.std.specs.Iterator.{YieldsFirst, item_count};
+ghost use Rattle.rules.specs.Volume.{indexes, files_of};
+ghost use Rattle.packing.specs.Walk.{files_left};
 
 use rules::Layout;
 use sector::bytes::sector_of;
-use sector::directories::index_at;
-use sector::numbers::number_at;
+use sector::directories::{Indexes, indexes_of};
+use sector::numbers::{Numbers, numbers_of};
 
-// A place in the walk: byte `at` of the index in sector `index`, or none where that is 0; then the directories from `directory` on.
-#[derive(Clone, Copy)]
-pub struct Walk {
-    pub index: usize,
-    pub at: usize,
-    pub directory: usize,
+// The files that are still to come: the rest of the present index, then those of the indexes behind it.
+#[derive(Clone, Copy, Debug)]
+pub struct Files<'a> {
+    pub image: &'a [u8],
+    pub numbers: Numbers<'a>,
+    pub indexes: Indexes<'a>,
 }
 
-// The next file, by the sector of its descriptor, with the walk behind it; or the end of all files.
-#[derive(Clone, Copy)]
-pub enum Step {
-    File(usize, Walk),
-    End,
-}
-
-// The number at byte `at` of the index in that sector, or 0 where its numbers end or there is no index.
-fn number_in(image: &[u8], index: usize, at: usize) -> usize
-    requires { (index < 65536) × (at ≤ length (sector_of image.now index)) }
-    ensures { NumbersOf image.now index at result }
+pub(crate) fn files_of(layout: Layout, image: &[u8]) -> Files<'_>
+    ensures { files_left result ≡ files_of image.now (indexes layout image.now) }
 {
-    if index == 0 {
-        return 0;
+    Files {
+        image,
+        numbers: numbers_of(&image[..0]),
+        indexes: indexes_of(layout, image),
     }
-    number_at(sector_of(image, index), at)
 }
 
-impl Walk {
-    pub fn first() -> Walk
-        ensures { result ≡ first }
-    {
-        Walk {
-            index: 1,
-            at: 0,
-            directory: 1,
-        }
-    }
+impl<'a> Iterator for Files<'a> {
+    type Item = u16;
 
-    // One file further: in the present index, or else in the first of those to come that has one.
-    pub fn step(self, layout: Layout, image: &[u8]) -> Step
-        requires { Steady image.now self }
-        ensures { Stepped layout image.now self result }
-    {
-        let mut index = self.index;
-        let mut at = self.at;
-        let mut directory = self.directory;
+    ghost next_gives = { YieldsFirst files_left };
+
+    ghost remaining = { item_count files_left };
+
+    fn next(&mut self) -> Option<u16> {
         loop {
-            let k = number_in(image, index, at);
-            if k != 0 {
-                return Step::File(
-                    k,
-                    Walk {
-                        index,
-                        at: at + 2,
-                        directory,
-                    },
-                );
+            if let Some(k) = self.numbers.next() {
+                return Some(k);
             }
-            if directory > 3 {
-                return Step::End;
-            }
-            index = index_at(layout, image, directory);
-            at = 0;
-            directory += 1;
+            let i = self.indexes.next()?;
+            self.numbers = numbers_of(sector_of(self.image, i));
         }
     }
 }

@@ -1,5 +1,6 @@
 -- What a call answered, and what C is given of it: the number, the bytes and the order of its writes; and what stands behind a pointer, case by case of the answer.
 use mathlib.Core.Path.{◌≡◌, refl, sym, ap, ◌∙◌}
+use mathlib.Core.Bool.{Bool, true, false}
 use mathlib.Core.List.{List, [], ◌∷◌}
 use Prim.Native.Nat.{ℕ}
 use native.Mathlib.Omega.{arith}
@@ -7,12 +8,19 @@ use lib.ListN.{length}
 use borrow.Author.Tests.{ne_eqb}
 use Rattle.rules.specs.Bytes.{splice}
 use Rattle.rules.specs.Sectors.{Write, sectors_in}
-use Rattle.rules.specs.Outcome.{Report, Outcome, order_of, Bare, Gives, behind}
-use Rattle.rules.specs.declared.WrongPlace.{WrongPlace}
-use Rattle.rules.specs.declared.WrongPlace.TheVariants.{At}
+use Rattle.rules.specs.Outcome.{Report, Outcome, order_of, Bare, NamedSays, NamedAmountSays, Gives, behind}
+use Rattle.rules.specs.Refusal.{fault_number, refusal_number, refused}
+use Rattle.rules.specs.Answers.NamedAnswer.{NamedAnswer}
+use Rattle.rules.specs.Answers.NamedAnswer as named
+use Rattle.rules.specs.Answers.NamedAmount as loaded
+use Rattle.rules.specs.declared.refusal.Refusal.{Refusal}
+use Rattle.rules.specs.declared.refusal.Refusal.TheVariants as refusal
+use Rattle.std.specs.Prelude.{Option, Some}
 use Rattle.rules.proofs.Splice.{splice_none, splice_covered}
+use Rattle.rules.proofs.Refusals.{refusal_some, refused_cases}
 use Rattle.rules.proofs.Outcome.{MeetsInOrder, wrong-there, behind_given, behind_kept}
-use Rattle.pnoelithe.specs.Crossing.{behind_seven, place_behind, changes_of, Crosses, ReportCrosses, AmountCrosses}
+use Rattle.std.specs.Int.{from_bool}
+use Rattle.pnoelithe.specs.Crossing.{flag, behind_seven, place_behind, changes_of, Crosses, ReportCrosses, AmountCrosses}
 
 -- the order of a call's writes, put where it was said that there are none
 put_there : (writes : List Write) (changes : List ℕ) → splice (splice changes 1 (0 ∷ [])) 1 (order_of writes) ≡ splice changes 1 (length writes ∷ sectors_in writes)
@@ -54,6 +62,52 @@ unfolding behind_seven
 bare_kept refused number value before said = rw (ne_eqb refused 7 (λ z. said.2 (sym said.0 ∙ z)))
 
 -- with 7 the place
-pub place_behind_lem : (wrong : WrongPlace) (place before : ℕ) → wrong ≡ At place → place ≡ place_behind 7 wrong before
+pub place_behind_lem : (wrong : Option ℕ) (place before : ℕ) → wrong ≡ Some place → place ≡ place_behind 7 wrong before
 unfolding behind_seven
 place_behind_lem wrong place before there = sym (wrong-there wrong (λ (found : ℕ). found) before place there)
+
+-- a refusal of a call that takes a name, by what is said of it: a number, or with 7 the place
+module _ (misnamed : Option ℕ) (before : ℕ) where
+  abbrev Told : ℕ → NamedAnswer → ℕ → Type 0
+  Told refused given after = (number : ℕ) → NamedSays misnamed given number → (refused ≡ number) × (after ≡ place_behind refused misnamed before)
+
+  told_number : (n : ℕ) → Told n (named.Refused n) before
+  unfolding NamedSays
+  told_number n number said = (said.0, bare_kept n number _ before said)
+
+  told_place : (place : ℕ) → Told 7 (named.Misnamed place) place
+  unfolding NamedSays
+  told_place place number said = (sym said.0, place_behind_lem misnamed place before said.1)
+
+  pub told_named : (r : Refusal) (number : ℕ) → NamedSays misnamed (refused named.Misnamed named.Refused r) number
+      → (refusal_number r ≡ number) × (refused (λ (place : ℕ). place) (λ (n : ℕ). before) r ≡ place_behind (refusal_number r) misnamed before)
+  told_named (refusal.Unsound f) = told_number (fault_number f)
+  told_named (refusal.Misnamed place) = told_place place
+  told_named refusal.Absent = told_number 8
+  told_named refusal.Present = told_number 9
+  told_named refusal.Protected = told_number 10
+  told_named refusal.DirectoryFull = told_number 11
+  told_named refusal.DiskFull = told_number 12
+  told_named refusal.ChainFull = told_number 13
+  told_named refusal.OtherKind = told_number 14
+  told_named refusal.Argument = told_number 15
+
+-- and of one that gives an amount: nothing stands behind its pointer but what stood there
+said_loaded : (misnamed : Option ℕ) (report : Report) (r : Refusal) → NamedAmountSays misnamed (refused loaded.Misnamed loaded.Refused r) report
+    → NamedSays misnamed (refused named.Misnamed named.Refused r) report.number
+unfolding NamedAmountSays NamedSays
+said_loaded misnamed report =
+    refused_cases (λ given given'. NamedAmountSays misnamed given report → NamedSays misnamed given' report.number) loaded.Misnamed loaded.Refused named.Misnamed named.Refused
+    (λ place said. said) (λ n said. said)
+
+pub told_loaded : (misnamed : Option ℕ) (report : Report) (r : Refusal) (before wrong : ℕ) → NamedAmountSays misnamed (refused loaded.Misnamed loaded.Refused r) report
+    → AmountCrosses report (refusal_number r) before before × (refused (λ (place : ℕ). place) (λ (n : ℕ). wrong) r ≡ place_behind (refusal_number r) misnamed wrong)
+told_loaded misnamed report r before wrong said =
+    let told = told_named misnamed wrong r report.number (said_loaded misnamed report r said) in
+    (refused_crosses report (refusal_number r) before (told.0, λ z. refusal_some r (told.0 ∙ z)), told.1)
+
+-- a flag, as the library and as the crossing has it
+pub flag_is : (yes : Bool) → from_bool yes ≡ flag yes
+unfolding flag
+flag_is true = refl
+flag_is false = refl

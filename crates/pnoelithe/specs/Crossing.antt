@@ -1,11 +1,9 @@
 -- How enums and bools cross to C, which has neither: as numbers. And what a call promises there.
-use Rattle.std.specs.Prelude.{◌≡◌, Bool, true, false, cond, List, ◌∷◌, ℕ, eqb, length}
+use Rattle.std.specs.Prelude.{◌≡◌, Bool, true, false, cond, List, ◌∷◌, ℕ, eqb, length, Option, Some}
 use Rattle.rules.specs.Bytes.{bit_of, splice}
 use Rattle.rules.specs.Sectors.{sectors_in, written}
 use Rattle.rules.specs.Outcome.{Report, Outcome, if_wrong, behind}
 use Rattle.rules.specs.declared.Layout.{Layout}
-use Rattle.rules.specs.declared.WrongPlace.{WrongPlace}
-use Rattle.rules.specs.declared.WrongPlace.TheVariants.{At}
 use Rattle.rules.specs.declared.Kind.{Kind}
 use Rattle.rules.specs.declared.Kind.TheVariants.{Program, Fixed, Variable}
 
@@ -28,15 +26,15 @@ unfoldable pub behind_seven : ℕ → ℕ → ℕ → ℕ
 behind_seven number value before = cond (eqb number 7) value before
 
 -- behind `wrong` that is the place where the name is wrong
-abbrev pub place_behind : ℕ → WrongPlace → ℕ → ℕ
+abbrev pub place_behind : ℕ → Option ℕ → ℕ → ℕ
 place_behind number wrong before = behind_seven number (if_wrong wrong (λ place. place) before) before
 
 -- of a rename: the old name's place where it is wrong, else the new one's
-unfoldable pub first_wrong : WrongPlace → WrongPlace → WrongPlace
-first_wrong old new = if_wrong old At new
+unfoldable pub first_wrong : Option ℕ → Option ℕ → Option ℕ
+first_wrong old new = if_wrong old Some new
 
 -- and behind `which` 0 where the old name is wrong, else 1
-abbrev pub which_behind : ℕ → WrongPlace → ℕ → ℕ
+abbrev pub which_behind : ℕ → Option ℕ → ℕ → ℕ
 which_behind number old before = behind_seven number (if_wrong old (λ place. 0) 1) before
 
 -- what `changes` holds afterwards: how many sectors were written, none with a refusal, and their numbers in order; its first number stays, and what is behind them

@@ -32,12 +32,11 @@ ghost use Rattle.pnoelithe.specs.Crossing.{layout_of, kind_number, flag, place_b
 mod crossing;
 
 use crossing::{
-    amount_number, answer_number, flag_of, kind_number, layout_of, named_amount_number,
+    amount_number, answer_number, judged_number, kind_number, layout_of, named_amount_number,
     named_number, rename_number,
 };
 use descriptor::kind::kind_length;
 use formatting::format::Geometry;
-use rules::{Answer, Summary};
 use sector::order::list_none;
 
 // The number 0 to 6 of an image.
@@ -45,7 +44,7 @@ use sector::order::list_none;
 pub extern "C" fn pno_judge(image: &[u8], layout: u32) -> u32
     ensures { result ≡ verdict (layout_of layout) image.now }
 {
-    judge::judge(layout_of(layout), image)
+    judged_number(judge::judge(layout_of(layout), image))
 }
 
 // An empty volume of n sectors.
@@ -95,19 +94,14 @@ pub extern "C" fn pno_summary(
     ensures count { count.new ≡ behind result (length (files_of image.now (indexes (layout_of layout) image.now))) count.old }
     ensures free { free.new ≡ behind result (free_count (sector_of image.now 0)) free.old }
 {
-    let summary = summarizing::summary(layout_of(layout), image, name);
-    match summary {
-        Summary::Refused(number) => number,
-        Summary::Given {
-            sectors: n,
-            files: listed,
-            free: zeros,
-        } => {
-            *sectors = n;
-            *count = listed;
-            *free = zeros;
+    match summarizing::summary(layout_of(layout), image, name) {
+        Ok(totals) => {
+            *sectors = totals.sectors;
+            *count = totals.files;
+            *free = totals.free;
             0
         }
+        Err(refusal) => u32::from(refusal),
     }
 }
 
@@ -130,19 +124,15 @@ pub extern "C" fn pno_entry(
     ensures sectors { sectors.new ≡ behind result (sectors_of (sector_of image.now (entry_at (layout_of layout) image.now directory place))) sectors.old }
     ensures protection { is_protected.new ≡ behind result (flag (has_protection (status_of (sector_of image.now (entry_at (layout_of layout) image.now directory place))))) is_protected.old }
 {
-    let entry = cataloguing::entry(layout_of(layout), image, directory, place, header);
-    let answer = entry.answer;
-    let row = entry.row;
-    match answer {
-        Answer::Refused(number) => number,
-        Answer::Done => {
-            let sort = row.kind;
-            *kind = kind_number(sort);
-            *size = kind_length(sort);
+    match cataloguing::entry(layout_of(layout), image, directory, place, header) {
+        Ok(row) => {
+            *kind = kind_number(row.kind);
+            *size = kind_length(row.kind);
             *sectors = row.sectors;
-            *is_protected = flag_of(row.protected);
+            *is_protected = usize::from(row.protected);
             0
         }
+        Err(refusal) => u32::from(refusal),
     }
 }
 

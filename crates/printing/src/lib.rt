@@ -12,7 +12,7 @@ ghost use Rattle.printing.specs.Output.{output};
 
 use console::options::{ARGUMENT_ROOM, count_arguments, read_options, usage};
 use console::reason::fail;
-use input::{Received, read_or_tell};
+use input::read_or_tell;
 use listing::{refused_line, show};
 use rules::Layout;
 use sector::bytes::part;
@@ -37,15 +37,16 @@ fn put_text(layout: Layout, image: &[u8], text: &mut [u8]) -> usize
     if image.len() > IMAGE_MOST {
         return refused_line(1, text);
     }
-    let shown = show(layout, image, text);
-    shown.size
+    show(layout, image, text).size
 }
 
-fn list_standard_input(rt: HostRuntime, layout: Layout, buffer: &mut [u8], text: &mut [u8])
-    requires { 4466 ≤ length text.old }
-{
-    let received = read_or_tell(rt, &mut rt.stdin(), b"standard input", buffer);
-    let Received::Bytes(length) = received else {
+fn list_standard_input(
+    rt: HostRuntime,
+    layout: Layout,
+    buffer: &mut [u8; IMAGE_ROOM],
+    text: &mut [u8; TEXT_ROOM],
+) {
+    let Some(length) = read_or_tell(rt, &mut rt.stdin(), b"standard input", buffer) else {
         return;
     };
     let size = put_text(layout, part(buffer, 0, length), text);
@@ -61,7 +62,7 @@ fn begins(rt: HostRuntime, argument: &mut [u8; ARGUMENT_ROOM], help: &[u8]) -> b
     !usage(rt, options.help, end > 1, help)
 }
 
-// The whole of a program, with its usage. The buffers are lent from here, once, so that every other function works on plain slices.
+// The whole of a program, with its usage. The buffers are lent from here, once.
 pub fn print(rt: HostRuntime, layout: Layout, help: &[u8]) {
     let mut argument = [0u8; ARGUMENT_ROOM];
     if begins(rt, &mut argument, help) {

@@ -1,15 +1,16 @@
 // Protecting and unprotecting, and clearing a mark: the 08 bit and the 10 bit of a file's status, set where it stands, in byte 12 of the descriptor. Each call takes any image and
-// any arguments, answers with its number, and leaves the image with the writes of the rules' definition laid over it, and their order in a list that is lent for it; a refusal has none.
+// any arguments, answers that it is done or why it refuses, and leaves the image with the writes of the rules' definition laid over it, and their order in a list that is lent for it; a refusal has none.
 #![tactic(auto)]
 
 ghost use Rattle.std.specs.Prelude.{◌≡◌, ◌<◌};
 ghost use Rattle.rules.specs.Name.{wrong_place};
 ghost use Rattle.rules.specs.Outcome.{listed, NamedSays, Meets};
+ghost use Rattle.rules.specs.Refusal.{named_answered};
 ghost use Rattle.rules.specs.Calls.Protect.{set_bit_of, protect_of, unprotect_of, clear_of};
 
 use map::bits::with_bit;
 use opening::find;
-use rules::{Layout, NamedAnswer, Opened};
+use rules::{Layout, Refusal};
 use sector::order::list;
 
 // Bit j of the status made `bit`.
@@ -21,24 +22,18 @@ fn set_bit(
     j: usize,
     bit: u8,
     changes: &mut [u32; 133],
-) -> NamedAnswer
+) -> Result<(), Refusal>
     requires { (j < 8) × (bit < 2) }
-    ensures meets { Meets (NamedSays (wrong_place name.now)) (set_bit_of layout j bit image.old directory name.now) result image.old image.new }
+    ensures meets { Meets (NamedSays (wrong_place name.now)) (set_bit_of layout j bit image.old directory name.now) (named_answered result) image.old image.new }
     ensures order { changes.new ≡ listed (set_bit_of layout j bit image.old directory name.now) changes.old }
 {
-    let opened = find(layout, image, directory, name);
-    match opened {
-        Opened::Refused(number) => NamedAnswer::Refused(number),
-        Opened::Misnamed(place) => NamedAnswer::Misnamed(place),
-        Opened::Absent(_) => NamedAnswer::Refused(8),
-        Opened::At(_, _, k) => {
-            let at = 256 * k + 12;
-            image[at] = with_bit(image[at], j, bit);
-            let order = [k as u32];
-            list(changes, 0, &order);
-            NamedAnswer::Done
-        }
-    }
+    let looked = find(layout, image, directory, name)?;
+    let file = looked.file.ok_or(Refusal::Absent)?;
+    let at = 256 * usize::from(file.sector) + 12;
+    image[at] = with_bit(image[at], j, bit);
+    let order = [u32::from(file.sector)];
+    list(changes, 0, &order);
+    Ok(())
 }
 
 pub fn protect(
@@ -47,8 +42,8 @@ pub fn protect(
     directory: usize,
     name: &[u8],
     changes: &mut [u32; 133],
-) -> NamedAnswer
-    ensures meets { Meets (NamedSays (wrong_place name.now)) (protect_of layout image.old directory name.now) result image.old image.new }
+) -> Result<(), Refusal>
+    ensures meets { Meets (NamedSays (wrong_place name.now)) (protect_of layout image.old directory name.now) (named_answered result) image.old image.new }
     ensures order { changes.new ≡ listed (protect_of layout image.old directory name.now) changes.old }
 {
     set_bit(layout, image, directory, name, 3, 1, changes)
@@ -60,8 +55,8 @@ pub fn unprotect(
     directory: usize,
     name: &[u8],
     changes: &mut [u32; 133],
-) -> NamedAnswer
-    ensures meets { Meets (NamedSays (wrong_place name.now)) (unprotect_of layout image.old directory name.now) result image.old image.new }
+) -> Result<(), Refusal>
+    ensures meets { Meets (NamedSays (wrong_place name.now)) (unprotect_of layout image.old directory name.now) (named_answered result) image.old image.new }
     ensures order { changes.new ≡ listed (unprotect_of layout image.old directory name.now) changes.old }
 {
     set_bit(layout, image, directory, name, 3, 0, changes)
@@ -74,8 +69,8 @@ pub fn clear_mark(
     directory: usize,
     name: &[u8],
     changes: &mut [u32; 133],
-) -> NamedAnswer
-    ensures meets { Meets (NamedSays (wrong_place name.now)) (clear_of layout image.old directory name.now) result image.old image.new }
+) -> Result<(), Refusal>
+    ensures meets { Meets (NamedSays (wrong_place name.now)) (clear_of layout image.old directory name.now) (named_answered result) image.old image.new }
     ensures order { changes.new ≡ listed (clear_of layout image.old directory name.now) changes.old }
 {
     let with_marks = Layout {

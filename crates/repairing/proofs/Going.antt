@@ -19,7 +19,7 @@ use Rattle.rules.specs.declared.Layout.{Layout}
 use Rattle.rules.proofs.Splice.{splice-length, splice_none, splice_append, set-splice}
 use Rattle.rules.proofs.Map.{count_none, count_here, count_other, count_more, count_at}
 use Rattle.rules.proofs.Indexed.{index_length}
-use Rattle.rules.proofs.Indexes.{index_some}
+use Rattle.rules.proofs.Indexes.{index_some, directory_indexed}
 use Rattle.rules.proofs.Written.{sector_other}
 use Rattle.rules.proofs.Staying.{index_at_kept}
 use Rattle.rules.proofs.Ordered.{ordered_agree}
@@ -27,7 +27,6 @@ use Rattle.rules.proofs.Repair.{is_distinct}
 use Rattle.rules.proofs.Mended.{mendable_index, apart, file_held}
 use Rattle.sector.specs.Directories.{indexes_from}
 use Rattle.sector.proofs.DirectoryLaws.{from_root, from_past, from_absent, from_there}
-use Rattle.judge.proofs.DirectorySteps.{from_indexed}
 
 -- The indexes before that directory are written, and listed.
 pub record Going (layout : Layout) (image₀ changes₀ : List ℕ) (directory many : ℕ) (image changes : List ℕ) : Type 0 where
@@ -90,7 +89,7 @@ module _ (layout : Layout) (image₀ changes₀ : List ℕ) (is : Mendable layou
       next = from_there layout image₀ directory i there some
 
       indexed : IsIndexed layout image₀ i
-      indexed = from_indexed layout image₀ directory i there some
+      indexed = rw there (directory_indexed layout image₀ directory (λ none. some (there ∙ none)))
 
       -- this index stands, and so do the descriptors that it leads to
       index_stands : sector_of image i ≡ sector_of image₀ i

@@ -1,4 +1,4 @@
-// Repair, after a stop between two writes of a call: every index ordered by name, then the map made anew. It takes any image, answers with its number, and leaves
+// Repair, after a stop between two writes of a call: every index ordered by name, then the map made anew. It takes any image, answers that it is done or why it refuses, and leaves
 // the image with the writes of the rules' definition laid over it, and their order in a list that is lent for it; a refusal has none.
 #![tactic(auto)]
 
@@ -11,6 +11,7 @@ ghost use Rattle.rules.specs.Volume.{indexes, every, files_in, holders};
 ghost use Rattle.rules.specs.Tests.{first_of};
 ghost use Rattle.rules.specs.Outcome.{listed, AnswerSays, Meets};
 ghost use Rattle.rules.specs.Calls.Repair.{distinct_rule, each_rule, repair_tests, ordered, ordered_index, repair_of, Mendable};
+ghost use Rattle.rules.specs.Refusal.{answered, judged};
 ghost use Rattle.judge.specs.Claim.{Below};
 
 use index::order_numbers;
@@ -19,11 +20,11 @@ use judge::files::descriptor_rule;
 use judge::holders::claim_holders;
 use judge::system::label_rule;
 use map::laid::lay_map;
-use rules::{Answer, Layout};
-use sector::buffer::{copy, write_sector};
+use rules::{Fault, Layout, Refusal};
+use sector::buffer::write_sector;
 use sector::bytes::sector_in;
-use sector::directories::{directory_count, index_at};
-use sector::numbers::number_at;
+use sector::directories::{directory_count, index_at, indexes_of};
+use sector::numbers::numbers_of;
 use sector::order::list;
 
 // The descriptors that the index in sector i leads to keep their rules.
@@ -31,18 +32,12 @@ fn each_rule(layout: Layout, n: usize, image: &[u8], i: usize) -> bool
     requires { (i < n) × (length image.now ≡ 256 * n) × (range_rule n (files_in image.now i) ≡ true) }
     ensures { result ≡ each_rule layout n image.now (files_in image.now i) }
 {
-    let index = sector_in(image, i);
-    let mut at = 0;
-    loop {
-        let k = number_at(index, at);
-        if k == 0 {
-            return true;
-        }
-        if !descriptor_rule(layout, n, sector_in(image, k)) {
+    for k in numbers_of(sector_in(image, i)) {
+        if !descriptor_rule(layout, n, sector_in(image, usize::from(k))) {
             return false;
         }
-        at += 2;
     }
+    true
 }
 
 // The index in sector i with its numbers in name order; false where two have one name, and then what is made is of no use.
@@ -51,7 +46,7 @@ fn in_order(index: &mut [u8; 256], image: &[u8], i: usize) -> bool
     ensures value { result ≡ distinct_rule image.now [] (files_in image.now i) }
     ensures index_after { result ≡ true → index.new ≡ index_of (ordered image.now (files_in image.now i)) }
 {
-    copy(index, sector_in(image, i));
+    index.copy_from_slice(sector_in(image, i));
     order_numbers(index, image)
 }
 
@@ -69,14 +64,8 @@ fn catalogues_rule(layout: Layout, n: usize, image: &[u8]) -> bool
     requires { (length image.now ≡ 256 * n) × Below n (indexes layout image.now) × (every (λ i. index_rule n (sector_of image.now i)) (indexes layout image.now) ≡ true) }
     ensures { result ≡ every (λ i. each_rule layout n image.now (files_in image.now i) && distinct_rule image.now [] (files_in image.now i)) (indexes layout image.now) }
 {
-    let many = directory_count(layout);
-    let mut directory = 0;
-    while directory < many {
-        let i = index_at(layout, image, directory);
-        directory += 1;
-        if i == 0 {
-            continue;
-        }
+    for i in indexes_of(layout, image) {
+        let i = usize::from(i);
         if !each_rule(layout, n, image, i) {
             return false;
         }
@@ -87,48 +76,48 @@ fn catalogues_rule(layout: Layout, n: usize, image: &[u8]) -> bool
     true
 }
 
-// The number of an image as repair has it, 0 to 5; with 0 the map, whatever it was, is that of the holders.
-fn examine(layout: Layout, image: &[u8], map: &mut [u8; 200]) -> u32
-    ensures value { result ≡ first_of (repair_tests layout image.now) }
-    ensures map_after { result ≡ 0 → map.new ≡ map_of (sector_count image.now) (holders layout image.now) }
+// The first fault of an image as repair has it; where there is none the map, whatever it was, is that of the holders.
+fn examine(layout: Layout, image: &[u8], map: &mut [u8; 200]) -> Result<(), Fault>
+    ensures value { judged result ≡ first_of (repair_tests layout image.now) }
+    ensures map_after { judged result ≡ 0 → map.new ≡ map_of (sector_count image.now) (holders layout image.now) }
 {
     if image.len() % 256 != 0 {
-        return 1;
+        return Err(Fault::Length);
     }
     let n = image.len() / 256;
     if n < 3 {
-        return 1;
+        return Err(Fault::Length);
     }
     if n > 1600 {
-        return 1;
+        return Err(Fault::Length);
     }
     let sector0 = sector_in(image, 0);
     if !label_rule(n, sector0) {
-        return 2;
+        return Err(Fault::Label);
     }
     if !entries_rule(layout, n, sector0) {
-        return 3;
+        return Err(Fault::Index);
     }
     if !indexes_rule(layout, n, image) {
-        return 3;
+        return Err(Fault::Index);
     }
     if !catalogues_rule(layout, n, image) {
-        return 4;
+        return Err(Fault::Descriptor);
     }
     lay_map(map, n, 1);
     if claim_holders(layout, image, map) {
-        return 5;
+        return Err(Fault::Holders);
     }
-    0
+    Ok(())
 }
 
 // The index in sector i written in name order.
-fn order_index(image: &mut [u8], i: usize)
-    requires { (length image.old ≡ 256 * sector_count image.old) × (i < sector_count image.old) × (i < 65536) × IsIndex (sector_count image.old) (sector_of image.old i) × (distinct_rule image.old [] (files_in image.old i) ≡ true) }
+fn order_index(image: &mut [u8], i: u16)
+    requires { (length image.old ≡ 256 * sector_count image.old) × (i < sector_count image.old) × IsIndex (sector_count image.old) (sector_of image.old i) × (distinct_rule image.old [] (files_in image.old i) ≡ true) }
     ensures { image.new ≡ splice image.old (256 * i) (index_of (ordered image.old (files_in image.old i))) }
 {
     let mut index = [0u8; 256];
-    in_order(&mut index, image, i);
+    in_order(&mut index, image, usize::from(i));
     write_sector(image, i, &index);
 }
 
@@ -138,34 +127,28 @@ fn order_indexes(layout: Layout, image: &mut [u8], changes: &mut [u32; 133]) -> 
     ensures image_after { image.new ≡ written image.old (map (ordered_index image.old) (indexes layout image.old)) }
     ensures order { (changes.new ≡ splice changes.old 2 (indexes layout image.old)) × (result ≡ length (indexes layout image.old)) × (result ≤ 4) }
 {
-    let count = directory_count(layout);
     let mut many = 0;
-    let mut directory = 0;
-    while directory < count {
-        let i = index_at(layout, image, directory);
-        directory += 1;
-        if i == 0 {
+    // The image is written while it is read, so its indexes are read by their directories.
+    for directory in 0..directory_count(layout) {
+        let Some(i) = index_at(layout, image, directory) else {
             continue;
-        }
+        };
         order_index(image, i);
-        changes[2 + many] = i as u32;
+        changes[2 + many] = u32::from(i);
         many += 1;
     }
     many
 }
 
-pub fn repair(layout: Layout, image: &mut [u8], changes: &mut [u32; 133]) -> Answer
-    ensures meets { Meets AnswerSays (repair_of layout image.old) result image.old image.new }
+pub fn repair(layout: Layout, image: &mut [u8], changes: &mut [u32; 133]) -> Result<(), Refusal>
+    ensures meets { Meets AnswerSays (repair_of layout image.old) (answered result) image.old image.new }
     ensures order { changes.new ≡ listed (repair_of layout image.old) changes.old }
 {
     let mut map = [0u8; 200];
-    let number = examine(layout, image, &mut map);
-    if number != 0 {
-        return Answer::Refused(number);
-    }
+    examine(layout, image, &mut map)?;
     let many = order_indexes(layout, image, changes);
-    copy(&mut image[56..256], &map);
+    image[56..256].copy_from_slice(&map);
     let last = [0u32];
     list(changes, many, &last);
-    Answer::Done
+    Ok(())
 }

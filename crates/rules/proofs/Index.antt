@@ -31,6 +31,17 @@ module _ (index : List ℕ) (i : ℕ) where
       short (a ∷ []) k = refl
       short (a ∷ (b ∷ rest)) k = absurd (omega arith)
 
+-- a number takes two bytes
+pub numbers_inside : (index : List ℕ) → 2 * length (numbers index) ≤ length index
+unfolding numbers
+numbers_inside [] = omega arith
+numbers_inside (high ∷ []) = omega arith
+numbers_inside (high ∷ (low ∷ index)) = here (eqb (256 * high + low) 0) refl (numbers_inside index)
+  where
+    here : (t : Bool) → eqb (256 * high + low) 0 ≡ t → 2 * length (numbers index) ≤ length index → 2 * length (numbers (high ∷ (low ∷ index))) ≤ length (high ∷ (low ∷ index))
+    here true e more = rw e (omega arith)
+    here false e more = rw e (omega arith)
+
 range_is : (n : ℕ) (ks : List ℕ) → range_rule n ks ≡ true → (p : ℕ) → p < length ks → (2 ≤ get_or ks p 0) × (get_or ks p 0 < n)
 unfolding range_rule
 range_is n [] e p h = absurd (omega arith)

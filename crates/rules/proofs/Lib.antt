@@ -35,6 +35,7 @@ pub mod Choice
 pub mod Replaced
 pub mod Altered
 pub mod Outcome
+pub mod Refusals
 pub mod Opening
 pub mod Formatted
 pub mod MapMade

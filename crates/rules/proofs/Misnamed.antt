@@ -14,21 +14,20 @@ use borrow.Author.Tests.{eq-eqb, ne_eqb, eqb-true, eqb-false}
 use Rattle.rules.specs.Bytes.{byte_at, all_are}
 use Rattle.rules.specs.Name.{name_byte, padded, name_rule, wrong_from, wrong_place, IsNameByte, IsName, SpaceBefore, WrongByte, WrongAt, first, blank, unlent}
 use Rattle.rules.specs.Outcome.{if_wrong}
-use Rattle.rules.specs.declared.WrongPlace.{WrongPlace}
-use Rattle.rules.specs.declared.WrongPlace.TheVariants.{None, At}
+use Rattle.std.specs.Prelude.{Option, None, Some}
 use Rattle.rules.proofs.Tests.{both, absurd_test}
 use Rattle.rules.proofs.Bytes.{all_at}
 use Rattle.rules.proofs.Name.{name_byte_is, is_name_byte, name_is}
 use Rattle.rules.proofs.Outcome.{wrong_nowhere, wrong_cases}
 
-none_at : {A : Type 0} {place : ℕ} → None ≡ At place → A
+none_at : {A : Type 0} {place : ℕ} → None ≡ Some place → A
 none_at e = absurd (let z : ◌≡◌ {A = ℕ} 0 1 = cc in omega arith)
 
 -- a byte at a time
 pub wrong_step : (spaced : Bool) (name : List ℕ) (i : ℕ) → i < length name
     → wrong_from spaced i (drop i name)
     ≡ cond (eqb (byte_at name i) 32) (wrong_from true (i + 1) (drop (i + 1) name))
-    (cond (not spaced && name_byte (byte_at name i)) (wrong_from false (i + 1) (drop (i + 1) name)) (At i))
+    (cond (not spaced && name_byte (byte_at name i)) (wrong_from false (i + 1) (drop (i + 1) name)) (Some i))
 unfolding wrong_from
 wrong_step spaced name i h = rw (drop-cons name i 0, add-one)
 
@@ -55,7 +54,7 @@ padded_none i [] e = refl
 padded_none i (b ∷ bytes) e = go (eqb b 32) refl e (padded_none (i + 1) bytes)
   where
     go : (t : Bool) → eqb b 32 ≡ t → cond t (all_are 32 bytes) (name_byte b && padded bytes) ≡ true → (padded bytes ≡ true → wrong_from false (i + 1) bytes ≡ None)
-        → cond t (wrong_from true (i + 1) bytes) (cond (name_byte b) (wrong_from false (i + 1) bytes) (At i)) ≡ None
+        → cond t (wrong_from true (i + 1) bytes) (cond (name_byte b) (wrong_from false (i + 1) bytes) (Some i)) ≡ None
     go true space e more = spaces_none true (i + 1) bytes e
     go false space e more = let parts = both (name_byte b) (padded bytes) e in rw parts.0 (more parts.1)
 
@@ -64,7 +63,7 @@ unfolding wrong_from all_are
 none_spaces i [] e = refl
 none_spaces i (b ∷ bytes) e = go (eqb b 32) e (none_spaces (i + 1) bytes)
   where
-    go : (t : Bool) → cond t (wrong_from true (i + 1) bytes) (At i) ≡ None → (wrong_from true (i + 1) bytes ≡ None → all_are 32 bytes ≡ true) → (t && all_are 32 bytes) ≡ true
+    go : (t : Bool) → cond t (wrong_from true (i + 1) bytes) (Some i) ≡ None → (wrong_from true (i + 1) bytes ≡ None → all_are 32 bytes ≡ true) → (t && all_are 32 bytes) ≡ true
     go true e more = more e
     go false e more = none_at (sym e)
 
@@ -73,7 +72,7 @@ unfolding wrong_from padded
 none_padded i [] e = refl
 none_padded i (b ∷ bytes) e = go (eqb b 32) (name_byte b) e (none_padded (i + 1) bytes)
   where
-    go : (t u : Bool) → cond t (wrong_from true (i + 1) bytes) (cond u (wrong_from false (i + 1) bytes) (At i)) ≡ None → (wrong_from false (i + 1) bytes ≡ None → padded bytes ≡ true)
+    go : (t u : Bool) → cond t (wrong_from true (i + 1) bytes) (cond u (wrong_from false (i + 1) bytes) (Some i)) ≡ None → (wrong_from false (i + 1) bytes ≡ None → padded bytes ≡ true)
         → cond t (all_are 32 bytes) (u && padded bytes) ≡ true
     go true u e more = none_spaces (i + 1) bytes e
     go false true e more = more e
@@ -107,7 +106,7 @@ pub none_rule : (name : List ℕ) → wrong_place name ≡ None → name_rule na
 unfolding name_rule wrong_place
 none_rule name e = go (eqb (length name) 10) (all_are 32 name) refl refl e
   where
-    go : (t u : Bool) → eqb (length name) 10 ≡ t → all_are 32 name ≡ u → cond t (cond u (At 0) (wrong_from false 0 name)) (At 10) ≡ None
+    go : (t u : Bool) → eqb (length name) 10 ≡ t → all_are 32 name ≡ u → cond t (cond u (Some 0) (wrong_from false 0 name)) (Some 10) ≡ None
         → (t && (name_byte (byte_at name 0) && padded name)) ≡ true
     go true true ten spaces e = none_at (sym e)
     go true false ten spaces e =
@@ -125,7 +124,7 @@ not_blank name i inside solid = go (all_are 32 name) refl
 
 -- a name by its bytes in front and what is behind them: the first that is no space there or, where nothing is in front, 0
 pub wrong_behind : (name : List ℕ) (used : ℕ) → length name ≡ 10 → wrong_from false 0 name ≡ wrong_from true used (drop used name) → (1 ≤ used → all_are 32 name ≡ false)
-    → wrong_place name ≡ if_wrong (wrong_from true used (drop used name)) At (cond (eqb used 0) (At 0) None)
+    → wrong_place name ≡ if_wrong (wrong_from true used (drop used name)) Some (cond (eqb used 0) (Some 0) None)
 unfolding wrong_place
 wrong_behind name used ten same front = rw (eq-eqb (length name) 10 ten) (go (all_are 32 name) refl)
   where
@@ -140,11 +139,11 @@ wrong_behind name used ten same front = rw (eq-eqb (length name) 10 ten) (go (al
     some_front other none =
         ne_eqb used 0 (λ e. absurd_test (sym (none_spaces 0 name (rw e at none)) ∙ other))
 
-    go : (t : Bool) → all_are 32 name ≡ t → cond t (At 0) (wrong_from false 0 name) ≡ if_wrong (wrong_from true used (drop used name)) At (cond (eqb used 0) (At 0) None)
-    go true spaces = sym (wrong_nowhere _ At _ (sym same ∙ spaces_none false 0 name spaces) ∙ rw (blank_front spaces))
+    go : (t : Bool) → all_are 32 name ≡ t → cond t (Some 0) (wrong_from false 0 name) ≡ if_wrong (wrong_from true used (drop used name)) Some (cond (eqb used 0) (Some 0) None)
+    go true spaces = sym (wrong_nowhere _ Some _ (sym same ∙ spaces_none false 0 name spaces) ∙ rw (blank_front spaces))
     go false other =
         same
-        ∙ wrong_cases (λ w. wrong_from true used (drop used name) ≡ w) (wrong_from true used (drop used name)) At _ (λ place there. there)
+        ∙ wrong_cases (λ w. wrong_from true used (drop used name) ≡ w) (wrong_from true used (drop used name)) Some _ (λ place there. there)
         (λ none. none ∙ rw (some_front other none))
 
 -- the search: what is wrong among bytes that stand behind a space, or behind none
@@ -200,14 +199,14 @@ module _ (b : ℕ) (bytes : List ℕ) where
       go (inr (inr s)) = inr (inr (shift s.earlier s.before s.space))
 
 -- what the search finds is wrong, and nothing before it is
-found_wrong : (spaced : Bool) (i : ℕ) (bytes : List ℕ) (place : ℕ) → wrong_from spaced i bytes ≡ At place → FirstFound spaced i bytes place
+found_wrong : (spaced : Bool) (i : ℕ) (bytes : List ℕ) (place : ℕ) → wrong_from spaced i bytes ≡ Some place → FirstFound spaced i bytes place
 unfolding wrong_from
 found_wrong spaced i [] place e = none_at e
 found_wrong spaced i (b ∷ bytes) place e =
     go spaced (eqb b 32) (name_byte b) refl refl e (found_wrong true (i + 1) bytes place) (found_wrong false (i + 1) bytes place)
   where
-    go : (s t u : Bool) → eqb b 32 ≡ t → name_byte b ≡ u → cond t (wrong_from true (i + 1) bytes) (cond (not s && u) (wrong_from false (i + 1) bytes) (At i)) ≡ At place
-        → (wrong_from true (i + 1) bytes ≡ At place → FirstFound true (i + 1) bytes place) → (wrong_from false (i + 1) bytes ≡ At place → FirstFound false (i + 1) bytes place)
+    go : (s t u : Bool) → eqb b 32 ≡ t → name_byte b ≡ u → cond t (wrong_from true (i + 1) bytes) (cond (not s && u) (wrong_from false (i + 1) bytes) (Some i)) ≡ Some place
+        → (wrong_from true (i + 1) bytes ≡ Some place → FirstFound true (i + 1) bytes place) → (wrong_from false (i + 1) bytes ≡ Some place → FirstFound false (i + 1) bytes place)
         → FirstFound s i (b ∷ bytes) place
     go s true u space named e after-space after-name =
         let f = after-space e in
@@ -270,11 +269,11 @@ is_wrongly name i is = record { solid = is.solid; wrong = go is.wrong }
     go (inr s) = inr (inr s)
 
 -- what the place says
-pub place_wrong : (name : List ℕ) (place : ℕ) → wrong_place name ≡ At place → WrongAt name place
+pub place_wrong : (name : List ℕ) (place : ℕ) → wrong_place name ≡ Some place → WrongAt name place
 unfolding wrong_place
 place_wrong name place e = go (eqb (length name) 10) (all_are 32 name) refl refl e
   where
-    go : (t u : Bool) → eqb (length name) 10 ≡ t → all_are 32 name ≡ u → cond t (cond u (At 0) (wrong_from false 0 name)) (At 10) ≡ At place → WrongAt name place
+    go : (t u : Bool) → eqb (length name) 10 ≡ t → all_are 32 name ≡ u → cond t (cond u (Some 0) (wrong_from false 0 name)) (Some 10) ≡ Some place → WrongAt name place
     go true true ten spaces e =
         let long = eqb-true (length name) 10 ten in
         let same : 0 ≡ place = cc in
@@ -321,9 +320,9 @@ wrong_unnamed name place (blank ten all e) is = omega (arith, all 0 (omega arith
 wrong_unnamed name place (unlent long e) is = long is.ten
 
 -- so the place is the one that the facts name
-pub wrong_place_lem : (name : List ℕ) (place : ℕ) → WrongAt name place → wrong_place name ≡ At place
+pub wrong_place_lem : (name : List ℕ) (place : ℕ) → WrongAt name place → wrong_place name ≡ Some place
 wrong_place_lem name place is = go (wrong_place name) refl
   where
-    go : (w : WrongPlace) → wrong_place name ≡ w → w ≡ At place
+    go : (w : Option ℕ) → wrong_place name ≡ w → w ≡ Some place
     go None e = absurd (wrong_unnamed name place is (name_is name (none_rule name e)))
-    go (At q) e = ap At (wrong_one name q place (place_wrong name q e) is)
+    go (Some q) e = ap Some (wrong_one name q place (place_wrong name q e) is)

@@ -18,14 +18,16 @@ use Rattle.rules.specs.Verdict.{volume_tests, verdict}
 use Rattle.rules.specs.Sound.{file_at, IsIndexed, SoundIndex, Sound, IsFile}
 use Rattle.rules.specs.Outcome.{Report, refuses, Outcome, refusal, Bare, NamedSays, NamedAmountSays, ReadSays, Gives}
 use Rattle.rules.specs.Opening.{find_from, find_in, in_directory, on_sound, under_name, open_of, on_file, changing, adding}
+use Rattle.rules.specs.Refusal.{refused, looked_for}
+use Rattle.rules.specs.declared.FileAt.{FileAt}
 use Rattle.rules.specs.declared.Layout.{Layout}
-use Rattle.rules.specs.declared.WrongPlace.{WrongPlace}
-use Rattle.rules.specs.declared.WrongPlace.TheVariants as wrong
-use Rattle.rules.specs.declared.NamedAnswer.{NamedAnswer}
-use Rattle.rules.specs.declared.NamedAnswer.TheVariants as named
-use Rattle.rules.specs.declared.NamedAmount.TheVariants as loaded
-use Rattle.rules.specs.declared.Opened.{Opened}
-use Rattle.rules.specs.declared.Opened.TheVariants.{At, Absent, Refused, Misnamed}
+use Rattle.rules.specs.declared.refusal.Refusal.{Refusal}
+use Rattle.std.specs.Prelude.{Option, None, Some}
+use Rattle.rules.specs.Answers.NamedAnswer.{NamedAnswer}
+use Rattle.rules.specs.Answers.NamedAnswer as named
+use Rattle.rules.specs.Answers.NamedAmount as loaded
+use Rattle.rules.specs.Answers.Opened.{Opened}
+use Rattle.rules.specs.Answers.Opened.{At, Absent, Refused, Misnamed}
 use Rattle.rules.proofs.Tests.{absurd_test, unless_passed, unless_met_lem}
 use Rattle.rules.proofs.Bytes.{same_is, is_same}
 use Rattle.rules.proofs.Map.{count_none, count_other}
@@ -35,6 +37,7 @@ use Rattle.rules.proofs.Volume.{place_inside}
 use Rattle.rules.proofs.Indexes.{directory_indexed}
 use Rattle.rules.proofs.Verdict.{sound, verdict_small}
 use Rattle.rules.proofs.Misnamed.{rule_none, none_rule}
+use Rattle.rules.proofs.Refusals.{refused_cases}
 use Rattle.rules.proofs.Outcome.{MeetsInOrder, wrong-there, wrong_nowhere, bare, meets_refusal, gives_refusal}
 
 -- the search, a number at a time
@@ -50,6 +53,14 @@ module _ (image : List ℕ) (i : ℕ) (name : List ℕ) (p : ℕ) (ks : List ℕ
 pub find_first : (image : List ℕ) (i : ℕ) (name : List ℕ) → find_in image i name ≡ find_from image i name 0 (files_in image i)
 unfolding find_in
 find_first image i name = refl
+
+-- what was looked for in an index, by what the code has of it
+module _ {index : ℕ} {file : Option FileAt} {opened : Opened} (is : looked_for index file ≡ opened) where
+  pub looked_found : {found : FileAt} → file ≡ Some found → opened ≡ At index found.place found.sector
+  looked_found e = sym is ∙ ap (looked_for index) e
+
+  pub looked_none : file ≡ None → opened ≡ Absent index
+  looked_none e = sym is ∙ ap (looked_for index) e
 
 -- what is found is there, under that name
 record Found (image : List ℕ) (i : ℕ) (name ks : List ℕ) (p h q k : ℕ) : Type 0 where
@@ -134,11 +145,11 @@ module _ (layout : Layout) (image : List ℕ) (looked : Opened) where
 
 -- and under a name that keeps the rule
 module _ (name : List ℕ) (looked : Opened) where
-  pub under_wrong : (place : ℕ) → wrong_place name ≡ wrong.At place → under_name name looked ≡ Misnamed place
+  pub under_wrong : (place : ℕ) → wrong_place name ≡ Some place → under_name name looked ≡ Misnamed place
   unfolding under_name
   under_wrong place e = wrong-there (wrong_place name) Misnamed looked place e
 
-  pub under_kept : wrong_place name ≡ wrong.None → under_name name looked ≡ looked
+  pub under_kept : wrong_place name ≡ None → under_name name looked ≡ looked
   unfolding under_name
   under_kept e = wrong_nowhere (wrong_place name) Misnamed looked e
 
@@ -180,15 +191,15 @@ sound_looked layout image looked opened e =
 
 -- what was looked for, or the place where the name is wrong
 pub data UnderName (name : List ℕ) (looked opened : Opened) : Type 0 where
-  ruled : wrong_place name ≡ wrong.None → looked ≡ opened → UnderName name looked opened
-  unruled : (place : ℕ) → wrong_place name ≡ wrong.At place → opened ≡ Misnamed place → UnderName name looked opened
+  ruled : wrong_place name ≡ None → looked ≡ opened → UnderName name looked opened
+  unruled : (place : ℕ) → wrong_place name ≡ Some place → opened ≡ Misnamed place → UnderName name looked opened
 
 pub name_looked : (name : List ℕ) (looked opened : Opened) → under_name name looked ≡ opened → UnderName name looked opened
 name_looked name looked opened e = go (wrong_place name) refl
   where
-    go : (w : WrongPlace) → wrong_place name ≡ w → UnderName name looked opened
-    go wrong.None none = ruled none (sym (under_kept name looked none) ∙ e)
-    go (wrong.At place) there = unruled place there (sym e ∙ under_wrong name looked place there)
+    go : (w : Option ℕ) → wrong_place name ≡ w → UnderName name looked opened
+    go None none = ruled none (sym (under_kept name looked none) ∙ e)
+    go (Some place) there = unruled place there (sym e ∙ under_wrong name looked place there)
 
 -- so a file that is there and a name that is not say that nothing was refused
 pub sound_passed : (layout : Layout) (image : List ℕ) (looked opened : Opened) → was_looked opened ≡ true → on_sound layout image looked ≡ opened → Sound layout image × (looked ≡ opened)
@@ -199,11 +210,11 @@ sound_passed layout image looked opened was e = go (sound_looked layout image lo
     go (whole is same) = (is, same)
     go (broken some is) = absurd_test (sym was ∙ ap was_looked is)
 
-pub name_passed : (name : List ℕ) (looked opened : Opened) → was_looked opened ≡ true → under_name name looked ≡ opened → (wrong_place name ≡ wrong.None) × (looked ≡ opened)
+pub name_passed : (name : List ℕ) (looked opened : Opened) → was_looked opened ≡ true → under_name name looked ≡ opened → (wrong_place name ≡ None) × (looked ≡ opened)
 unfolding was_looked
 name_passed name looked opened was e = go (name_looked name looked opened e)
   where
-    go : UnderName name looked opened → (wrong_place name ≡ wrong.None) × (looked ≡ opened)
+    go : UnderName name looked opened → (wrong_place name ≡ None) × (looked ≡ opened)
     go (ruled none same) = (none, same)
     go (unruled place there is) = absurd_test (sym was ∙ ap was_looked is)
 
@@ -264,7 +275,7 @@ refused_bare layout image looked carries number e = go (sound_looked layout imag
         (refl, λ z. some (sym same ∙ z), λ z. omega (arith, same, z, verdict_small layout image))
 
 -- what was found is a file of that name
-pub found_is : (layout : Layout) (image name : List ℕ) (i h p k : ℕ) → Sound layout image → IsIndexed layout image i → wrong_place name ≡ wrong.None → find_in image i name ≡ At h p k → (i ≡ h) × IsOpened layout image name i p k
+pub found_is : (layout : Layout) (image name : List ℕ) (i h p k : ℕ) → Sound layout image → IsIndexed layout image i → wrong_place name ≡ None → find_in image i name ≡ At h p k → (i ≡ h) × IsOpened layout image name i p k
 unfolding find_in
 found_is layout image name i h p k is indexed none e =
     let f = found image i name 0 (files_in image i) h p k e in
@@ -278,7 +289,7 @@ pub record IsAbsent (layout : Layout) (image name : List ℕ) (i : ℕ) : Type 0
   pub absent : find_in image i name ≡ Absent i
 
 -- in a directory: it is there, and the file is or is not
-pub directory_found : (layout : Layout) (image : List ℕ) (directory : ℕ) (name : List ℕ) (i p k : ℕ) → Sound layout image → wrong_place name ≡ wrong.None → in_directory layout image directory name ≡ At i p k
+pub directory_found : (layout : Layout) (image : List ℕ) (directory : ℕ) (name : List ℕ) (i p k : ℕ) → Sound layout image → wrong_place name ≡ None → in_directory layout image directory name ≡ At i p k
     → (index_at layout image directory ≡ i) × IsOpened layout image name i p k
 directory_found layout image directory name i p k is none e = go (directory_looked layout image directory name (At i p k) e)
   where
@@ -286,7 +297,7 @@ directory_found layout image directory name i p k is none e = go (directory_look
     go (in_index h at indexed looked) = let f = found_is layout image name h i p k is indexed none looked in (at ∙ f.0, rw f.0 at f.1)
     go (nowhere zero refused) = absurd (let z : ◌≡◌ {A = ℕ} 0 1 = cc in omega arith)
 
-pub directory_absent : (layout : Layout) (image : List ℕ) (directory : ℕ) (name : List ℕ) (i : ℕ) → Sound layout image → wrong_place name ≡ wrong.None → in_directory layout image directory name ≡ Absent i
+pub directory_absent : (layout : Layout) (image : List ℕ) (directory : ℕ) (name : List ℕ) (i : ℕ) → Sound layout image → wrong_place name ≡ None → in_directory layout image directory name ≡ Absent i
     → (index_at layout image directory ≡ i) × IsAbsent layout image name i
 directory_absent layout image directory name i is none e = go (directory_looked layout image directory name (Absent i) e)
   where
@@ -305,15 +316,15 @@ module _ (layout : Layout) (image : List ℕ) (directory : ℕ) (name : List ℕ
   unfolding open_of
   open_unsound some = on_unsound layout image _ some
 
-  pub open_wrong : (place : ℕ) → verdict layout image ≡ 0 → wrong_place name ≡ wrong.At place → open_of layout image directory name ≡ Misnamed place
+  pub open_wrong : (place : ℕ) → verdict layout image ≡ 0 → wrong_place name ≡ Some place → open_of layout image directory name ≡ Misnamed place
   unfolding open_of
   open_wrong place e there = on_sound_lem layout image _ e ∙ under_wrong name _ place there
 
-  pub open_looked : verdict layout image ≡ 0 → wrong_place name ≡ wrong.None → open_of layout image directory name ≡ in_directory layout image directory name
+  pub open_looked : verdict layout image ≡ 0 → wrong_place name ≡ None → open_of layout image directory name ≡ in_directory layout image directory name
   unfolding open_of
   open_looked e none = on_sound_lem layout image _ e ∙ under_kept name _ none
 
-  open_passed : (opened : Opened) → was_looked opened ≡ true → open_of layout image directory name ≡ opened → Sound layout image × (wrong_place name ≡ wrong.None) × (found_there ≡ opened)
+  open_passed : (opened : Opened) → was_looked opened ≡ true → open_of layout image directory name ≡ opened → Sound layout image × (wrong_place name ≡ None) × (found_there ≡ opened)
   unfolding open_of
   open_passed opened was e =
       let s = sound_passed layout image _ opened was e in
@@ -339,15 +350,15 @@ module _ (layout : Layout) (image : List ℕ) (directory : ℕ) (name : List ℕ
   unfolding open_of
   open_refused = refused_bare layout image (under_name name found_there) (λ number e. under_refused name found_there number (directory_refused layout image directory name number) e)
 
-  pub open_misnamed : (place : ℕ) → open_of layout image directory name ≡ Misnamed place → wrong_place name ≡ wrong.At place
+  pub open_misnamed : (place : ℕ) → open_of layout image directory name ≡ Misnamed place → wrong_place name ≡ Some place
   unfolding open_of
   open_misnamed place e = go (sound_looked layout image _ (Misnamed place) e)
     where
-      looks : UnderName name found_there (Misnamed place) → wrong_place name ≡ wrong.At place
+      looks : UnderName name found_there (Misnamed place) → wrong_place name ≡ Some place
       looks (ruled none is) = absurd (directory_misnamed layout image directory name place is)
-      looks (unruled found there is) = let same : found ≡ place = cc in there ∙ ap wrong.At same
+      looks (unruled found there is) = let same : found ≡ place = cc in there ∙ ap Some same
 
-      go : OnSound layout image (under_name name found_there) (Misnamed place) → wrong_place name ≡ wrong.At place
+      go : OnSound layout image (under_name name found_there) (Misnamed place) → wrong_place name ≡ Some place
       go (whole is same) = looks (name_looked name _ (Misnamed place) same)
       go (broken some is) = absurd (let z : ◌≡◌ {A = ℕ} 0 1 = cc in omega arith)
 
@@ -429,6 +440,12 @@ module _ (layout : Layout) (image : List ℕ) (directory : ℕ) (name before : L
   unfolding NamedAmountSays
   load_misnamed place e = gives_refusal (NamedAmountSays (wrong_place name)) (loaded.Misnamed place) before report 7 (refl, open_misnamed layout image directory name place e) (on_misnamed _ reading place e)
 
+  -- a refusal of the opening that is passed on
+  pub load_passed : (r : Refusal) → refused Misnamed Refused r ≡ open_of layout image directory name → Gives (NamedAmountSays (wrong_place name)) report (refused loaded.Misnamed loaded.Refused r) before before
+  load_passed =
+      refused_cases (λ opened given. opened ≡ open_of layout image directory name → Gives (NamedAmountSays (wrong_place name)) report given before before) Misnamed Refused loaded.Misnamed loaded.Refused
+      (λ place e. load_misnamed place (sym e)) (λ number e. load_refused number (sym e))
+
   pub load_absent : (i : ℕ) → open_of layout image directory name ≡ Absent i → Gives (NamedAmountSays (wrong_place name)) report (loaded.Refused 8) before before
   unfolding NamedAmountSays
   load_absent i e = gives_refusal (NamedAmountSays (wrong_place name)) (loaded.Refused 8) before report 8 (bare 8 refl) (on_absent _ reading i e)
@@ -441,12 +458,17 @@ module _ (layout : Layout) (image : List ℕ) (directory : ℕ) (name before : L
   unfolding NamedSays
   file_misnamed place e = gives_refusal (ReadSays (wrong_place name)) (named.Misnamed place) before report 7 (refl, open_misnamed layout image directory name place e) (on_misnamed _ reading place e)
 
+  pub file_passed : (r : Refusal) → refused Misnamed Refused r ≡ open_of layout image directory name → Gives (ReadSays (wrong_place name)) report (refused named.Misnamed named.Refused r) before before
+  file_passed =
+      refused_cases (λ opened given. opened ≡ open_of layout image directory name → Gives (ReadSays (wrong_place name)) report given before before) Misnamed Refused named.Misnamed named.Refused
+      (λ place e. file_misnamed place (sym e)) (λ number e. file_refused number (sym e))
+
   pub file_absent : (i : ℕ) → open_of layout image directory name ≡ Absent i → Gives (ReadSays (wrong_place name)) report (named.Refused 8) before before
   unfolding NamedSays
   file_absent i e = gives_refusal (ReadSays (wrong_place name)) (named.Refused 8) before report 8 (bare 8 refl) (on_absent _ reading i e)
 
-  pub on_found : {Given : Type 0} (Says : WrongPlace → Given → Report → Type 0) (i p k : ℕ) → open_of layout image directory name ≡ At i p k → (given : Given) (after : List ℕ)
-      → Gives (Says wrong.None) (reading k) given before after → Gives (Says (wrong_place name)) report given before after
+  pub on_found : {Given : Type 0} (Says : Option ℕ → Given → Report → Type 0) (i p k : ℕ) → open_of layout image directory name ≡ At i p k → (given : Given) (after : List ℕ)
+      → Gives (Says None) (reading k) given before after → Gives (Says (wrong_place name)) report given before after
   unfolding on_file
   on_found Says i p k e given after gives = rw (rule_none name (opened_is layout image directory name i p k e).rule, e) gives
 
@@ -463,11 +485,17 @@ module _ (layout : Layout) (image changes : List ℕ) (directory : ℕ) (name : 
   unfolding NamedSays
   change_misnamed place e = meets_refusal (NamedSays (wrong_place name)) (named.Misnamed place) image changes outcome 7 (refl, open_misnamed layout image directory name place e) (changing_misnamed _ change place e)
 
+  pub change_passed : (r : Refusal) → refused Misnamed Refused r ≡ open_of layout image directory name
+      → MeetsInOrder (NamedSays (wrong_place name)) outcome (refused named.Misnamed named.Refused r) image image changes changes
+  change_passed =
+      refused_cases (λ opened given. opened ≡ open_of layout image directory name → MeetsInOrder (NamedSays (wrong_place name)) outcome given image image changes changes) Misnamed Refused named.Misnamed named.Refused
+      (λ place e. change_misnamed place (sym e)) (λ number e. change_refused number (sym e))
+
   pub change_absent : (i : ℕ) → open_of layout image directory name ≡ Absent i → MeetsInOrder (NamedSays (wrong_place name)) outcome (named.Refused 8) image image changes changes
   unfolding NamedSays
   change_absent i e = meets_refusal (NamedSays (wrong_place name)) (named.Refused 8) image changes outcome 8 (bare 8 refl) (changing_absent _ change i e)
 
-  pub change_found : (i p k : ℕ) → open_of layout image directory name ≡ At i p k → (given : NamedAnswer) (after order : List ℕ) → MeetsInOrder (NamedSays wrong.None) (change i k) given image after changes order
+  pub change_found : (i p k : ℕ) → open_of layout image directory name ≡ At i p k → (given : NamedAnswer) (after order : List ℕ) → MeetsInOrder (NamedSays None) (change i k) given image after changes order
       → MeetsInOrder (NamedSays (wrong_place name)) outcome given image after changes order
   unfolding changing
   change_found i p k e given after order meets = rw (rule_none name (opened_is layout image directory name i p k e).rule, e) meets
@@ -485,11 +513,17 @@ module _ (layout : Layout) (image changes : List ℕ) (directory : ℕ) (name : 
   unfolding NamedSays
   add_misnamed place e = meets_refusal (NamedSays (wrong_place name)) (named.Misnamed place) image changes added 7 (refl, open_misnamed layout image directory name place e) (adding_misnamed _ addition place e)
 
+  pub add_passed : (r : Refusal) → refused Misnamed Refused r ≡ open_of layout image directory name
+      → MeetsInOrder (NamedSays (wrong_place name)) added (refused named.Misnamed named.Refused r) image image changes changes
+  add_passed =
+      refused_cases (λ opened given. opened ≡ open_of layout image directory name → MeetsInOrder (NamedSays (wrong_place name)) added given image image changes changes) Misnamed Refused named.Misnamed named.Refused
+      (λ place e. add_misnamed place (sym e)) (λ number e. add_refused number (sym e))
+
   pub add_present : (i p k : ℕ) → open_of layout image directory name ≡ At i p k → MeetsInOrder (NamedSays (wrong_place name)) added (named.Refused 9) image image changes changes
   unfolding NamedSays
   add_present i p k e = meets_refusal (NamedSays (wrong_place name)) (named.Refused 9) image changes added 9 (bare 9 refl) (adding_present _ addition i p k e)
 
-  pub add_absent : (i : ℕ) → open_of layout image directory name ≡ Absent i → (given : NamedAnswer) (after order : List ℕ) → MeetsInOrder (NamedSays wrong.None) (addition i) given image after changes order
+  pub add_absent : (i : ℕ) → open_of layout image directory name ≡ Absent i → (given : NamedAnswer) (after order : List ℕ) → MeetsInOrder (NamedSays None) (addition i) given image after changes order
       → MeetsInOrder (NamedSays (wrong_place name)) added given image after changes order
   unfolding adding
   add_absent i e given after order meets = rw (rule_none name (absent_is layout image directory name i e).rule, e) meets

@@ -12,18 +12,17 @@ use Rattle.rules.specs.Bytes.{splice}
 use Rattle.rules.specs.Sectors.{Write, sectors_in, written}
 use Rattle.rules.specs.Tests.{Test, first_of, unless_met}
 use Rattle.rules.specs.Outcome.{Report, gives, refuses, Outcome, done, refusal, order_of, listed, reported, AnswerSays, AmountSays, Bare, NamedSays, NamedAmountSays, RenameSays, Meets, Gives, answer_of, amount_of, by_number, if_wrong, named_answer_of, named_amount_of, rename_answer_of, behind}
-use Rattle.rules.specs.declared.Answer.{Answer}
-use Rattle.rules.specs.declared.Amount.{Amount}
-use Rattle.rules.specs.declared.Answer.TheVariants as answer
-use Rattle.rules.specs.declared.Amount.TheVariants as amount
-use Rattle.rules.specs.declared.WrongPlace.{WrongPlace}
-use Rattle.rules.specs.declared.WrongPlace.TheVariants.{None, At}
-use Rattle.rules.specs.declared.NamedAnswer.{NamedAnswer}
-use Rattle.rules.specs.declared.NamedAnswer.TheVariants as named
-use Rattle.rules.specs.declared.NamedAmount.{NamedAmount}
-use Rattle.rules.specs.declared.NamedAmount.TheVariants as loaded
-use Rattle.rules.specs.declared.RenameAnswer.{RenameAnswer}
-use Rattle.rules.specs.declared.RenameAnswer.TheVariants as renamed
+use Rattle.rules.specs.Answers.Answer.{Answer}
+use Rattle.rules.specs.Answers.Amount.{Amount}
+use Rattle.rules.specs.Answers.Answer as answer
+use Rattle.rules.specs.Answers.Amount as amount
+use Rattle.std.specs.Prelude.{Option, None, Some}
+use Rattle.rules.specs.Answers.NamedAnswer.{NamedAnswer}
+use Rattle.rules.specs.Answers.NamedAnswer as named
+use Rattle.rules.specs.Answers.NamedAmount.{NamedAmount}
+use Rattle.rules.specs.Answers.NamedAmount as loaded
+use Rattle.rules.specs.Answers.RenameAnswer.{RenameAnswer}
+use Rattle.rules.specs.Answers.RenameAnswer as renamed
 use Rattle.rules.proofs.Tests.{neither, unless_passed, unless_met_lem}
 use Rattle.rules.proofs.Splice.{splice_none, splice_cons}
 
@@ -72,8 +71,8 @@ module _ {A : Type 0} (number : ℕ) (done misnamed refused : A) where
       ]
 
 -- a name that is wrong at a place, and one that is not
-module _ {A : Type 0} (wrong : WrongPlace) (there : ℕ → A) (otherwise : A) where
-  pub wrong-there : (place : ℕ) → wrong ≡ At place → if_wrong wrong there otherwise ≡ there place
+module _ {A : Type 0} (wrong : Option ℕ) (there : ℕ → A) (otherwise : A) where
+  pub wrong-there : (place : ℕ) → wrong ≡ Some place → if_wrong wrong there otherwise ≡ there place
   unfolding if_wrong
   wrong-there place e = rw e
 
@@ -81,25 +80,25 @@ module _ {A : Type 0} (wrong : WrongPlace) (there : ℕ → A) (otherwise : A) w
   unfolding if_wrong
   wrong_nowhere e = rw e
 
-pub wrong_cases : {A : Type 0} (P : A → Type 0) (wrong : WrongPlace) (there : ℕ → A) (otherwise : A) → ((place : ℕ) → wrong ≡ At place → P (there place)) → (wrong ≡ None → P otherwise)
+pub wrong_cases : {A : Type 0} (P : A → Type 0) (wrong : Option ℕ) (there : ℕ → A) (otherwise : A) → ((place : ℕ) → wrong ≡ Some place → P (there place)) → (wrong ≡ None → P otherwise)
     → P (if_wrong wrong there otherwise)
 unfolding if_wrong
 wrong_cases P None there otherwise yes_there not_there = not_there refl
-wrong_cases P (At place) there otherwise yes_there not_there = yes_there place refl
+wrong_cases P (Some place) there otherwise yes_there not_there = yes_there place refl
 
-pub says_named : (wrong : WrongPlace) (given : NamedAnswer) (number : ℕ) → NamedSays wrong given number → given ≡ named_answer_of wrong number
+pub says_named : (wrong : Option ℕ) (given : NamedAnswer) (number : ℕ) → NamedSays wrong given number → given ≡ named_answer_of wrong number
 unfolding NamedSays named_answer_of
 says_named wrong named.Done number said = sym (by_done number _ _ _ said)
 says_named wrong (named.Refused refused) number said = ap named.Refused said.0 ∙ sym (by_other number _ _ _ said.1 said.2)
 says_named wrong (named.Misnamed place) number said = sym (by_seven number _ _ _ said.0 ∙ wrong-there wrong named.Misnamed _ place said.1)
 
-pub says_named_amount : (wrong : WrongPlace) (given : NamedAmount) (report : Report) → NamedAmountSays wrong given report → given ≡ named_amount_of wrong report
+pub says_named_amount : (wrong : Option ℕ) (given : NamedAmount) (report : Report) → NamedAmountSays wrong given report → given ≡ named_amount_of wrong report
 unfolding NamedAmountSays named_amount_of
 says_named_amount wrong (loaded.Given value) report said = ap loaded.Given said.1 ∙ sym (by_done report.number _ _ _ said.0)
 says_named_amount wrong (loaded.Refused refused) report said = ap loaded.Refused said.0 ∙ sym (by_other report.number _ _ _ said.1 said.2)
 says_named_amount wrong (loaded.Misnamed place) report said = sym (by_seven report.number _ _ _ said.0 ∙ wrong-there wrong loaded.Misnamed _ place said.1)
 
-pub says_rename : (old new : WrongPlace) (given : RenameAnswer) (number : ℕ) → RenameSays old new given number → given ≡ rename_answer_of old new number
+pub says_rename : (old new : Option ℕ) (given : RenameAnswer) (number : ℕ) → RenameSays old new given number → given ≡ rename_answer_of old new number
 unfolding RenameSays rename_answer_of
 says_rename old new renamed.Done number said = sym (by_done number _ _ _ said)
 says_rename old new (renamed.Refused refused) number said = ap renamed.Refused said.0 ∙ sym (by_other number _ _ _ said.1 said.2)

@@ -14,6 +14,8 @@ pub mod Tests
 pub mod Verdict
 pub mod Sound
 pub mod Choice
+pub mod Answers
 pub mod Outcome
 pub mod Opening
 pub mod Calls
+pub mod Refusal

@@ -1,8 +1,6 @@
 -- Names: 1 to 10 bytes, each 33 to 126 but not 46 (the dot), then spaces (32) to ten. They compare as ten unsigned bytes.
-use Rattle.std.specs.Prelude.{◌≡◌, Bool, true, false, not, cond, ◌&&◌, List, [], ◌∷◌, ◌⊎◌, ℕ, ◌+◌, ◌≤◌, ◌<◌, eqb, leb, ltb, length}
+use Rattle.std.specs.Prelude.{◌≡◌, Bool, true, false, not, cond, ◌&&◌, List, [], ◌∷◌, ◌⊎◌, ℕ, ◌+◌, ◌≤◌, ◌<◌, eqb, leb, ltb, length, Option, None, Some}
 use Rattle.rules.specs.Bytes.{byte_at, all_are}
-use Rattle.rules.specs.declared.WrongPlace.{WrongPlace}
-use Rattle.rules.specs.declared.WrongPlace.TheVariants.{None, At}
 
 unfoldable pub name_byte : ℕ → Bool
 name_byte b = leb 33 b && (leb b 126 && not (eqb b 46))
@@ -16,14 +14,14 @@ unfoldable pub name_rule : List ℕ → Bool
 name_rule name = eqb (length name) 10 && (name_byte (byte_at name 0) && padded name)
 
 -- the place of the first wrong byte among those from place i on; one that is no space is wrong where a space came before it
-unfoldable pub wrong_from : Bool → ℕ → List ℕ → WrongPlace
+unfoldable pub wrong_from : Bool → ℕ → List ℕ → Option ℕ
 wrong_from spaced i [] = None
 wrong_from spaced i (b ∷ bytes) =
-    cond (eqb b 32) (wrong_from true (i + 1) bytes) (cond (not spaced && name_byte b) (wrong_from false (i + 1) bytes) (At i))
+    cond (eqb b 32) (wrong_from true (i + 1) bytes) (cond (not spaced && name_byte b) (wrong_from false (i + 1) bytes) (Some i))
 
 -- where a name breaks the rule: a blank one at 0; one that is not lent as ten bytes at 10
-unfoldable pub wrong_place : List ℕ → WrongPlace
-wrong_place name = cond (eqb (length name) 10) (cond (all_are 32 name) (At 0) (wrong_from false 0 name)) (At 10)
+unfoldable pub wrong_place : List ℕ → Option ℕ
+wrong_place name = cond (eqb (length name) 10) (cond (all_are 32 name) (Some 0) (wrong_from false 0 name)) (Some 10)
 
 -- the order of names: by the first byte that differs
 unfoldable pub precedes : List ℕ → List ℕ → Bool

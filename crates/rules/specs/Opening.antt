@@ -7,8 +7,8 @@ use Rattle.rules.specs.Tests.{unless_met}
 use Rattle.rules.specs.Verdict.{volume_tests, verdict}
 use Rattle.rules.specs.Outcome.{Report, refuses, Outcome, refusal, if_wrong}
 use Rattle.rules.specs.declared.Layout.{Layout}
-use Rattle.rules.specs.declared.Opened.{Opened}
-use Rattle.rules.specs.declared.Opened.TheVariants.{At, Absent, Refused, Misnamed}
+use Rattle.rules.specs.Answers.Opened.{Opened}
+use Rattle.rules.specs.Answers.Opened.{At, Absent, Refused, Misnamed}
 
 -- the file of that name among the files ks of index i, the first of which is at place p of the catalogue
 unfoldable pub find_from : List ℕ → ℕ → List ℕ → ℕ → List ℕ → Opened

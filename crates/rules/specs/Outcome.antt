@@ -1,20 +1,18 @@
 -- What a call gives: its number, and with number 0 what it reads or writes; what its answer says of that; and what the code promises.
-use Rattle.std.specs.Prelude.{◌≡◌, cond, List, [], ◌∷◌, ℕ, eqb, length}
+use Rattle.std.specs.Prelude.{◌≡◌, cond, List, [], ◌∷◌, ℕ, eqb, length, Option, None, Some}
 use Rattle.rules.specs.Bytes.{splice}
 use Rattle.rules.specs.Sectors.{Write, sectors_in, written}
 use Rattle.rules.specs.Tests.{Test, first_of, unless_met}
-use Rattle.rules.specs.declared.Answer.{Answer}
-use Rattle.rules.specs.declared.Amount.{Amount}
-use Rattle.rules.specs.declared.Answer.TheVariants as answer
-use Rattle.rules.specs.declared.Amount.TheVariants as amount
-use Rattle.rules.specs.declared.WrongPlace.{WrongPlace}
-use Rattle.rules.specs.declared.WrongPlace.TheVariants.{None, At}
-use Rattle.rules.specs.declared.NamedAnswer.{NamedAnswer}
-use Rattle.rules.specs.declared.NamedAnswer.TheVariants as named
-use Rattle.rules.specs.declared.NamedAmount.{NamedAmount}
-use Rattle.rules.specs.declared.NamedAmount.TheVariants as loaded
-use Rattle.rules.specs.declared.RenameAnswer.{RenameAnswer}
-use Rattle.rules.specs.declared.RenameAnswer.TheVariants as renamed
+use Rattle.rules.specs.Answers.Answer.{Answer}
+use Rattle.rules.specs.Answers.Amount.{Amount}
+use Rattle.rules.specs.Answers.Answer as answer
+use Rattle.rules.specs.Answers.Amount as amount
+use Rattle.rules.specs.Answers.NamedAnswer.{NamedAnswer}
+use Rattle.rules.specs.Answers.NamedAnswer as named
+use Rattle.rules.specs.Answers.NamedAmount.{NamedAmount}
+use Rattle.rules.specs.Answers.NamedAmount as loaded
+use Rattle.rules.specs.Answers.RenameAnswer.{RenameAnswer}
+use Rattle.rules.specs.Answers.RenameAnswer as renamed
 
 -- a reading call: its number, a value, and the bytes that it puts at the front of the buffer
 pub record Report : Type 0 where
@@ -72,25 +70,25 @@ abbrev pub Bare : ℕ → ℕ → Type 0
 Bare refused number = (refused ≡ number) × (number ≡ 0 → ⊥) × (number ≡ 7 → ⊥)
 
 -- of a call that takes a name, by where the name is wrong: with 7, and with 7 alone, the place
-unfoldable pub NamedSays : WrongPlace → NamedAnswer → ℕ → Type 0
+unfoldable pub NamedSays : Option ℕ → NamedAnswer → ℕ → Type 0
 NamedSays wrong named.Done number = number ≡ 0
 NamedSays wrong (named.Refused refused) number = Bare refused number
-NamedSays wrong (named.Misnamed place) number = (number ≡ 7) × (wrong ≡ At place)
+NamedSays wrong (named.Misnamed place) number = (number ≡ 7) × (wrong ≡ Some place)
 
-unfoldable pub NamedAmountSays : WrongPlace → NamedAmount → Report → Type 0
+unfoldable pub NamedAmountSays : Option ℕ → NamedAmount → Report → Type 0
 NamedAmountSays wrong (loaded.Given value) report = (report.number ≡ 0) × (value ≡ report.value)
 NamedAmountSays wrong (loaded.Refused refused) report = Bare refused report.number
-NamedAmountSays wrong (loaded.Misnamed place) report = (report.number ≡ 7) × (wrong ≡ At place)
+NamedAmountSays wrong (loaded.Misnamed place) report = (report.number ≡ 7) × (wrong ≡ Some place)
 
 -- of a rename, by where the old name is wrong and where the new one: which of them is meant, the old one first
-unfoldable pub RenameSays : WrongPlace → WrongPlace → RenameAnswer → ℕ → Type 0
+unfoldable pub RenameSays : Option ℕ → Option ℕ → RenameAnswer → ℕ → Type 0
 RenameSays old new renamed.Done number = number ≡ 0
 RenameSays old new (renamed.Refused refused) number = Bare refused number
-RenameSays old new (renamed.OldMisnamed place) number = (number ≡ 7) × (old ≡ At place)
-RenameSays old new (renamed.NewMisnamed place) number = (number ≡ 7) × (old ≡ None) × (new ≡ At place)
+RenameSays old new (renamed.OldMisnamed place) number = (number ≡ 7) × (old ≡ Some place)
+RenameSays old new (renamed.NewMisnamed place) number = (number ≡ 7) × (old ≡ None) × (new ≡ Some place)
 
 -- of a call that reads and gives no value
-abbrev pub ReadSays : WrongPlace → NamedAnswer → Report → Type 0
+abbrev pub ReadSays : Option ℕ → NamedAnswer → Report → Type 0
 ReadSays wrong answer report = NamedSays wrong answer report.number
 
 -- a call that writes: what it answers, as the enum says it, and the image before and after
@@ -115,19 +113,19 @@ unfoldable pub by_number : {A : Type 0} → ℕ → A → A → A → A
 by_number number done misnamed refused = cond (eqb number 0) done (cond (eqb number 7) misnamed refused)
 
 -- the place where a name is wrong, and something else where it is not
-unfoldable pub if_wrong : {A : Type 0} → WrongPlace → (ℕ → A) → A → A
-if_wrong (At place) there otherwise = there place
+unfoldable pub if_wrong : {A : Type 0} → Option ℕ → (ℕ → A) → A → A
+if_wrong (Some place) there otherwise = there place
 if_wrong None there otherwise = otherwise
 
-unfoldable pub named_answer_of : WrongPlace → ℕ → NamedAnswer
+unfoldable pub named_answer_of : Option ℕ → ℕ → NamedAnswer
 named_answer_of wrong number = by_number number named.Done (if_wrong wrong named.Misnamed (named.Refused number)) (named.Refused number)
 
-unfoldable pub named_amount_of : WrongPlace → Report → NamedAmount
+unfoldable pub named_amount_of : Option ℕ → Report → NamedAmount
 named_amount_of wrong report =
     let number = report.number in
     by_number number (loaded.Given report.value) (if_wrong wrong loaded.Misnamed (loaded.Refused number)) (loaded.Refused number)
 
-unfoldable pub rename_answer_of : WrongPlace → WrongPlace → ℕ → RenameAnswer
+unfoldable pub rename_answer_of : Option ℕ → Option ℕ → ℕ → RenameAnswer
 rename_answer_of old new number =
     by_number number renamed.Done (if_wrong old renamed.OldMisnamed (if_wrong new renamed.NewMisnamed (renamed.Refused number))) (renamed.Refused number)
 

@@ -2,16 +2,20 @@
 // proofs/ holds the laws about them.
 #![tactic(auto)]
 
+mod refusal;
+
+pub use refusal::{Fault, Refusal, RenameRefusal};
+
 // The rules that an image is read by: whether status bit 10 hex is the backup mark, "changed since backup", or forbidden; and
 // whether sector 0 has entries of directories, as in the second edition, or bytes that are carried there, as in the first.
-#[derive(Clone, Copy)]
+#[derive(Clone, Copy, Debug, PartialEq, Eq)]
 pub struct Layout {
     pub marks: bool,
     pub directories: bool,
 }
 
 // A block of a chain: its first sector, and the last offset in the file that it covers.
-#[derive(Clone, Copy)]
+#[derive(Clone, Copy, Debug, PartialEq, Eq)]
 pub struct Block {
     pub start: usize,
     pub last: usize,
@@ -19,7 +23,7 @@ pub struct Block {
 
 // A file's kind, each case with its own numbers: a program with its length in bytes, a fixed and a
 // variable file with its record length and whether it is internal (else display).
-#[derive(Clone, Copy)]
+#[derive(Clone, Copy, Debug, PartialEq, Eq)]
 pub enum Kind {
     Program {
         length: usize,
@@ -35,7 +39,7 @@ pub enum Kind {
 }
 
 // A row of the catalogue: name, kind, sectors, protection.
-#[derive(Clone, Copy)]
+#[derive(Clone, Copy, Debug, PartialEq, Eq)]
 pub struct Row {
     pub name: [u8; 10],
     pub kind: Kind,
@@ -43,76 +47,24 @@ pub struct Row {
     pub protected: bool,
 }
 
-// The place of a name's first wrong byte, from 0 to 9, or 10 where the name is not ten bytes long; none where it keeps the rule.
-#[derive(Clone, Copy)]
-pub enum WrongPlace {
-    None,
-    At(usize),
+// What a summary counts: the sectors of a volume, the files of all directories and the free sectors.
+#[derive(Clone, Copy, Debug, PartialEq, Eq)]
+pub struct Totals {
+    pub sectors: usize,
+    pub files: usize,
+    pub free: usize,
 }
 
-// What a call answers that gives nothing back but its number.
-#[derive(Clone, Copy)]
-pub enum Answer {
-    Done,
-    Refused(u32),
+// A file in an index: its place there, and its descriptor's sector.
+#[derive(Clone, Copy, Debug, PartialEq, Eq)]
+pub struct FileAt {
+    pub place: usize,
+    pub sector: u16,
 }
 
-// The same of a call that takes a name: number 7 comes with the place where the name is wrong.
-#[derive(Clone, Copy)]
-pub enum NamedAnswer {
-    Done,
-    Refused(u32),
-    Misnamed(usize),
-}
-
-// And of a rename, which takes two: number 7 says which of them it means besides.
-#[derive(Clone, Copy)]
-pub enum RenameAnswer {
-    Done,
-    Refused(u32),
-    OldMisnamed(usize),
-    NewMisnamed(usize),
-}
-
-// What a call answers that gives a number: a count of sectors or of bytes.
-#[derive(Clone, Copy)]
-pub enum Amount {
-    Given(usize),
-    Refused(u32),
-}
-
-// The same of a call that takes a name.
-#[derive(Clone, Copy)]
-pub enum NamedAmount {
-    Given(usize),
-    Refused(u32),
-    Misnamed(usize),
-}
-
-// What the summary of a volume answers; the disk name goes into a lent array beside it.
-#[derive(Clone, Copy)]
-pub enum Summary {
-    Given {
-        sectors: usize,
-        files: usize,
-        free: usize,
-    },
-    Refused(u32),
-}
-
-// What a catalogue entry answers. The row stands beside the answer, since it holds an array.
-#[derive(Clone, Copy)]
-pub struct Entry {
-    pub answer: Answer,
-    pub row: Row,
-}
-
-// A file that a call names: the sector of the index that lists it, its place there and its descriptor's sector; absent from the index
-// in that sector; or not looked for, with the number of the refusal or, for 7, with the place where the name is wrong.
-#[derive(Clone, Copy)]
-pub enum Opened {
-    At(usize, usize, usize),
-    Absent(usize),
-    Refused(u32),
-    Misnamed(usize),
+// What looking for a name gives: the sector of the index, and the file of that name in it, if there is one.
+#[derive(Clone, Copy, Debug, PartialEq, Eq)]
+pub struct Looked {
+    pub index: u16,
+    pub file: Option<FileAt>,
 }

@@ -1,4 +1,7 @@
 -- The laws that the leaves' proofs share.
 pub mod Differing
-pub mod Front
 pub mod DirectoryLaws
+pub mod Equal
+pub mod IndexLaws
+pub mod NumberLaws
+pub mod Yields

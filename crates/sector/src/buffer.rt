@@ -1,27 +1,6 @@
-// Writing into a lent buffer: a copy, a fill, and bytes laid over it from a place on.
-ghost use Rattle.std.specs.Prelude.{◌≡◌, ◌*◌, ◌<◌, length, replicate};
+// Writing into a lent buffer: bytes laid over it from a place on, as many as there is room for.
+ghost use Rattle.std.specs.Prelude.{◌≡◌, ◌*◌, length, replicate};
 ghost use Rattle.rules.specs.Bytes.{splice};
-
-pub fn copy(target: &mut [u8], source: &[u8])
-    requires { length target.old ≡ length source.now }
-    ensures { target.new ≡ source.now }
-{
-    let mut i = 0;
-    while i < source.len() {
-        target[i] = source[i];
-        i += 1;
-    }
-}
-
-pub fn fill(target: &mut [u8], value: u8)
-    ensures { target.new ≡ replicate (length target.old) value }
-{
-    let mut i = 0;
-    while i < target.len() {
-        target[i] = value;
-        i += 1;
-    }
-}
 
 // As many of the bytes as there is room for from `at` on.
 pub fn lay(buffer: &mut [u8], at: usize, bytes: &[u8])
@@ -33,10 +12,10 @@ pub fn lay(buffer: &mut [u8], at: usize, bytes: &[u8])
     let room = buffer.len() - at;
     if bytes.len() <= room {
         let end = at + bytes.len();
-        copy(&mut buffer[at..end], bytes);
+        buffer[at..end].copy_from_slice(bytes);
         return;
     }
-    copy(&mut buffer[at..], &bytes[0..room]);
+    buffer[at..].copy_from_slice(&bytes[0..room]);
 }
 
 // `many` bytes of that value from `at` on, as far as there is room.
@@ -49,16 +28,15 @@ pub fn lay_fill(buffer: &mut [u8], at: usize, many: usize, value: u8)
     let room = buffer.len() - at;
     if many <= room {
         let end = at + many;
-        fill(&mut buffer[at..end], value);
+        buffer[at..end].fill(value);
         return;
     }
-    fill(&mut buffer[at..], value);
+    buffer[at..].fill(value);
 }
 
 // A whole sector of the image.
-pub fn write_sector(image: &mut [u8], k: usize, sector: &[u8])
-    requires { k < 65536 }
+pub fn write_sector(image: &mut [u8], k: u16, sector: &[u8])
     ensures { image.new ≡ splice image.old (256 * k) sector.now }
 {
-    lay(image, 256 * k, sector);
+    lay(image, 256 * usize::from(k), sector);
 }

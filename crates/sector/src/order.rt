@@ -15,10 +15,7 @@ pub fn list(changes: &mut [u32; 133], before: usize, sectors: &[u32])
     requires { before + length sectors.now ≤ 131 }
     ensures { changes.new ≡ splice (splice changes.old (2 + before) sectors.now) 1 ((before + length sectors.now) ∷ []) }
 {
-    let mut i = 0;
-    while i < sectors.len() {
-        changes[2 + before + i] = sectors[i];
-        i += 1;
-    }
-    changes[1] = (before + sectors.len()) as u32;
+    let count = before + sectors.len();
+    changes[2 + before..2 + count].copy_from_slice(sectors);
+    changes[1] = count as u32;
 }

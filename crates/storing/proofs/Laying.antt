@@ -1,14 +1,14 @@
 -- Bytes laid into sectors, and a chain into a new descriptor: what the writes of the data are and how they are listed, a sector at a time, and what the code's stores and lays amount to.
-use mathlib.Core.Path.{◌≡◌, refl, sym, ap, ◌∙◌}
+use mathlib.Core.Path.{◌≡◌, sym, ap, ◌∙◌}
 use mathlib.Core.List.{List, [], ◌∷◌, ◌++◌}
-use Prim.Native.Nat.{ℕ, zero, suc, ◌+◌, ◌-◌, ◌*◌, ◌/◌, ◌≤◌}
+use Prim.Native.Nat.{ℕ, ◌+◌, ◌-◌, ◌*◌, ◌≤◌}
 use native.Mathlib.Omega.{arith}
 use lib.ListN.{length, set, drop, replicate, length-replicate, replicate-append-replicate}
 use lib.Seq.{drop-drop, drop_at}
 use Rattle.rules.specs.Bytes.{part, over, splice}
 use Rattle.rules.specs.Sectors.{written}
 use Rattle.rules.specs.Calls.Store.{data_writes}
-use Rattle.rules.proofs.Splice.{splice_none, splice_append, splice_cut, set-splice}
+use Rattle.rules.proofs.Splice.{splice_append, splice_cut, set-splice}
 use Rattle.rules.proofs.Formatted.{laid_front}
 
 -- a piece and zeros behind it are the piece laid over zeros
@@ -41,16 +41,7 @@ unfolding written data_writes
 none_written bytes none = rw none
 
 -- and listed at the place of its number: those behind it follow
-pub place_listed : (changes : List ℕ) (at : ℕ) {all ks : List ℕ} {k : ℕ} → all ≡ k ∷ ks → splice (set changes (2 + at / 256) k) (2 + (at + 256) / 256) ks ≡ splice changes (2 + at / 256) all
+pub place_listed : (changes : List ℕ) (at : ℕ) {all ks : List ℕ} {k : ℕ} → all ≡ k ∷ ks → splice (set changes (2 + at) k) (2 + (at + 1)) ks ≡ splice changes (2 + at) all
 place_listed changes at {ks = ks} {k = k} ahead =
-    let further : 2 + (at + 256) / 256 ≡ 2 + at / 256 + 1 = omega arith in
-    rw (ahead, further, set-splice changes (2 + at / 256) k) (splice_append changes (2 + at / 256) (k ∷ []) ks)
-
--- two bytes set one behind the other
-pub two_set : (buffer : List ℕ) (at a b : ℕ) → set (set buffer at a) (suc at) b ≡ splice buffer at (a ∷ (b ∷ []))
-unfolding splice over
-two_set [] zero a b = refl
-two_set [] (suc at) a b = refl
-two_set (x ∷ []) zero a b = refl
-two_set (x ∷ (y ∷ buffer)) zero a b = ap (λ (l : List ℕ). a ∷ (b ∷ l)) (sym (splice_none buffer 0))
-two_set (x ∷ buffer) (suc at) a b = ap (λ (l : List ℕ). x ∷ l) (two_set buffer at a b)
+    let further : 2 + (at + 1) ≡ 2 + at + 1 = omega arith in
+    rw (ahead, further, set-splice changes (2 + at) k) (splice_append changes (2 + at) (k ∷ []) ks)

@@ -1,9 +1,9 @@
 // Storing: a program's bytes become a file. All its sectors are chosen before the first is written. The call takes any image and any
-// arguments, answers with its number, and leaves the image with the writes of the rules' definition laid over it, and their order in a list that is
+// arguments, says whether it refuses and why, and leaves the image with the writes of the rules' definition laid over it, and their order in a list that is
 // lent for it; a refusal has none.
 #![tactic(auto)]
 
-ghost use Rattle.std.specs.Prelude.{◌≡◌, true, cond, [], ◌*◌, ◌%◌, ◌≤◌, ◌<◌, leb, length, replicate};
+ghost use Rattle.std.specs.Prelude.{◌≡◌, None, true, cond, [], ◌*◌, ◌%◌, ◌≤◌, leb, length, replicate};
 ghost use Rattle.rules.specs.Bytes.{word_bytes, over, splice};
 ghost use Rattle.rules.specs.Sectors.{sector_of, written};
 ghost use Rattle.rules.specs.Name.{name_rule, wrong_place};
@@ -14,58 +14,50 @@ ghost use Rattle.rules.specs.Sound.{IsIndexed, Sound};
 ghost use Rattle.rules.specs.Choice.{descriptor_choice};
 ghost use Rattle.rules.specs.Outcome.{listed, NamedSays, Meets};
 ghost use Rattle.rules.specs.Calls.Store.{data_writes, new_sectors, new_blocks, storing, store_of};
-ghost use Rattle.rules.specs.declared.WrongPlace.TheVariants.{None};
+ghost use Rattle.rules.specs.Refusal.{named_answered};
 ghost use Rattle.storing.specs.Program.{program_writes};
 ghost use Rattle.storing.specs.Spread.{Spread};
 
-use descriptor::chain::{Cursor, Step};
+use descriptor::chain::places_of;
 use descriptor::header::new_descriptor;
 use descriptor::kind::marking;
-use extension::{Tip, extend, tip_with};
+use extension::{Tip, extend};
 use index::enter;
 use map::bits::mark;
 use map::choice::{Search, descriptor_choice};
 use map::free::free_count_of;
 use opening::find;
-use rules::{Layout, NamedAnswer, Opened};
-use sector::buffer::{copy, lay, lay_fill, write_sector};
+use rules::{Layout, Refusal};
+use sector::buffer::{lay, lay_fill, write_sector};
 use sector::bytes::{part, sector_of, word};
+use sector::numbers::lay_number;
 use sector::order::list;
 
 // Takes `many` sectors for data in the map and puts them into the chain, one after another; false where a 77th block would be needed.
-fn spread(sector0: &mut [u8], chain: &mut [u8], many: usize) -> bool
-    requires { (length sector0.old ≡ 256) × (chain.old ≡ replicate 228 0) × (many ≤ 128) }
+fn spread(sector0: &mut [u8; 256], chain: &mut [u8], many: usize) -> bool
+    requires { (chain.old ≡ replicate 228 0) × (many ≤ 128) }
     ensures { Spread many sector0.old result sector0.new chain.new }
 {
     let mut search = Search::first();
-    let mut tip = Tip {
-        used: 0,
-        start: 0,
-        first: 0,
-        next: 0,
-    };
-    let mut left = many;
-    while left > 0 {
-        let found = search.next(sector0);
-        let k = found.sector;
-        let longer = tip_with(tip, k);
-        if longer.used > 76 {
+    let mut tip = Tip::default();
+    for _ in 0..many {
+        search = search.next(sector0);
+        let k = usize::from(search.sector);
+        if tip.with(k).used > 76 {
             return false;
         }
         tip = extend(chain, tip, k);
         mark(sector0, k);
-        search = found;
-        left -= 1;
     }
     true
 }
 
 // A piece of the data and zeros behind it, as a whole sector.
-fn write_piece(image: &mut [u8], k: usize, piece: &[u8])
-    requires { (k < 65536) × (length piece.now ≤ 256) }
+fn write_piece(image: &mut [u8], k: u16, piece: &[u8])
+    requires { length piece.now ≤ 256 }
     ensures { image.new ≡ splice image.old (256 * k) (over (replicate 256 0) piece.now) }
 {
-    let at = 256 * k;
+    let at = 256 * usize::from(k);
     let many = piece.len();
     lay(image, at, piece);
     lay_fill(image, at + many, 256 - many, 0);
@@ -77,34 +69,27 @@ fn write_data(image: &mut [u8], chain: &[u8], bytes: &[u8], changes: &mut [u32; 
     ensures image_after { image.new ≡ written image.old (data_writes bytes.now (places chain.now)) }
     ensures order { changes.new ≡ splice changes.old 2 (places chain.now) }
 {
-    let mut cursor = Cursor::first();
-    let mut at = 0;
-    while let Step::Place(place, next) = cursor.step(chain) {
-        write_piece(image, place, part(bytes, at, 256));
-        changes[2 + at / 256] = place as u32;
-        at += 256;
-        cursor = next;
+    for (number, place) in places_of(chain).enumerate() {
+        write_piece(image, place, part(bytes, 256 * number, 256));
+        changes[2 + number] = u32::from(place);
     }
 }
 
 // The descriptor of a program of `size` bytes, in `many` sectors, laid into 256 zeros, its chain still empty.
-fn program_header(layout: Layout, descriptor: &mut [u8; 256], name: &[u8], size: usize, many: usize)
-    requires { (descriptor.old ≡ replicate 256 0) × (length name.now ≡ 10) × (many < 65536) }
+fn program_header(layout: Layout, descriptor: &mut [u8; 256], name: &[u8], size: usize, many: u16)
+    requires { (descriptor.old ≡ replicate 256 0) × (length name.now ≡ 10) }
     ensures { descriptor.new ≡ splice (new_descriptor name.now (marking layout 0x01) 0 (size % 256) 0) 14 (word_bytes many) }
 {
     let end_offset = (size % 256) as u8;
-    let high = (many / 256) as u8;
-    let low = (many % 256) as u8;
     new_descriptor(descriptor, name, marking(layout, 0x01), 0, end_offset, 0);
-    descriptor[14] = high;
-    descriptor[15] = low;
+    lay_number(descriptor, 14, many);
 }
 
 // What is written of a program before it is entered, in the order of the definition; false where a 77th block would be needed, and then nothing is.
 fn write_program(
     layout: Layout,
     image: &mut [u8],
-    k: usize,
+    k: u16,
     name: &[u8],
     many: usize,
     bytes: &[u8],
@@ -115,16 +100,16 @@ fn write_program(
     ensures order { changes.new ≡ splice changes.old 2 (cond result (new_sectors image.old many) []) }
 {
     let mut sector0 = [0u8; 256];
-    copy(&mut sector0, &image[0..256]);
-    mark(&mut sector0, k);
+    sector0.copy_from_slice(&image[0..256]);
+    mark(&mut sector0, usize::from(k));
     let mut descriptor = [0u8; 256];
-    program_header(layout, &mut descriptor, name, bytes.len(), many);
+    program_header(layout, &mut descriptor, name, bytes.len(), many as u16);
     if !spread(&mut sector0, &mut descriptor[28..256], many) {
         return false;
     }
     write_data(image, &descriptor[28..256], bytes, changes);
     write_sector(image, k, &descriptor);
-    copy(&mut image[0..256], &sector0);
+    write_sector(image, 0, &sector0);
     true
 }
 
@@ -132,34 +117,34 @@ fn write_program(
 fn store_new(
     layout: Layout,
     image: &mut [u8],
-    i: usize,
+    i: u16,
     name: &[u8],
     bytes: &[u8],
     changes: &mut [u32; 133],
-) -> NamedAnswer
+) -> Result<(), Refusal>
     requires { Sound layout image.old × IsIndexed layout image.old i × (name_rule name.now ≡ true) }
-    ensures meets { Meets (NamedSays None) (storing layout image.old name.now bytes.now i) result image.old image.new }
+    ensures meets { Meets (NamedSays None) (storing layout image.old name.now bytes.now i) (named_answered result) image.old image.new }
     ensures order { changes.new ≡ listed (storing layout image.old name.now bytes.now i) changes.old }
 {
     if bytes.len() > 32768 {
-        return NamedAnswer::Refused(15);
+        return Err(Refusal::Argument);
     }
     // the 127th number of the index
     if word(sector_of(image, i), 252) != 0 {
-        return NamedAnswer::Refused(11);
+        return Err(Refusal::DirectoryFull);
     }
-    let many = (bytes.len() + 255) / 256;
+    let many = bytes.len().div_ceil(256);
     if free_count_of(sector_of(image, 0)) < 1 + many {
-        return NamedAnswer::Refused(12);
+        return Err(Refusal::DiskFull);
     }
     let k = descriptor_choice(sector_of(image, 0));
     if !write_program(layout, image, k, name, many, bytes, changes) {
-        return NamedAnswer::Refused(13);
+        return Err(Refusal::ChainFull);
     }
     enter(image, i, name, k);
-    let order = [k as u32, 0, i as u32];
+    let order = [u32::from(k), 0, u32::from(i)];
     list(changes, many, &order);
-    NamedAnswer::Done
+    Ok(())
 }
 
 pub fn store(
@@ -169,15 +154,13 @@ pub fn store(
     name: &[u8],
     bytes: &[u8],
     changes: &mut [u32; 133],
-) -> NamedAnswer
-    ensures meets { Meets (NamedSays (wrong_place name.now)) (store_of layout image.old directory name.now bytes.now) result image.old image.new }
+) -> Result<(), Refusal>
+    ensures meets { Meets (NamedSays (wrong_place name.now)) (store_of layout image.old directory name.now bytes.now) (named_answered result) image.old image.new }
     ensures order { changes.new ≡ listed (store_of layout image.old directory name.now bytes.now) changes.old }
 {
-    let opened = find(layout, image, directory, name);
-    match opened {
-        Opened::Refused(number) => NamedAnswer::Refused(number),
-        Opened::Misnamed(place) => NamedAnswer::Misnamed(place),
-        Opened::At(_, _, _) => NamedAnswer::Refused(9),
-        Opened::Absent(i) => store_new(layout, image, i, name, bytes, changes),
+    let looked = find(layout, image, directory, name)?;
+    if looked.file.is_some() {
+        return Err(Refusal::Present);
     }
+    store_new(layout, image, looked.index, name, bytes, changes)
 }

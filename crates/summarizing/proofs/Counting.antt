@@ -1,32 +1,36 @@
--- The files of all directories together, a directory at a time: those of the directories from a number on are those of that one, none where it is not there, and those of the rest.
-use mathlib.Core.Path.{◌≡◌, refl, ap, ◌∙◌}
-use mathlib.Core.List.{List}
-use Prim.Native.Nat.{ℕ, ◌+◌, ◌≤◌}
+-- The files of several indexes: those of the first and those of the rest. Those of all directories are few: at most four indexes are there, and none has more than 256.
+use mathlib.Core.Path.{◌≡◌}
+use mathlib.Core.Bool.{Bool, true, false, cond}
+use mathlib.Core.List.{List, [], ◌∷◌}
+use Prim.Native.Nat.{ℕ, suc, ◌+◌, ◌*◌, ◌≤◌}
+use native.Mathlib.Omega.{arith}
+use lib.Dec.{eqb}
 use lib.ListN.{length, length-append}
-use Rattle.rules.specs.Volume.{directories, index_at, indexes, files_in, files_of}
+use Rattle.rules.specs.Sectors.{sector_of}
+use Rattle.rules.specs.Volume.{directories, present, indexes, files_in, files_of}
 use Rattle.rules.specs.declared.Layout.{Layout}
-use Rattle.sector.specs.Directories.{indexes_from}
-use Rattle.sector.proofs.DirectoryLaws.{from_root, from_past, from_absent, from_there}
+use Rattle.rules.proofs.Index.{numbers_inside}
+use Rattle.rules.proofs.Sectors.{sector_short}
+use Rattle.sector.proofs.DirectoryLaws.{directories_few}
 
-module _ (layout : Layout) (image : List ℕ) where
-  -- how many files the directories have, from that number on
-  unfoldable pub files_from : ℕ → ℕ
-  files_from directory = length (files_of image (indexes_from layout image directory))
+pub files_first : (image is more : List ℕ) (i count : ℕ) → is ≡ i ∷ more → count ≡ length (files_in image i) → length (files_of image is) ≡ count + length (files_of image more)
+unfolding files_of
+files_first image is more i count here e = rw (here, e) (length-append (files_in image i) (files_of image more))
 
-  pub all_from : files_from 0 ≡ length (files_of image (indexes layout image))
-  unfolding files_from
-  all_from = ap (λ (is : List ℕ). length (files_of image is)) (from_root layout image)
+present_few : (is : List ℕ) → length (present is) ≤ length is
+unfolding present
+present_few [] = omega arith
+present_few (i ∷ is) = go (eqb i 0) (present_few is)
+  where
+    go : (t : Bool) → length (present is) ≤ length is → length (cond t (present is) (i ∷ present is)) ≤ suc (length is)
+    go true few = omega (arith, few)
+    go false few = omega (arith, few)
 
-  pub none_from : (directory : ℕ) → length (directories layout image) ≤ directory → files_from directory ≡ 0
-  unfolding files_from files_of
-  none_from directory past = ap (λ (is : List ℕ). length (files_of image is)) (from_past layout image directory past)
+files_few : (image is : List ℕ) → length (files_of image is) ≤ 256 * length is
+unfolding files_of files_in
+files_few image [] = omega arith
+files_few image (i ∷ is) = rw length-append (omega (arith, numbers_inside (sector_of image i), sector_short image i, files_few image is))
 
-  pub absent_from : (directory : ℕ) → index_at layout image directory ≡ 0 → files_from directory ≡ files_from (directory + 1)
-  unfolding files_from
-  absent_from directory none = ap (λ (is : List ℕ). length (files_of image is)) (from_absent layout image directory (index_at layout image directory) refl none)
-
-  pub there_from : (directory : ℕ) → (index_at layout image directory ≡ 0 → ⊥) → files_from directory ≡ length (files_in image (index_at layout image directory)) + files_from (directory + 1)
-  unfolding files_from files_of
-  there_from directory some =
-      ap (λ (is : List ℕ). length (files_of image is)) (from_there layout image directory (index_at layout image directory) refl some)
-      ∙ length-append (files_in image (index_at layout image directory)) (files_of image (indexes_from layout image (directory + 1)))
+pub all_few : (layout : Layout) (image : List ℕ) → length (files_of image (indexes layout image)) ≤ 1024
+unfolding indexes
+all_few layout image = omega (arith, files_few image (present (directories layout image)), present_few (directories layout image), directories_few layout image)

@@ -1,2 +1,2 @@
--- The laws that the proofs share: the files of the directories from one on.
+-- The laws that the proofs share: the files of several indexes.
 mod Counting

@@ -2,40 +2,33 @@
 // the table's order, and with 0 its values and bytes. A refusal writes nothing.
 #![tactic(auto)]
 
-ghost use Rattle.std.specs.Prelude.{◌≡◌, ◌≤◌, length};
+ghost use Rattle.std.specs.Prelude.{◌≡◌, length};
 ghost use Rattle.rules.specs.Index.{numbers};
 ghost use Rattle.rules.specs.Volume.{indexes, files_of};
 ghost use Rattle.rules.specs.Outcome.{AmountSays, Gives};
 ghost use Rattle.rules.specs.Calls.Summary.{free_count_of, summary_of, SummarySays};
+ghost use Rattle.rules.specs.Refusal.{amount_answered, summary_answered};
 
+use judge::judge;
 use map::free::free_count_of;
-use rules::{Amount, Layout, Summary};
+use rules::{Layout, Refusal, Totals};
 use sector::buffer::lay;
 use sector::bytes::{part, sector_of};
-use sector::directories::{directory_count, index_at};
-use sector::numbers::number_at;
+use sector::directories::indexes_of;
+use sector::numbers::numbers_of;
 
-pub fn free_count(layout: Layout, image: &[u8]) -> Amount
-    ensures { AmountSays result (free_count_of layout image.now) }
+pub fn free_count(layout: Layout, image: &[u8]) -> Result<usize, Refusal>
+    ensures { AmountSays (amount_answered result) (free_count_of layout image.now) }
 {
-    let number = judge::judge(layout, image);
-    if number != 0 {
-        return Amount::Refused(number);
-    }
-    Amount::Given(free_count_of(sector_of(image, 0)))
+    judge(layout, image)?;
+    Ok(free_count_of(sector_of(image, 0)))
 }
 
 // The numbers of an index.
 fn number_count(index: &[u8]) -> usize
-    ensures { (result ≡ length (numbers index.now)) × (result ≤ length index.now) }
+    ensures { result ≡ length (numbers index.now) }
 {
-    let mut count = 0;
-    let mut at = 0;
-    while number_at(index, at) != 0 {
-        count += 1;
-        at += 2;
-    }
-    count
+    numbers_of(index).count()
 }
 
 // The files of all directories together: of the root, 0, and of the entries, 1 to 3, that are there.
@@ -43,30 +36,21 @@ fn file_count(layout: Layout, image: &[u8]) -> usize
     ensures { result ≡ length (files_of image.now (indexes layout image.now)) }
 {
     let mut files = 0;
-    let many = directory_count(layout);
-    let mut directory = 0;
-    while directory < many {
-        let i = index_at(layout, image, directory);
-        if i != 0 {
-            files += number_count(sector_of(image, i));
-        }
-        directory += 1;
+    for i in indexes_of(layout, image) {
+        files += number_count(sector_of(image, i));
     }
     files
 }
 
-pub fn summary(layout: Layout, image: &[u8], name: &mut [u8; 10]) -> Summary
-    ensures { Gives (SummarySays layout image.now) (summary_of layout image.now) result name.old name.new }
+pub fn summary(layout: Layout, image: &[u8], name: &mut [u8; 10]) -> Result<Totals, Refusal>
+    ensures { Gives (SummarySays layout image.now) (summary_of layout image.now) (summary_answered result) name.old name.new }
 {
-    let number = judge::judge(layout, image);
-    if number != 0 {
-        return Summary::Refused(number);
-    }
+    judge(layout, image)?;
     let sector0 = sector_of(image, 0);
     lay(name, 0, part(sector0, 0, 10));
-    Summary::Given {
+    Ok(Totals {
         sectors: image.len() / 256,
         files: file_count(layout, image),
         free: free_count_of(sector0),
-    }
+    })
 }

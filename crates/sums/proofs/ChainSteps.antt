@@ -1,12 +1,12 @@
 -- The steps of a chain, by the definition: its end, a place with the sum and one without; and that as many steps as the place is high are enough, since places fall.
 use mathlib.Core.Path.{◌≡◌, refl, ap}
 use mathlib.Core.List.{List, ◌∷◌}
-use Prim.Native.Nat.{ℕ, zero, suc, ◌≤◌, ◌<◌}
+use Prim.Native.Nat.{ℕ, zero, suc, ◌≤◌, ◌<◌, ◌%◌}
 use native.Mathlib.Omega.{arith}
 use native.Mathlib.Decide.{dec_lt}
-use lib.ListN.{get_or}
+use lib.ListN.{length, get_or, get_or-eq_default}
 use borrow.Author.Tests.{lt-ltb, le-ltb, eq-eqb, ne_eqb}
-use Rattle.sums.specs.Table.{link_of, chain, walk}
+use Rattle.sums.specs.Table.{link_of, chain, under, walk}
 
 -- a link leads to a lower place, or to 0
 pub link_down : (earlier : List ℕ) (place : ℕ) → get_or earlier place 0 < place → link_of earlier place ≡ get_or earlier place 0
@@ -62,3 +62,8 @@ module _ (sum : ℕ) (earlier sums : List ℕ) where
   walk_on (suc p) h =
       let falls = link_falls earlier p in
       ap (λ (l : List ℕ). suc p ∷ l) (enough p (link_of earlier (suc p)) (link_of earlier (suc p)) falls (omega arith))
+
+  -- without buckets there is none under any sum
+  pub none_under : (last : List ℕ) → length last ≡ 0 → under sum last earlier sums ≡ walk 0 sum earlier sums
+  unfolding under
+  none_under last none = chain_end _ (get_or-eq_default last 0 {n = sum % length last} (omega arith))

@@ -8,6 +8,7 @@ use native.Mathlib.Nat.{mod-lt}
 use native.Mathlib.Decide.{ℕ_discrete}
 use lib.ListN.{length, get_or, set, length-set}
 use lib.Seq.{get_or-set_same, get_or-set_other}
+use borrow.Author.Tests.{lt-ltb}
 use Rattle.sums.specs.Table.{link_of, chain, under, fits, Table, Entered}
 use Rattle.sums.proofs.ChainSteps.{link_down, link_falls, chain_here, chain_on, walk_on}
 
@@ -94,8 +95,14 @@ module _ (place sum : ℕ) (last earlier sums : List ℕ) (table : Table last pl
           ];
         }
 
-    pub entered : fits place last earlier sums ≡ true → Entered place sum true last earlier sums last' (set earlier place top) (set sums place sum)
-    entered room = record { said = sym room; own = λ e. under_own; others = under_other; refused = λ e. absurd (true≢false e); table = table_after }
+    entered_in_bucket : fits place last earlier sums ≡ true → Entered place sum true last earlier sums last' (set earlier place top) (set sums place sum)
+    entered_in_bucket room = record { said = sym room; own = λ e. under_own; others = under_other; refused = λ e. absurd (true≢false e); table = table_after }
+
+  pub entered : {bucket' kept : ℕ} → bucket' ≡ bucket → kept ≡ place → place < length earlier → place < length sums → 0 < length last → place < 4294967296
+      → Entered place sum true last earlier sums (set last bucket' kept) (set earlier place (get_or last bucket' 0)) (set sums place sum)
+  unfolding fits
+  entered is kept_is in-earlier in-sums buckets narrow =
+      rw (is, kept_is) (entered_in_bucket in-earlier in-sums buckets (rw (lt-ltb _ _ in-earlier, lt-ltb _ _ in-sums, lt-ltb _ _ buckets, lt-ltb place 4294967296 narrow)))
 
   pub not_entered : fits place last earlier sums ≡ false → Entered place sum false last earlier sums last earlier sums
   not_entered room =

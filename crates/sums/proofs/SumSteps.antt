@@ -2,16 +2,15 @@
 use mathlib.Core.Path.{◌≡◌}
 use mathlib.Core.List.{List}
 use Prim.Native.Nat.{ℕ, ◌+◌, ◌*◌, ◌%◌, ◌≤◌, ◌<◌}
-use native.Mathlib.Numerals.{add-one}
-use lib.ListN.{length, drop, get_or, drop_of_length-le}
-use lib.Seq.{drop-cons}
+use lib.ListN.{length, drop, get_or}
+use Rattle.std.proofs.lemmas.List.{at_drop_more, at_drop_all}
 use Rattle.sums.specs.Sum.{prime, sum_from}
 
 pub sum_step : (sum : ℕ) (bytes : List ℕ) (i : ℕ) → i < length bytes
     → sum_from sum (drop i bytes) ≡ sum_from ((sum * 256 + get_or bytes i 0) % prime) (drop (i + 1) bytes)
 unfolding sum_from
-sum_step sum bytes i h = rw (add-one, drop-cons bytes i 0 h)
+sum_step sum bytes i h = at_drop_more (sum_from sum) bytes i 0 h
 
 pub sum_end : (sum : ℕ) (bytes : List ℕ) (i : ℕ) → length bytes ≤ i → sum_from sum (drop i bytes) ≡ sum
 unfolding sum_from
-sum_end sum bytes i h = rw (drop_of_length-le bytes {i = i} h)
+sum_end sum bytes i h = at_drop_all (sum_from sum) bytes i h

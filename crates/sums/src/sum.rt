@@ -6,14 +6,13 @@ ghost use Rattle.sums.specs.Sum.{prime, sum_of};
 const PRIME: u64 = 71999999999999857;
 
 // The bytes as one number, high byte first and a one in front of them, modulo the prime.
+#[tactic(auto, using(crate::proofs::SumSteps::sum_step, crate::proofs::SumSteps::sum_end))]
 pub fn sum_of(bytes: &[u8]) -> u64
     ensures { (result ≡ sum_of bytes.now) × (result < prime) }
 {
-    let mut sum: u64 = 1;
-    let mut i = 0;
-    while i < bytes.len() {
-        sum = (sum * 256 + bytes[i] as u64) % PRIME;
-        i += 1;
+    let mut sum = 1;
+    for byte in bytes {
+        sum = (sum * 256 + u64::from(*byte)) % PRIME;
     }
     sum
 }

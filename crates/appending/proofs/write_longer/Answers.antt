@@ -1,7 +1,7 @@
 -- `appending::write_longer` meets its contract: the sectors made are those of the definition, and they are written in its order. Assumes nothing.
-use mathlib.Core.Path.{◌≡◌, refl}
+use mathlib.Core.Path.{◌≡◌}
 use mathlib.Core.List.{List}
-use Prim.Native.Nat.{ℕ, ◌+◌, ◌*◌, ◌<◌}
+use Prim.Native.Nat.{ℕ, ◌+◌, ◌*◌}
 use native.Mathlib.Omega.{arith}
 use Rattle.rules.specs.Bytes.{splice}
 use Rattle.rules.specs.Sectors.{sector_of, written}
@@ -11,9 +11,8 @@ use Rattle.rules.specs.Descriptor.{sectors_of, chain_of, with_chain, marked_by}
 use Rattle.rules.specs.Choice.{data_choice}
 use Rattle.rules.specs.Calls.Append.{longer_blocks, append_writes}
 use Rattle.rules.specs.declared.Layout.{Layout}
-use Rattle.rules.proofs.Opening.{in_volume, is_sector, file_long}
+use Rattle.rules.proofs.Opening.{is_sector, file_long}
 use Rattle.appending.proofs.write_longer.Goals as goal
-use Rattle.appending.proofs.write_longer.Goals.{Start}
 
 -- three sectors written one after the other, the first of them the one chosen
 three : (layout : Layout) (image one two all bytes sector0 old descriptor : List ℕ) (k new : ℕ) → one ≡ splice image (256 * new) bytes → two ≡ splice one (256 * 0) sector0
@@ -23,30 +22,15 @@ three : (layout : Layout) (image one two all bytes sector0 old descriptor : List
 unfolding append_writes longer_blocks written
 three layout image one two all bytes sector0 old descriptor k new first second third is marks there longer = rw (third, second, first, marks, longer, there, is)
 
-small : (c : Start) → c.args.k < 65536
-small c = omega (arith, in_volume _ _ _ _ c.requires.0.1, c.requires.0.1.sound.size)
-
-pub sector_of-requires : goal.sector_of-requires
-sector_of-requires c = small (goal.at.sector_of-requires c).Start
-
 pub longer-requires : goal.longer-requires
 longer-requires c =
     let pre = c.requires in
-    rw c.sector_of.ensures (refl, is_sector _ _ _ _ pre.0.1, pre.2, pre.3)
+    rw c.sector_of.ensures (is_sector _ _ _ _ pre.0.1, pre.2, pre.3)
 
 pub map_with-requires : goal.map_with-requires
 map_with-requires c =
     let sound = c.requires.0.1.sound in
-    (refl, file_long _ _ 0 sound (omega (arith, sound.size)))
-
-pub write_sector-requires : goal.write_sector-requires
-write_sector-requires c = omega (arith, c.requires.2.high)
-
-pub write_sector-requires-2 : goal.write_sector-requires-2
-write_sector-requires-2 c = omega arith
-
-pub write_sector-requires-3 : goal.write_sector-requires-3
-write_sector-requires-3 c = small (goal.at.write_sector-requires-3 c).Start
+    file_long _ _ 0 sound (omega (arith, sound.size))
 
 pub returns : goal.returns
 returns c =

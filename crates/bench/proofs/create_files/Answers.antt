@@ -10,9 +10,6 @@ kept c = c.create.auto.image ∙ c.loop-i.invariant
 pub loop-i-init : goal.loop-i-init
 loop-i-init c = refl
 
-pub shape_of-image-then-number-ne0 : goal.shape_of-image-then-number-ne0
-shape_of-image-then-number-ne0 c = kept (goal.at.shape_of-image-then-number-ne0 c).After-create
-
 pub loop-i-preserved : goal.loop-i-preserved
 loop-i-preserved c = kept (goal.at.loop-i-preserved c).After-create
 

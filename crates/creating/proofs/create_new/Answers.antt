@@ -26,7 +26,7 @@ use Rattle.rules.proofs.Name.{name_is}
 use Rattle.rules.proofs.Descriptor.{new_length}
 use Rattle.rules.proofs.Written.{sector_other}
 use Rattle.rules.proofs.Map.{only_one}
-use Rattle.rules.proofs.Listed.{label_long, index_low}
+use Rattle.rules.proofs.Listed.{label_long}
 use Rattle.rules.proofs.Marking.{marked-length}
 use Rattle.rules.proofs.Choice.{Chosen, sound_fenced, descriptor_choice_free}
 use Rattle.rules.proofs.Outcome.{order_laid, refusal_meets, done_meets}
@@ -74,14 +74,11 @@ marked_there layout image one sector0 descriptor k is high long one-is marks =
 listed : (c : Start) → SoundIndex c.args.layout c.args.image.now c.args.i
 listed c = c.requires.0.each c.args.i c.requires.1
 
-small : (c : Start) → c.args.i < 65536
-small c = omega (arith, index_low _ _ c.requires.0 c.args.i c.requires.1, c.requires.0.size)
-
 asked : (c : Else-not-create_status) → create_status c.args.status ≡ true
 asked c = sym c.create_status.ensures ∙ c.if-not-create_status.false
 
 last_is : (c : After-word) → let a = c.args in c.word.result ≡ word_at (sector_of a.image.now a.i) 252
-last_is c = c.word.ensures.0 ∙ ap (λ (s : List ℕ). word_at s 252) c.sector_of.ensures
+last_is c = c.word.ensures ∙ ap (λ (s : List ℕ). word_at s 252) c.sector_of.ensures
 
 free_is : (c : After-free_count_of) → c.free_count_of.result ≡ free_count (sector_of c.args.image.now 0)
 free_is c = c.free_count_of.ensures.0 ∙ ap free_count c.sector_of-2.ensures
@@ -122,16 +119,7 @@ ten : (c : After-descriptor_choice-k) → length c.args.name.now ≡ 10
 ten c = (name_is _ c.requires.2).ten
 
 pub write_descriptor-requires : goal.write_descriptor-requires
-write_descriptor-requires c = (omega (arith, (is_free (goal.at.write_descriptor-requires c).After-descriptor_choice-k).low), ten (goal.at.write_descriptor-requires c).After-descriptor_choice-k)
-
-pub slice_bounds-mark-end : goal.slice_bounds-mark-end
-slice_bounds-mark-end c =
-    let size : length c.write_descriptor.new.image ≡ length c.args.image.now = ap length c.write_descriptor.ensures ∙ splice-length _ _ _ in
-    omega (arith, size, c.requires.0.whole, c.requires.0.size)
-
-pub enter-requires : goal.enter-requires
-enter-requires c =
-    (omega (arith, small (goal.at.enter-requires c).Start), omega (arith, (is_free (goal.at.enter-requires c).After-descriptor_choice-k).low))
+write_descriptor-requires c = ten (goal.at.write_descriptor-requires c).After-descriptor_choice-k
 
 pub returns : goal.returns
 unfolding written data_writes entered sectors_in
@@ -152,15 +140,6 @@ returns c =
     (passed _ _ _ _ _ _ _ (listed (goal.at.returns c).Start) (asked (goal.at.returns c).Else-not-create_status) (sym (last_is (goal.at.returns c).After-word) ∙ c.if-word-ne0.false) (λ z. c.if-free_count_of-eq0.false (free_is (goal.at.returns c).After-free_count_of ∙ z)) k (chosen_is (goal.at.returns c).After-descriptor_choice-k))
     (written-entered _ image a.i name [] k [] descriptor (marked 1 (sector_of image 0) k) c.requires.0 c.requires.1 (λ j one. subst (Chosen (sector_count image) (sector_of image 0)) (only_one k j one) (is_free (goal.at.returns c).After-descriptor_choice-k)) long
     (marked-length 1 (sector_of image 0) k ∙ label_long _ image c.requires.0) _ _
-    (marked_there _ image _ c.mark.new.sector0 descriptor k c.requires.0 (is_free (goal.at.returns c).After-descriptor_choice-k).from long there c.mark.ensures) c.enter.ensures)
-    (c.list.ensures ∙ order_laid _ writes (search rules)) in
+    (marked_there _ image _ c.mark.new.sector0 descriptor k c.requires.0 (is_free (goal.at.returns c).After-descriptor_choice-k).from long there (rw c.from.ensures at c.mark.ensures)) c.enter.ensures)
+    (rw (c.from-2.ensures, c.from-3.ensures) at c.list.ensures ∙ order_laid _ writes (search rules)) in
     record { meets = both.0; order = both.1 }
-
-pub sector_of-requires : goal.sector_of-requires
-sector_of-requires c = omega (arith, small (goal.at.sector_of-requires c).Start)
-
-pub overflow_cast-order : goal.overflow_cast-order
-overflow_cast-order c = omega (arith, (is_free (goal.at.overflow_cast-order c).After-descriptor_choice-k).low)
-
-pub overflow_cast-order-2 : goal.overflow_cast-order-2
-overflow_cast-order-2 c = omega (arith, small (goal.at.overflow_cast-order-2 c).Start)

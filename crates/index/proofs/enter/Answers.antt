@@ -1,17 +1,12 @@
 -- `index::enter` meets its contract: the index is made of the numbers that stand in it, and then written. Assumes nothing.
-use mathlib.Core.Path.{sym, ap, ◌∙◌}
+use mathlib.Core.Path.{ap, ◌∙◌}
 use mathlib.Core.List.{List}
 use Prim.Native.Nat.{ℕ, ◌*◌}
-use lib.ListN.{length}
 use Rattle.rules.specs.Bytes.{splice}
 use Rattle.rules.specs.Sectors.{written}
 use Rattle.rules.specs.Index.{numbers, index_of}
 use Rattle.rules.specs.Volume.{files_in, placed}
-use Rattle.rules.proofs.Indexed.{index_length}
 use Rattle.index.proofs.enter.Goals as goal
-
-pub slice_bounds-write_sector-end : goal.slice_bounds-write_sector-end
-slice_bounds-write_sector-end c = sym (ap length c.index_with.ensures ∙ index_length _)
 
 pub returns : goal.returns
 unfolding written files_in

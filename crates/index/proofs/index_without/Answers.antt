@@ -1,59 +1,36 @@
--- `index::index_without` meets its contract. The loop's invariant: laying the numbers from byte `at` of the old index on but k, from `at` on, gives what laying all of them but k gives.
--- The measure is what is left of the old index. Assumes nothing.
+-- `index::index_without` meets its contract. The loop's invariant: laying the numbers that are still to come but k, from `at` on, gives what laying all of them but k gives.
+-- The measure is how many are still to come. Assumes nothing.
 use mathlib.Core.Path.{◌≡◌, sym, ap, ◌∙◌}
-use mathlib.Core.List.{List, [], ◌∷◌}
-use Prim.Native.Nat.{ℕ, ◌+◌, ◌≤◌}
+use mathlib.Core.List.{List}
+use Prim.Native.Nat.{ℕ}
 use native.Mathlib.Omega.{arith}
-use lib.ListN.{length, drop}
+use lib.ListN.{length}
 use Rattle.rules.specs.Bytes.{splice}
-use Rattle.rules.specs.Index.{numbers, numbers_bytes, without}
-use Rattle.rules.proofs.Indexed.{laid_none, laid_number, laid_index, without_none, without_here, without_later}
-use Rattle.std.proofs.Common.{rules}
+use Rattle.rules.specs.Index.{numbers_bytes, without}
+use Rattle.rules.proofs.Indexed.{laid_number, laid_index, without_none, without_here, without_later}
+use Rattle.sector.specs.Numbers.{numbers_left}
+use Rattle.rules.proofs.Index.{numbers_inside}
 use Rattle.index.proofs.index_without.Goals as goal
-use Rattle.index.proofs.index_without.Goals.{At-loop-k, Else-j-eq0, Then-j-eq0}
+use Rattle.index.proofs.index_without.Goals.{in-Some+then-from-k, in_default}
 
-pub loop-k-init : goal.loop-k-init
-loop-k-init c = (search rules, rw c.requires (laid_index _))
+pub loop-j-init : goal.loop-j-init
+loop-j-init c = rw (c.numbers_of-left.ensures, c.requires) (omega (arith, numbers_inside c.args.old.now), laid_index _)
 
--- what is left to lay: nothing at the end, and otherwise what is left behind the number that stands here, with it or without it
-abbrev left : At-loop-k → List ℕ
-left c = let a = c.args in without a.k (numbers (drop c.loop-k.at a.old.now))
+pub loop-j-preserved : goal.loop-j-preserved
+loop-j-preserved c =
+    let l = c.loop-j in
+    let next = c.in-Some.ensures.steps in
+    (omega (arith, l.invariant.0, ap length next), laid_number l.index l.at _ _ _ _ (ap (without c.args.k) next ∙ without_later _ _ _ (λ e. c.if-from-k.false (c.from.ensures ∙ e))) c.lay_number.ensures ∙ l.invariant.1)
 
-none : (c : Then-j-eq0) → left (goal.at.Then-j-eq0 c).At-loop-k ≡ []
-none c = let a = c.args in ap (without a.k) (c.number_at-j.ensures.none c.if-j-eq0.true) ∙ without_none a.k
-
-here : (c : Else-j-eq0) →
-    let a = c.args in
-    left (goal.at.Else-j-eq0 c).At-loop-k ≡ without a.k (c.number_at-j.result ∷ numbers (drop (c.loop-k.at + 2) a.old.now))
-here c = ap (without c.args.k) (c.number_at-j.ensures.some c.if-j-eq0.false)
-
-inside : (c : Else-j-eq0) → c.loop-k.at + 2 ≤ length c.args.old.now
-inside c = c.number_at-j.ensures.inside c.if-j-eq0.false
-
-pub returns-then-j-eq0 : goal.returns-then-j-eq0
-returns-then-j-eq0 c = let l = c.loop-k in sym (laid_none l.index l.at _ (none (goal.at.returns-then-j-eq0 c).Then-j-eq0)) ∙ l.invariant.1
-
-pub overflow_add-next : goal.overflow_add-next
-overflow_add-next c = omega (arith, inside (goal.at.overflow_add-next c).Else-j-eq0)
-
-pub copy_numbers-requires : goal.copy_numbers-requires
-copy_numbers-requires c = (omega arith, inside (goal.at.copy_numbers-requires c).Else-j-eq0)
-
-pub returns-then-j-k : goal.returns-then-j-k
-returns-then-j-k c =
-    let l = c.loop-k in
-    c.copy_numbers.ensures ∙ ap (λ (ks : List ℕ). splice l.index l.at (numbers_bytes ks)) (sym (here (goal.at.returns-then-j-k c).Else-j-eq0 ∙ without_here _ _ _ c.if-j-k.true)) ∙ l.invariant.1
-
-pub lay_number-requires : goal.lay_number-requires
-lay_number-requires c = c.number_at-j.ensures.small
-
-pub overflow_add-at : goal.overflow_add-at
-overflow_add-at c = omega (arith, inside (goal.at.overflow_add-at c).Else-j-eq0)
-
-pub loop-k-smaller : goal.loop-k-smaller
-loop-k-smaller c = omega (arith, inside (goal.at.loop-k-smaller c).Else-j-eq0)
-
-pub loop-k-preserved : goal.loop-k-preserved
-loop-k-preserved c =
-    let l = c.loop-k in
-    (inside (goal.at.loop-k-preserved c).Else-j-eq0, laid_number l.index l.at _ _ _ _ (here (goal.at.loop-k-preserved c).Else-j-eq0 ∙ without_later _ _ _ c.if-j-k.false) c.lay_number.ensures ∙ l.invariant.1)
+-- where the loop is left, what is left to lay is what is still to come
+pub returns : goal.returns
+returns c =
+    let l = c.loop-j in
+    let k = c.args.k in
+    let behind : without k (numbers_left l.left) ≡ numbers_left c.next.new.self =
+    elim c.match-next.branch [
+      | in-Some+then-from-k found ↦ ap (without k) found.in-Some.ensures.steps ∙ without_here k _ _ (sym found.from.ensures ∙ found.if-from-k.true)
+      | in_default none ↦ ap (without k) none.in_default.ensures.steps.0 ∙ without_none k ∙ sym none.in_default.ensures.steps.1
+    ]
+    in
+    c.copy_numbers.ensures ∙ ap (λ (ks : List ℕ). splice l.index l.at (numbers_bytes ks)) (sym behind) ∙ l.invariant.1

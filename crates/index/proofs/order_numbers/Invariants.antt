@@ -1,9 +1,6 @@
-use Prim.Native.Nat.{◌-◌, ◌≤◌}
+use Prim.Native.Nat.{◌*◌}
 use Rattle.index.proofs.Ordering.{Ordering}
 use Rattle.index.proofs.order_numbers.Given as goal
 
-abbrev pub invariant-loop-at : goal.invariant-loop-at
-invariant-loop-at l = (l.at ≤ 256) × Ordering l.image l.initial.index l.at l.index
-
-abbrev pub decreases-loop-at : goal.decreases-loop-at
-decreases-loop-at l = 256 - l.at
+abbrev pub invariant-loop-place : goal.invariant-loop-place
+invariant-loop-place l = Ordering l.image l.initial.index (2 * l.place) l.index

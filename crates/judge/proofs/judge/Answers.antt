@@ -13,13 +13,11 @@ use Rattle.rules.specs.Map.{map_rule}
 use Rattle.rules.specs.Directory.{entries, entries_rule}
 use Rattle.rules.specs.Volume.{holders}
 use Rattle.rules.specs.Verdict.{size_rule, held_twice}
-use Rattle.rules.proofs.Bytes.{part_length}
-use Rattle.rules.proofs.Sectors.{sector_length}
 use Rattle.rules.proofs.Verdict.{size_is}
 use Rattle.judge.proofs.ClaimLaws.{indexes_below, claims_below, judged_twice, judged_map}
 use Rattle.judge.proofs.VerdictSteps.{Entered, Indexed, Described, FourPassed, wrong_size, wrong_label, wrong_entry, wrong_index, wrong_descriptor, wrong_holders, wrong_map_lem, nothing_wrong}
 use Rattle.judge.proofs.judge.Goals as goal
-use Rattle.judge.proofs.judge.Goals.{After-catalogues_rule, After-claim_holders, After-entries_rule, After-indexes_rule, After-label_rule, After-map_rule, Else-not-catalogues_rule, Else-not-entries_rule, Else-not-indexes_rule, Else-not-label_rule}
+use Rattle.judge.proofs.judge.Goals.{After-catalogues_rule, After-claim_holders, After-entries_rule, After-indexes_rule, After-label_rule, After-same, Else-not-catalogues_rule, Else-not-entries_rule, Else-not-indexes_rule, Else-not-label_rule}
 
 -- the tests that have passed
 sized : (image : List ℕ) → length image % 256 ≡ 0 → 3 ≤ length image / 256 → length image / 256 ≤ 1600 → size_rule image ≡ true
@@ -63,13 +61,13 @@ twice_is : (c : After-claim_holders) → held_twice (holders c.args.layout c.arg
 twice_is c = judged_twice _ _ _ c.lay_map.ensures (passed (goal.at.After-claim_holders c).Else-not-catalogues_rule) _ c.claim_holders.ensures.value
 
 long : (c : After-claim_holders) → length c.claim_holders.new.marks ≡ 200
-long c = c.claim_holders.auto.marks ∙ c.lay_map.auto.map
+long c = omega arith
 
-map_is : (c : After-map_rule) →
-    map_rule (sector_count c.args.image.now) (holders c.args.layout c.args.image.now) (sector_of c.args.image.now 0) ≡ c.map_rule.result
+map_is : (c : After-same) →
+    map_rule (sector_count c.args.image.now) (holders c.args.layout c.args.image.now) (sector_of c.args.image.now 0) ≡ c.same.result
 map_is c =
-    sym (c.map_rule.ensures
-    ∙ judged_map _ _ _ c.lay_map.ensures (passed (goal.at.After-map_rule c).Else-not-catalogues_rule) _ c.claim_holders.ensures.value c.if-claim_holders.false _ (c.claim_holders.ensures.marks_after c.if-claim_holders.false) (long (goal.at.After-map_rule c).After-claim_holders) _ _
+    sym (c.same.ensures
+    ∙ judged_map _ _ _ c.lay_map.ensures (passed (goal.at.After-same c).Else-not-catalogues_rule) _ c.claim_holders.ensures.value c.if-claim_holders.false _ (c.claim_holders.ensures.marks_after c.if-claim_holders.false) (long (goal.at.After-same c).After-claim_holders) _ _
     c.part.ensures c.sector_in-sector0.ensures (λ i. omega (arith, c.type_inv.image i)))
 
 pub returns-then-image-ne0 : goal.returns-then-image-ne0
@@ -119,22 +117,15 @@ lay_map-requires c = let size = size_is _ (passed (goal.at.lay_map-requires c).E
 pub claim_holders-requires : goal.claim_holders-requires
 claim_holders-requires c =
     let four = passed (goal.at.claim_holders-requires c).Else-not-catalogues_rule in
-    (c.lay_map.auto.map, (size_is _ four.sized).2, claims_below _ _ four)
+    ((size_is _ four.sized).2, claims_below _ _ four)
 
 pub returns-then-claim_holders : goal.returns-then-claim_holders
 returns-then-claim_holders c = sym (wrong_holders _ _ (passed (goal.at.returns-then-claim_holders c).Else-not-catalogues_rule) (twice_is (goal.at.returns-then-claim_holders c).After-claim_holders ∙ c.if-claim_holders.true))
 
-pub map_rule-requires : goal.map_rule-requires
-map_rule-requires c =
-    let image = c.args.image.now in
-    let size = size_is image (passed (goal.at.map_rule-requires c).Else-not-catalogues_rule).sized in
-    let whole = sector_length image 0 (omega (arith, size.0, size.1)) in
-    (rw (c.part.ensures, c.sector_in-sector0.ensures) (part_length (sector_of image 0) 56 200 (omega (arith, whole))), long (goal.at.map_rule-requires c).After-claim_holders)
-
-pub returns-then-not-map_rule : goal.returns-then-not-map_rule
-returns-then-not-map_rule c =
-    sym (wrong_map_lem _ _ (passed (goal.at.returns-then-not-map_rule c).Else-not-catalogues_rule) (twice_is (goal.at.returns-then-not-map_rule c).After-claim_holders ∙ c.if-claim_holders.false) (map_is (goal.at.returns-then-not-map_rule c).After-map_rule ∙ c.if-not-map_rule.true))
+pub returns-then-not-same : goal.returns-then-not-same
+returns-then-not-same c =
+    sym (wrong_map_lem _ _ (passed (goal.at.returns-then-not-same c).Else-not-catalogues_rule) (twice_is (goal.at.returns-then-not-same c).After-claim_holders ∙ c.if-claim_holders.false) (map_is (goal.at.returns-then-not-same c).After-same ∙ c.if-not-same.true))
 
 pub returns : goal.returns
 returns c =
-    sym (nothing_wrong _ _ (passed (goal.at.returns c).Else-not-catalogues_rule) (twice_is (goal.at.returns c).After-claim_holders ∙ c.if-claim_holders.false) (map_is (goal.at.returns c).After-map_rule ∙ c.if-not-map_rule.false))
+    sym (nothing_wrong _ _ (passed (goal.at.returns c).Else-not-catalogues_rule) (twice_is (goal.at.returns c).After-claim_holders ∙ c.if-claim_holders.false) (map_is (goal.at.returns c).After-same ∙ c.if-not-same.false))

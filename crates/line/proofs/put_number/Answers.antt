@@ -1,10 +1,10 @@
 -- `line::put_number` meets its contract. The loop's invariant: the digits of what is left of the number, and those set already with the mark behind them, are the number's with the mark.
 -- The measure is what is left of the number. Assumes nothing.
-use mathlib.Core.Path.{◌≡◌, refl, sym, ap, ◌∙◌}
+use mathlib.Core.Path.{◌≡◌, refl, ap, ◌∙◌}
 use mathlib.Core.List.{List, [], ◌∷◌, ◌++◌}
-use Prim.Native.Nat.{ℕ, suc, ◌-◌, ◌/◌, ◌^◌, ◌≤◌, ◌<◌}
+use Prim.Native.Nat.{ℕ, suc, ◌-◌, ◌/◌, ◌^◌, ◌<◌}
 use native.Mathlib.Omega.{arith}
-use lib.ListN.{length, length-take, drop, set, length-drop, length-set}
+use lib.ListN.{length, drop, set, length-drop, length-set}
 use lib.Seq.{take_all}
 use Rattle.rules.specs.Calls.Listing.{digits}
 use Rattle.rules.proofs.Listing.{tenth_below, digits_decimal}
@@ -37,19 +37,11 @@ loop-left-preserved c =
           ∙ l.invariant.3,
     )
 
-pub slice_bounds-part-end : goal.slice_bounds-part-end
-slice_bounds-part-end c = simp length-set (sym c.loop-left.invariant.0)
-
-pub put-requires : goal.put-requires
-put-requires c =
-    let few : length c.part.result.now ≤ 21 = rw c.part.ensures (rw length-take (omega arith)) in
-    omega (arith, few, c.requires)
-
 pub returns : goal.returns
 returns c =
     let l = c.loop-left in
     let figures = set l.figures l.first c.digit-2.result in
-    let few : length (drop l.first figures) ≤ 21 = simp (length-drop, length-set) (omega (arith, l.invariant.0)) in
-    let all = c.part.ensures ∙ take_all 21 (drop l.first figures) few in
+    let long : length (drop l.first figures) ≡ 21 - l.first = simp (length-drop, length-set) (omega (arith, l.invariant.0)) in
+    let all = take_all (21 - l.first) (drop l.first figures) (omega (arith, long)) in
     let last = digit_last l.figures l.first l.left c.digit-2.result (omega (arith, l.invariant.0, l.invariant.1)) c.loop-left-test.false c.digit-2.ensures in
-    laid_as (all ∙ last ∙ l.invariant.3) (rw all few) c.put.ensures
+    laid_as (all ∙ last ∙ l.invariant.3) (rw all (omega (arith, long))) c.put.ensures

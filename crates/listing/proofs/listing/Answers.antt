@@ -10,51 +10,53 @@ use Rattle.rules.specs.Verdict.{verdict}
 use Rattle.rules.specs.Calls.Listing.{listing_text}
 use Rattle.rules.proofs.Outcome.{amount_refused, amount_given}
 use Rattle.rules.proofs.Listing.{listing_unsound, listing_nowhere, listing_narrow, listing_fits}
+use Rattle.rules.proofs.Refusals.{fault_some, err_is, ok_there, err_absent}
+use Rattle.sector.proofs.IndexLaws.{there_none, there_some}
 use Rattle.listing.proofs.listing.Goals as goal
-use Rattle.listing.proofs.listing.Goals.{After-index_at-i, After-put_listing-size, Else-i-eq0, Else-number-ne0}
+use Rattle.listing.proofs.listing.Goals.{After-put_listing-size, In_ok-i, In_ok-judge}
 
 -- the image is sound; the directory's index, and that it is one; the length of its text
-sound : (c : Else-number-ne0) → verdict c.args.layout c.args.image.now ≡ 0
-sound c = sym c.judge-number.ensures ∙ c.if-number-ne0.false
+whole : (c : In_ok-judge) → verdict c.args.layout c.args.image.now ≡ 0
+whole c = sym c.in_ok-judge.ensures
 
-index_is : (c : After-index_at-i) → index_at c.args.layout c.args.image.now c.args.directory ≡ c.index_at-i.result
-index_is c = sym c.index_at-i.ensures.0
+index_is : (c : In_ok-i) → let a = c.args in (c.in_ok-i.i ≡ index_at a.layout a.image.now a.directory) × (c.in_ok-i.i ≡ 0 → ⊥)
+index_is c = there_some _ _ _ c.index_at.ensures (ok_there _ c.index_at.result c.in_ok-i.i c.in_ok-i.ensures.value)
 
-there : (c : Else-i-eq0) → let a = c.args in index_at a.layout a.image.now a.directory ≡ 0 → ⊥
-there c none = c.if-i-eq0.false (sym (index_is (goal.at.Else-i-eq0 c).After-index_at-i) ∙ none)
+there : (c : In_ok-i) → let a = c.args in index_at a.layout a.image.now a.directory ≡ 0 → ⊥
+there c none = (index_is c).1 ((index_is c).0 ∙ none)
 
-abbrev text : Else-i-eq0 → List ℕ
+abbrev text : In_ok-i → List ℕ
 text c = let a = c.args in listing_text a.layout a.image.now (index_at a.layout a.image.now a.directory)
 
-text_is : (c : Else-i-eq0) → listing_text c.args.layout c.args.image.now c.index_at-i.result ≡ text c
-text_is c = ap (listing_text c.args.layout c.args.image.now) (sym (index_is (goal.at.Else-i-eq0 c).After-index_at-i))
+text_is : (c : In_ok-i) → listing_text c.args.layout c.args.image.now c.in_ok-i.i ≡ text c
+text_is c = ap (listing_text c.args.layout c.args.image.now) (index_is c).0
 
-size_is : (c : After-put_listing-size) → c.put_listing-size.result ≡ length (text (goal.at.After-put_listing-size c).Else-i-eq0)
-size_is c = omega (arith, c.put_listing-size.ensures.ends, ap length (text_is (goal.at.After-put_listing-size c).Else-i-eq0))
+size_is : (c : After-put_listing-size) → c.put_listing-size.result ≡ length (text (goal.at.After-put_listing-size c).In_ok-i)
+size_is c = omega (arith, c.put_listing-size.ensures.ends, ap length (text_is (goal.at.After-put_listing-size c).In_ok-i))
 
-pub returns-then-number-ne0 : goal.returns-then-number-ne0
-returns-then-number-ne0 c =
+pub returns-in_err-judge : goal.returns-in_err-judge
+returns-in_err-judge c =
     let a = c.args in
-    let number = c.judge-number.ensures in
-    rw number
-    (amount_refused a.out.now _ (verdict a.layout a.image.now) (λ z. c.if-number-ne0.true (number ∙ z))
-    (listing_unsound a.layout a.image.now a.directory (length a.out.now) (λ z. c.if-number-ne0.true (number ∙ z))))
+    let fault = c.in_err-judge.ensures in
+    let some : verdict a.layout a.image.now ≡ 0 → ⊥ = λ z. fault_some c.in_err-judge.field-0.0 (fault ∙ z) in
+    rw (err_is c.from_residual.result _ c.from_residual.ensures.1, fault) (amount_refused a.out.now _ (verdict a.layout a.image.now) some (listing_unsound a.layout a.image.now a.directory (length a.out.now) some))
 
-pub returns-then-i-eq0 : goal.returns-then-i-eq0
-returns-then-i-eq0 c =
+pub returns-in_err-i : goal.returns-in_err-i
+returns-in_err-i c =
     let a = c.args in
-    amount_refused a.out.now _ 8 (λ z. omega arith) (listing_nowhere a.layout a.image.now a.directory (length a.out.now) (sound (goal.at.returns-then-i-eq0 c).Else-number-ne0) (index_is (goal.at.returns-then-i-eq0 c).After-index_at-i ∙ c.if-i-eq0.true))
+    let absent = err_absent _ c.index_at.result _ c.in_err-i.ensures.value in
+    rw (err_is c.from_residual-in_err-i.result _ c.from_residual-in_err-i.ensures.1, absent.1)
+    (amount_refused a.out.now _ 8 (λ z. omega arith) (listing_nowhere a.layout a.image.now a.directory (length a.out.now) (whole (goal.at.returns-in_err-i c).In_ok-judge) (there_none _ _ c.index_at.ensures absent.0)))
 
 pub returns-then-size-out : goal.returns-then-size-out
 returns-then-size-out c =
     let a = c.args in
     amount_refused a.out.now _ 15 (λ z. omega arith)
-    (listing_narrow a.layout a.image.now a.directory (length a.out.now) (sound (goal.at.returns-then-size-out c).Else-number-ne0) (there (goal.at.returns-then-size-out c).Else-i-eq0) (omega (arith, size_is (goal.at.returns-then-size-out c).After-put_listing-size, c.if-size-out.true)))
+    (listing_narrow a.layout a.image.now a.directory (length a.out.now) (whole (goal.at.returns-then-size-out c).In_ok-judge) (there (goal.at.returns-then-size-out c).In_ok-i) (omega (arith, size_is (goal.at.returns-then-size-out c).After-put_listing-size, c.if-size-out.true)))
 
 pub returns : goal.returns
 returns c =
     let a = c.args in
-    let whole = sound (goal.at.returns c).Else-number-ne0 in
-    let fit = listing_fits a.layout a.image.now a.directory (length a.out.now) whole (there (goal.at.returns c).Else-i-eq0) (omega (arith, size_is (goal.at.returns c).After-put_listing-size, c.if-size-out.false)) in
+    let fit = listing_fits a.layout a.image.now a.directory (length a.out.now) (whole (goal.at.returns c).In_ok-judge) (there (goal.at.returns c).In_ok-i) (omega (arith, size_is (goal.at.returns c).After-put_listing-size, c.if-size-out.false)) in
     let given = amount_given a.out.now _ _ _ fit in
-    record { said = rw (size_is (goal.at.returns c).After-put_listing-size) given.said; left = c.put_listing.ensures.left ∙ ap (splice a.out.now 0) (text_is (goal.at.returns c).Else-i-eq0) ∙ given.left }
+    record { said = rw (size_is (goal.at.returns c).After-put_listing-size) given.said; left = c.put_listing.ensures.left ∙ ap (splice a.out.now 0) (text_is (goal.at.returns c).In_ok-i) ∙ given.left }

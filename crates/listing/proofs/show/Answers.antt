@@ -1,16 +1,20 @@
 -- `listing::show` meets its contract: what the listing gave, or the line over a buffer that was left as it was. Assumes nothing.
+use Rattle.rules.specs.Outcome.{AnswerSays}
 use Rattle.listing.proofs.Showing.{shown_given, shown_refused, number_given, number_refused}
 use Rattle.listing.proofs.show.Goals as goal
 
-pub returns-in-Given : goal.returns-in-Given
-returns-in-Given c =
-    let a = c.args in
-    let gave = rw c.in-Given.is at c.listing-amount.ensures in
-    record { size_value = shown_given _ a.image.now a.out.now gave; number_value = number_given _ a.image.now a.out.now gave }
+pub returns-in-Ok-clause-size_value : goal.returns-in-Ok-clause-size_value
+returns-in-Ok-clause-size_value c = shown_given _ c.args.image.now c.args.out.now c.in-Ok.ensures
 
-pub returns-in-Refused : goal.returns-in-Refused
-returns-in-Refused c =
-    let a = c.args in
-    let gave = rw c.in-Refused.is at c.listing-amount.ensures in
-    let line = shown_refused _ a.image.now a.out.now gave in
-    record { size_value = rw (← line.1, ← line.0) c.refused_line.ensures; number_value = number_refused _ a.image.now a.out.now gave }
+pub returns-in-Ok-clause-number_value : goal.returns-in-Ok-clause-number_value
+unfolding AnswerSays
+returns-in-Ok-clause-number_value c = number_given _ c.args.image.now c.args.out.now c.in-Ok.ensures
+
+pub returns-in-Err-clause-size_value : goal.returns-in-Err-clause-size_value
+returns-in-Err-clause-size_value c =
+    let line = shown_refused _ c.args.image.now c.args.out.now c.in-Err.ensures in
+    rw (← line.1, ← line.0, ← c.from.ensures) c.refused_line.ensures
+
+pub returns-in-Err-clause-number_value : goal.returns-in-Err-clause-number_value
+unfolding AnswerSays
+returns-in-Err-clause-number_value c = number_refused _ c.args.image.now c.args.out.now c.in-Err.ensures

@@ -1,40 +1,22 @@
--- `loading::load` meets its contract: a case for each thing that the opener can say. Assumes nothing.
-use mathlib.Core.Path.{◌≡◌, sym, ◌∙◌}
-use native.Mathlib.Omega.{arith}
+-- `loading::load` meets its contract: a refusal of the opening is passed on, and a file that is there is loaded. Assumes nothing.
 use Rattle.rules.specs.Outcome.{NamedAmountSays}
-use Rattle.rules.specs.Opening.{open_of}
 use Rattle.rules.specs.Calls.Load.{load_of}
-use Rattle.rules.specs.declared.Opened.TheVariants.{At}
-use Rattle.rules.proofs.Opening.{opened_is, load_refused, load_misnamed, load_absent, on_found}
+use Rattle.rules.proofs.Opening.{load_passed, load_absent, on_found, looked_found, looked_none}
+use Rattle.rules.proofs.Refusals.{err_is, ok_there, err_absent}
 use Rattle.loading.proofs.load.Goals as goal
-use Rattle.loading.proofs.load.Goals.{In-At}
 
-found : (c : In-At) →
-    let a = c.args in
-    open_of a.layout a.image.now a.directory a.name.now ≡ At c.in-At.field-0 c.in-At.field-1 c.in-At.k
-found c = sym c.find-opened.ensures ∙ c.in-At.is
-
-pub load_at-requires : goal.load_at-requires
-load_at-requires c =
-    let is = opened_is _ _ _ _ _ _ _ (found (goal.at.load_at-requires c).In-At) in
-    omega (arith, is.low, is.whole.size)
-
-pub returns-in-Refused : goal.returns-in-Refused
+pub returns-in_err-looked : goal.returns-in_err-looked
 unfolding load_of
-returns-in-Refused c =
-    load_refused _ _ _ _ c.args.out.now _ _ (sym c.find-opened.ensures ∙ c.in-Refused.is)
+returns-in_err-looked c =
+    rw (err_is c.from_residual.result _ c.from_residual.ensures.1) (load_passed _ _ _ _ c.args.out.now _ _ c.in_err-looked.ensures)
 
-pub returns-in-Misnamed : goal.returns-in-Misnamed
+pub returns-in_err-file : goal.returns-in_err-file
 unfolding load_of
-returns-in-Misnamed c =
-    load_misnamed _ _ _ _ c.args.out.now _ _ (sym c.find-opened.ensures ∙ c.in-Misnamed.is)
+returns-in_err-file c =
+    let absent = err_absent _ _ _ c.in_err-file.ensures.value in
+    rw (err_is c.from_residual-in_err-file.result _ c.from_residual-in_err-file.ensures.1, absent.1) (load_absent _ _ _ _ c.args.out.now _ _ (looked_none c.in_ok-looked.ensures absent.0))
 
-pub returns-in-Absent : goal.returns-in-Absent
+pub returns : goal.returns
 unfolding load_of
-returns-in-Absent c =
-    load_absent _ _ _ _ c.args.out.now _ _ (sym c.find-opened.ensures ∙ c.in-Absent.is)
-
-pub returns-in-At : goal.returns-in-At
-unfolding load_of
-returns-in-At c =
-    on_found _ _ _ _ _ _ NamedAmountSays _ _ _ (found (goal.at.returns-in-At c).In-At) _ _ c.load_at.ensures
+returns c =
+    on_found _ _ _ _ _ _ NamedAmountSays _ _ _ (looked_found c.in_ok-looked.ensures (ok_there _ _ _ c.in_ok-file.ensures.value)) _ _ c.load_at.ensures

@@ -1,20 +1,20 @@
--- `masters::mark_of` meets its contract: by cases of what packing gave. Assumes nothing.
-use Rattle.std.proofs.Common.{refl, le-ltb, lt-ltb}
+-- `masters::mark_of` meets its contract: the mark is that of the answer of packing. Assumes nothing.
+use Rattle.std.proofs.Common.{◌≡◌, ℕ, refl, ◌∙◌}
+use Rattle.std.specs.Prelude.{Result, Ok, Err, Some}
+use Rattle.rules.specs.declared.refusal.Refusal.{Refusal}
+use Rattle.console.specs.Mark.{digit_of, number_digit, answer_digit}
+use Rattle.masters.specs.Packed.{mastered}
 use Rattle.masters.specs.Line.{mark_of}
 use Rattle.masters.proofs.mark_of.Goals as goal
 
-pub returns-then-number-gt6 : goal.returns-then-number-gt6
-unfolding mark_of
-returns-then-number-gt6 c = rw (c.in-Refused.is, lt-ltb _ _ c.if-number-gt6.true) refl
+answered_as : (answer : Result ℕ Refusal) → answer_digit answer ≡ mark_of (mastered (Some answer))
+unfolding answer_digit number_digit mark_of
+answered_as (Ok count) = refl
+answered_as (Err refusal) = refl
 
-pub returns-in-Packed : goal.returns-in-Packed
-unfolding mark_of
-returns-in-Packed c = rw c.in-Packed.is refl
+pub returns-in_err-answer : goal.returns-in_err-answer
+unfolding digit_of mark_of
+returns-in_err-answer c = rw (c.from_residual.ensures, c.in_err-answer.was) refl
 
-pub returns-else-number-gt6 : goal.returns-else-number-gt6
-unfolding mark_of
-returns-else-number-gt6 c = rw (c.in-Refused.is, le-ltb _ _ c.if-number-gt6.false) refl
-
-pub returns-in-Unread : goal.returns-in-Unread
-unfolding mark_of
-returns-in-Unread c = rw c.in-Unread.is refl
+pub returns : goal.returns
+returns c = rw c.in_ok-answer.was (c.mark_by.ensures ∙ answered_as c.in_ok-answer.answer)

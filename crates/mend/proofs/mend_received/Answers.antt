@@ -1,89 +1,65 @@
--- `mend::mend_received` meets its contract: where nothing was read, and by what repair answers and leaves in the part of the buffer that is lent to it. Where the mark
--- is that of a sound volume the laws of MendingLaws.antt suffice. Assumes nothing.
-use mathlib.Core.Path.{◌≡◌, refl, subst}
-use mathlib.Core.List.{List}
-use Prim.Native.Nat.{ℕ, ◌-◌, ◌≤◌}
-use native.Mathlib.Omega.{arith}
+-- `mend::mend_received` meets its contract: by what the judge says of the image, and where it is not sound by what repair answers and leaves in the part of the buffer that is lent to it.
+-- Assumes nothing.
+use mathlib.Core.Path.{◌≡◌, sym, ap, subst, ◌∙◌}
+use Rattle.std.specs.Prelude.{Option}
+use Prim.Native.Nat.{ℕ, ◌≤◌}
 use lib.ListN.{length}
-use borrow.Rule.Slice.PartMut.{put_mid}
 use Rattle.rules.specs.Bytes.{part}
 use Rattle.rules.specs.Verdict.{verdict}
-use Rattle.rules.specs.Outcome.{AnswerSays, Meets}
-use Rattle.rules.specs.Calls.Repair.{repair_of}
-use Rattle.rules.specs.declared.Layout.{Layout}
-use Rattle.rules.specs.declared.Answer.{Answer}
+use Rattle.rules.specs.Outcome.{AnswerSays}
 use Rattle.input.specs.Filled.{Filled}
-use Rattle.input.specs.Mark.{mark_of}
-use Rattle.input.specs.declared.Received.{Received}
-use Rattle.input.specs.declared.Received.TheVariants.{Bytes}
-use Rattle.mend.specs.Mending.{fate_of, mended_over, SoundNow}
-use Rattle.mend.specs.declared.Fate.TheVariants.{Mended}
-use Rattle.mend.proofs.MendingLaws.{marked, mended_fate, refused_fate, mended_over_lem, mended_now}
+use Rattle.mend.proofs.MendingLaws.{judged_sound, judged_fault, marked, sound_fate, sound_stays, mended_fate, refused_fate, mended_over_lem, mended_now}
 use Rattle.mend.proofs.mend_received.Goals as goal
+use Rattle.mend.proofs.mend_received.Goals.{After-judge-judged, After-repair, Then-is_ok}
 
-pub returns-in_default-clause-fate_value : goal.returns-in_default-clause-fate_value
-unfolding fate_of
-returns-in_default-clause-fate_value c = rw c.in_default.is refl
+-- what was judged is what was read
+judged_is : (c : After-judge-judged) → verdict c.args.layout c.part.result.now ≡ verdict c.args.layout (part c.args.buffer.now 0 c.in-Some.length)
+judged_is c = ap (verdict c.args.layout) c.part.ensures
 
-pub returns-in_default-clause-buffer_after : goal.returns-in_default-clause-buffer_after
-unfolding mended_over
-returns-in_default-clause-buffer_after c = rw c.in_default.is refl
+inside : (c : After-judge-judged) → c.in-Some.length ≤ length c.args.buffer.now
+inside c = (subst (λ (r : Option ℕ). Filled r c.args.buffer.now) c.in-Some.is c.requires).0
 
--- where so many bytes were read, whose mark is not that of a sound volume, and repair was called of them
-module _ (layout : Layout) (buffer : List ℕ) {received : Received} (count : ℕ) (gave : received ≡ Bytes count) (filled : Filled received buffer) {mark : ℕ} (is : mark ≡ mark_of layout received buffer)
-    (other : mark ≡ 48 → ⊥) where
-  inside : count ≤ length buffer
-  inside = (subst (λ (r : Received). Filled r buffer) gave filled).0
+sound : (c : Then-is_ok) → verdict c.args.layout (part c.args.buffer.now 0 c.in-Some.length) ≡ 0
+sound c = rw (← judged_is (goal.at.Then-is_ok c).After-judge-judged, ← c.judge-judged.ensures) (judged_sound _ (sym c.is_ok.ensures.value ∙ c.if-is_ok.true))
 
-  lent : count - 0 ≡ count
-  lent = omega arith
+faulty : (c : After-repair) → verdict c.args.layout (part c.args.buffer.now 0 c.in-Some.length) ≡ 0 → ⊥
+faulty c none = judged_fault c.judge-judged.result (sym c.is_ok.ensures.value ∙ c.if-is_ok.false) (c.judge-judged.ensures ∙ judged_is (goal.at.After-repair c).After-judge-judged ∙ none)
 
-  some : verdict layout (part buffer 0 count) ≡ 0 → ⊥
-  some none = other (omega (arith, marked layout buffer count gave mark is, none))
+pub returns-then-is_ok-clause-mark_value : goal.returns-then-is_ok-clause-mark_value
+returns-then-is_ok-clause-mark_value c = marked _ _ _ c.in-Some.is _ _ c.judge-judged.ensures c.part.ensures
 
-  module _ {answer : Answer} {after : List ℕ} (met : Meets AnswerSays (repair_of layout (part buffer 0 (count - 0))) answer (part buffer 0 (count - 0)) after) where
-    said : AnswerSays answer (repair_of layout (part buffer 0 count)).number
-    said = rw lent at met.said
+pub returns-then-is_ok-clause-fate_value : goal.returns-then-is_ok-clause-fate_value
+returns-then-is_ok-clause-fate_value c = sound_fate _ _ _ c.in-Some.is (sound c)
 
-    module _ (kept : length after ≡ length (part buffer 0 (count - 0))) where
-      left : put_mid 0 (count - 0) buffer after ≡ mended_over layout received buffer
-      left = rw lent (mended_over_lem layout buffer count gave some inside after (rw lent at met.left) (rw lent at kept))
+pub returns-then-is_ok-clause-buffer_after : goal.returns-then-is_ok-clause-buffer_after
+returns-then-is_ok-clause-buffer_after c = sound_stays _ _ _ c.in-Some.is (sound c)
 
-      now_sound : (repair_of layout (part buffer 0 count)).number ≡ 0 → SoundNow layout (Mended count) (put_mid 0 (count - 0) buffer after)
-      now_sound done = rw lent (mended_now layout buffer count gave some inside after (rw lent at met.left) (rw lent at kept) done)
+pub returns-in-Ok-clause-mark_value : goal.returns-in-Ok-clause-mark_value
+returns-in-Ok-clause-mark_value c = marked _ _ _ c.in-Some.is _ _ c.judge-judged.ensures c.part.ensures
 
-pub returns-in-Done-clause-fate_value : goal.returns-in-Done-clause-fate_value
+pub returns-in-Ok-clause-fate_value : goal.returns-in-Ok-clause-fate_value
 unfolding AnswerSays
-returns-in-Done-clause-fate_value c =
-    let a = c.args in
-    let other : c.mark_of-mark.result ≡ 48 → ⊥ = omega arith in
-    mended_fate a.layout a.buffer.now c.in-Bytes.length c.in-Bytes.is
-    (some a.layout a.buffer.now c.in-Bytes.length c.in-Bytes.is c.requires c.mark_of-mark.ensures other)
-    (said a.layout a.buffer.now c.in-Bytes.length c.in-Bytes.is c.requires c.mark_of-mark.ensures other c.in-Done.ensures.meets)
+returns-in-Ok-clause-fate_value c = mended_fate _ _ _ c.in-Some.is (faulty (goal.at.returns-in-Ok-clause-fate_value c).After-repair) c.in-Ok.ensures.meets.said
 
-pub returns-in-Done-clause-buffer_after : goal.returns-in-Done-clause-buffer_after
-returns-in-Done-clause-buffer_after c =
-    let other : c.mark_of-mark.result ≡ 48 → ⊥ = omega arith in
-    left c.args.layout c.args.buffer.now c.in-Bytes.length c.in-Bytes.is c.requires c.mark_of-mark.ensures other c.repair-answer.ensures.meets c.repair-answer.auto.image
+pub returns-in-Ok-clause-buffer_after : goal.returns-in-Ok-clause-buffer_after
+returns-in-Ok-clause-buffer_after c =
+    let at = (goal.at.returns-in-Ok-clause-buffer_after c).After-repair in
+    mended_over_lem _ _ _ c.in-Some.is (faulty at) (inside (goal.at.After-repair at).After-judge-judged) _ c.repair.ensures.meets.left c.repair.auto.image
 
-pub returns-in-Done-clause-sound_now : goal.returns-in-Done-clause-sound_now
+pub returns-in-Ok-clause-sound_now : goal.returns-in-Ok-clause-sound_now
 unfolding AnswerSays
-returns-in-Done-clause-sound_now c =
-    let a = c.args in
-    let other : c.mark_of-mark.result ≡ 48 → ⊥ = omega arith in
-    now_sound a.layout a.buffer.now c.in-Bytes.length c.in-Bytes.is c.requires c.mark_of-mark.ensures other c.in-Done.ensures.meets c.repair-answer.auto.image
-    (said a.layout a.buffer.now c.in-Bytes.length c.in-Bytes.is c.requires c.mark_of-mark.ensures other c.in-Done.ensures.meets)
+returns-in-Ok-clause-sound_now c =
+    let at = (goal.at.returns-in-Ok-clause-sound_now c).After-repair in
+    mended_now _ _ _ c.in-Some.is (faulty at) (inside (goal.at.After-repair at).After-judge-judged) _ c.repair.ensures.meets.left c.repair.auto.image c.in-Ok.ensures.meets.said
 
-pub returns-in-Refused-clause-fate_value : goal.returns-in-Refused-clause-fate_value
+pub returns-in-Err-clause-mark_value : goal.returns-in-Err-clause-mark_value
+returns-in-Err-clause-mark_value c = marked _ _ _ c.in-Some.is _ _ c.judge-judged.ensures c.part.ensures
+
+pub returns-in-Err-clause-fate_value : goal.returns-in-Err-clause-fate_value
 unfolding AnswerSays
-returns-in-Refused-clause-fate_value c =
-    let a = c.args in
-    let other : c.mark_of-mark.result ≡ 48 → ⊥ = omega arith in
-    refused_fate a.layout a.buffer.now c.in-Bytes.length c.in-Bytes.is
-    (some a.layout a.buffer.now c.in-Bytes.length c.in-Bytes.is c.requires c.mark_of-mark.ensures other)
-    (said a.layout a.buffer.now c.in-Bytes.length c.in-Bytes.is c.requires c.mark_of-mark.ensures other c.in-Refused.ensures.meets).1
+returns-in-Err-clause-fate_value c = refused_fate _ _ _ c.in-Some.is (faulty (goal.at.returns-in-Err-clause-fate_value c).After-repair) c.in-Err.ensures.meets.said.1
 
-pub returns-in-Refused-clause-buffer_after : goal.returns-in-Refused-clause-buffer_after
-returns-in-Refused-clause-buffer_after c =
-    let other : c.mark_of-mark.result ≡ 48 → ⊥ = omega arith in
-    left c.args.layout c.args.buffer.now c.in-Bytes.length c.in-Bytes.is c.requires c.mark_of-mark.ensures other c.repair-answer.ensures.meets c.repair-answer.auto.image
+pub returns-in-Err-clause-buffer_after : goal.returns-in-Err-clause-buffer_after
+returns-in-Err-clause-buffer_after c =
+    let at = (goal.at.returns-in-Err-clause-buffer_after c).After-repair in
+    mended_over_lem _ _ _ c.in-Some.is (faulty at) (inside (goal.at.After-repair at).After-judge-judged) _ c.repair.ensures.meets.left c.repair.auto.image

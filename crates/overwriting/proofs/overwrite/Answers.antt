@@ -1,40 +1,37 @@
--- `overwriting::overwrite` meets its contract: a case for each thing that the opener can say. Assumes nothing.
-use mathlib.Core.Path.{◌≡◌, sym, ◌∙◌}
+-- `overwriting::overwrite` meets its contract: what the opener refuses, and the file overwritten. Assumes nothing.
+use mathlib.Core.Path.{◌≡◌}
 use Rattle.rules.specs.Opening.{open_of}
 use Rattle.rules.specs.Calls.Overwrite.{overwrite_of}
-use Rattle.rules.specs.declared.Opened.TheVariants.{At}
-use Rattle.rules.proofs.Opening.{change_refused, change_misnamed, change_absent, change_found, is_file}
+use Rattle.rules.specs.Answers.Opened.{At}
+use Rattle.rules.proofs.Opening.{looked_found, looked_none, change_passed, change_absent, change_found, is_file}
+use Rattle.rules.proofs.Refusals.{err_is, ok_there, err_absent}
 use Rattle.overwriting.proofs.overwrite.Goals as goal
-use Rattle.overwriting.proofs.overwrite.Goals.{In-At}
+use Rattle.overwriting.proofs.overwrite.Goals.{In_ok-file}
 
-found : (c : In-At) →
+found : (c : In_ok-file) →
     let a = c.args in
-    open_of a.layout a.image.now a.directory a.name.now ≡ At c.in-At.field-0 c.in-At.field-1 c.in-At.k
-found c = sym c.find-opened.ensures ∙ c.in-At.is
+    let file = c.in_ok-file.file in
+    open_of a.layout a.image.now a.directory a.name.now ≡ At c.in_ok-looked.looked.index file.place file.sector
+found c = looked_found c.in_ok-looked.ensures (ok_there _ c.in_ok-looked.looked.file c.in_ok-file.file c.in_ok-file.ensures.value)
+
+pub returns-in_err-looked : goal.returns-in_err-looked
+unfolding overwrite_of
+returns-in_err-looked c =
+    let both = change_passed _ c.args.image.now c.args.changes.now _ _ _ c.in_err-looked.field-0.0 c.in_err-looked.ensures in
+    record { meets = rw (err_is c.from_residual.result _ c.from_residual.ensures.1) both.0; order = both.1 }
+
+pub returns-in_err-file : goal.returns-in_err-file
+unfolding overwrite_of
+returns-in_err-file c =
+    let absent = err_absent _ c.in_ok-looked.looked.file c.in_err-file.field-0.0 c.in_err-file.ensures.value in
+    let both = change_absent _ c.args.image.now c.args.changes.now _ _ _ _ (looked_none c.in_ok-looked.ensures absent.0) in
+    record { meets = rw (err_is c.from_residual-in_err-file.result _ c.from_residual-in_err-file.ensures.1, absent.1) both.0; order = both.1 }
 
 pub overwrite_at-requires : goal.overwrite_at-requires
-overwrite_at-requires c = (_, is_file _ _ _ _ _ _ _ (found (goal.at.overwrite_at-requires c).In-At))
+overwrite_at-requires c = (_, is_file _ _ _ _ _ _ _ (found (goal.at.overwrite_at-requires c).In_ok-file))
 
-pub returns-in-Refused : goal.returns-in-Refused
+pub returns : goal.returns
 unfolding overwrite_of
-returns-in-Refused c =
-    let both = change_refused _ c.args.image.now _ _ _ _ _ (sym c.find-opened.ensures ∙ c.in-Refused.is) in
-    record { meets = both.0; order = both.1 }
-
-pub returns-in-Misnamed : goal.returns-in-Misnamed
-unfolding overwrite_of
-returns-in-Misnamed c =
-    let both = change_misnamed _ c.args.image.now _ _ _ _ _ (sym c.find-opened.ensures ∙ c.in-Misnamed.is) in
-    record { meets = both.0; order = both.1 }
-
-pub returns-in-Absent : goal.returns-in-Absent
-unfolding overwrite_of
-returns-in-Absent c =
-    let both = change_absent _ c.args.image.now _ _ _ _ _ (sym c.find-opened.ensures ∙ c.in-Absent.is) in
-    record { meets = both.0; order = both.1 }
-
-pub returns-in-At : goal.returns-in-At
-unfolding overwrite_of
-returns-in-At c =
-    let both = change_found _ _ _ _ _ _ _ _ _ (found (goal.at.returns-in-At c).In-At) _ _ _ (c.overwrite_at.ensures.meets, c.overwrite_at.ensures.order) in
+returns c =
+    let both = change_found _ _ _ _ _ _ _ _ _ (found (goal.at.returns c).In_ok-file) _ _ _ (c.overwrite_at.ensures.meets, c.overwrite_at.ensures.order) in
     record { meets = both.0; order = both.1 }

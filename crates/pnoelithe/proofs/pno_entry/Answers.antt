@@ -7,32 +7,33 @@ use Rattle.rules.specs.declared.Row.{Row}
 use Rattle.rules.proofs.Tests.{unless_passed}
 use Rattle.rules.proofs.Outcome.{behind_given}
 use Rattle.pnoelithe.specs.Crossing.{kind_number, flag}
-use Rattle.pnoelithe.proofs.Crossings.{refused_kept}
+use Rattle.pnoelithe.proofs.Crossings.{refused_kept, flag_is}
 use Rattle.pnoelithe.proofs.pno_entry.Goals as goal
 
-pub returns-in-Refused : goal.returns-in-Refused
+pub returns-in-Err : goal.returns-in-Err
 unfolding AnswerSays
-returns-in-Refused c =
-    let gives = c.entry-entry.ensures in
-    let said = rw c.in-Refused.is at gives.said.said in
+returns-in-Err c =
+    let gives = c.entry.ensures in
+    let said = rw c.in-Err.is at gives.said.said in
+    let number = c.from-in-Err.ensures in
     record {
-      header = rw (← c.layout_of.ensures) (record { returned = said.0; left = gives.left });
-      kind = rw (← c.layout_of.ensures) (refused_kept _ _ _ _ said);
-      size = rw (← c.layout_of.ensures) (refused_kept _ _ _ _ said);
-      sectors = rw (← c.layout_of.ensures) (refused_kept _ _ _ _ said);
-      protection = rw (← c.layout_of.ensures) (refused_kept _ _ _ _ said);
+      header = rw (← c.layout_of.ensures, number) (record { returned = said.0; left = gives.left });
+      kind = rw (← c.layout_of.ensures, number) (refused_kept _ _ _ _ said);
+      size = rw (← c.layout_of.ensures, number) (refused_kept _ _ _ _ said);
+      sectors = rw (← c.layout_of.ensures, number) (refused_kept _ _ _ _ said);
+      protection = rw (← c.layout_of.ensures, number) (refused_kept _ _ _ _ said);
     }
 
-pub returns-in-Done : goal.returns-in-Done
+pub returns-in-Ok : goal.returns-in-Ok
 unfolding AnswerSays row_of entry_row entry_of
-returns-in-Done c =
-    let gives = c.entry-entry.ensures in
-    let said = rw c.in-Done.is at gives.said.said in
-    let row = gives.said.row_is ∙ unless_passed _ _ no_row said in
+returns-in-Ok c =
+    let gives = c.entry.ensures in
+    let said = rw c.in-Ok.is at gives.said.said in
+    let row = (rw c.in-Ok.is at gives.said.row_is) ∙ unless_passed _ _ no_row said in
     record {
       header = rw (← c.layout_of.ensures) (record { returned = sym said; left = gives.left });
       kind = rw (← c.layout_of.ensures) (c.kind_number.ensures ∙ ap (λ (r : Row). kind_number r.kind) row ∙ sym (behind_given 0 _ _ refl));
       size = rw (← c.layout_of.ensures) (c.kind_length.ensures ∙ ap (λ (r : Row). kind_length r.kind) row ∙ sym (behind_given 0 _ _ refl));
       sectors = rw (← c.layout_of.ensures) (ap (λ (r : Row). r.sectors) row ∙ sym (behind_given 0 _ _ refl));
-      protection = rw (← c.layout_of.ensures) (c.flag_of.ensures ∙ ap (λ (r : Row). flag r.protected) row ∙ sym (behind_given 0 _ _ refl));
+      protection = rw (← c.layout_of.ensures) (c.from.ensures ∙ flag_is _ ∙ ap (λ (r : Row). flag r.protected) row ∙ sym (behind_given 0 _ _ refl));
     }

@@ -5,23 +5,24 @@ use Rattle.rules.proofs.Outcome.{behind_given}
 use Rattle.pnoelithe.proofs.Crossings.{refused_kept}
 use Rattle.pnoelithe.proofs.pno_summary.Goals as goal
 
-pub returns-in-Refused : goal.returns-in-Refused
+pub returns-in-Err : goal.returns-in-Err
 unfolding SummarySays
-returns-in-Refused c =
-    let gives = c.summary-summary.ensures in
-    let said = rw c.in-Refused.is at gives.said in
+returns-in-Err c =
+    let gives = c.summary.ensures in
+    let said = rw c.in-Err.is at gives.said in
+    let number = c.from.ensures in
     record {
-      name = rw (← c.layout_of.ensures) (record { returned = said.0; left = gives.left });
-      sectors = refused_kept _ _ _ _ said;
-      count = rw (← c.layout_of.ensures) (refused_kept _ _ _ _ said);
-      free = refused_kept _ _ _ _ said;
+      name = rw (← c.layout_of.ensures, number) (record { returned = said.0; left = gives.left });
+      sectors = rw number (refused_kept _ _ _ _ said);
+      count = rw (← c.layout_of.ensures, number) (refused_kept _ _ _ _ said);
+      free = rw number (refused_kept _ _ _ _ said);
     }
 
-pub returns-in-Given : goal.returns-in-Given
+pub returns-in-Ok : goal.returns-in-Ok
 unfolding SummarySays
-returns-in-Given c =
-    let gives = c.summary-summary.ensures in
-    let said = rw c.in-Given.is at gives.said in
+returns-in-Ok c =
+    let gives = c.summary.ensures in
+    let said = rw c.in-Ok.is at gives.said in
     record {
       name = rw (← c.layout_of.ensures) (record { returned = sym said.0; left = gives.left });
       sectors = said.1 ∙ sym (behind_given 0 _ _ refl);

@@ -23,8 +23,8 @@ module _ (layout : Layout) (image text after : List ℕ) (size : ℕ) (small : (
 
 pub returns-clause-result_after : goal.returns-clause-result_after
 returns-clause-result_after c =
-    (listed_front c.args.layout c.args.image.now c.args.text.now _ _ (λ i. omega (arith, c.type_inv.image i)) c.requires (omega arith) c.show-shown.ensures.size_value).0
+    (listed_front c.args.layout c.args.image.now c.args.text.now _ _ (λ i. omega (arith, c.type_inv.image i)) c.requires (omega arith) c.show.ensures.size_value).0
 
 pub returns-clause-value : goal.returns-clause-value
 returns-clause-value c =
-    (listed_front c.args.layout c.args.image.now c.args.text.now _ _ (λ i. omega (arith, c.type_inv.image i)) c.requires (omega arith) c.show-shown.ensures.size_value).1
+    (listed_front c.args.layout c.args.image.now c.args.text.now _ _ (λ i. omega (arith, c.type_inv.image i)) c.requires (omega arith) c.show.ensures.size_value).1

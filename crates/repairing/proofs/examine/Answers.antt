@@ -1,11 +1,10 @@
--- `repairing::examine` meets its contract: each way out gives the number of the first test that failed, the tests before it having passed. What the marks say of the holders, and that with
--- 0 they are their map, are laws of the claims. Assumes nothing.
+-- `repairing::examine` meets its contract: each way out gives the fault of the first test that failed, the tests before it having passed. What the marks say of the holders, and that where
+-- none is held twice they are their map, are laws of the claims. Assumes nothing.
 use mathlib.Core.Path.{◌≡◌, sym, ap, ◌∙◌}
 use mathlib.Core.Bool.{true, ◌&&◌}
 use mathlib.Core.List.{List, []}
 use Prim.Native.Nat.{ℕ}
 use native.Mathlib.Omega.{arith}
-use lib.ListN.{length}
 use borrow.Author.Tests.{eq-eqb, ne_eqb, le-leb, lt-leb}
 use Rattle.rules.specs.Sectors.{sector_of, sector_count}
 use Rattle.rules.specs.Label.{label_rule}
@@ -18,14 +17,13 @@ use Rattle.rules.proofs.Tests.{both}
 use Rattle.rules.proofs.Indexes.{every_is}
 use Rattle.rules.proofs.Verdict.{size_is}
 use Rattle.rules.proofs.Repair.{each_is}
-use Rattle.rules.proofs.Formatted.{map_length}
 use Rattle.judge.specs.Claim.{Below, claims}
 use Rattle.judge.proofs.VerdictSteps.{Entered, Indexed}
 use Rattle.judge.proofs.ClaimLaws.{indexes_below, claims_ruled, claimed_twice, claimed_map}
 use Rattle.repairing.proofs.RepairSteps.{Catalogued, Examined, other_size, other_label, other_entry, other_index, other_catalogue, two_holders, can_mend}
 use Rattle.std.proofs.Common.{rules}
 use Rattle.repairing.proofs.examine.Goals as goal
-use Rattle.repairing.proofs.examine.Goals.{After-catalogues_rule, After-claim_holders, After-entries_rule, After-indexes_rule, After-label_rule, After-lay_map, Else-n-gt1600, Else-not-catalogues_rule, Else-not-entries_rule, Else-not-indexes_rule, Else-not-label_rule}
+use Rattle.repairing.proofs.examine.Goals.{After-catalogues_rule, After-claim_holders, After-entries_rule, After-indexes_rule, After-label_rule, Else-n-gt1600, Else-not-catalogues_rule, Else-not-entries_rule, Else-not-indexes_rule, Else-not-label_rule}
 
 -- the tests that have passed
 sized : (c : Else-n-gt1600) → size_rule c.args.image.now ≡ true
@@ -127,18 +125,14 @@ catalogues_rule-requires c =
 pub lay_map-requires : goal.lay_map-requires
 lay_map-requires c = let size = size_is _ (passed (goal.at.lay_map-requires c).Else-not-catalogues_rule).sized in (search rules, omega (arith, size.1), size.2)
 
--- the map is of 200 bytes
-long : (c : After-lay_map) → length c.lay_map.new.map ≡ 200
-long c = ap length c.lay_map.ensures ∙ map_length _ _
-
 pub claim_holders-requires : goal.claim_holders-requires
 claim_holders-requires c =
     let is = passed (goal.at.claim_holders-requires c).Else-not-catalogues_rule in
-    (long (goal.at.claim_holders-requires c).After-lay_map, (size_is _ is.sized).2, below _ _ is)
+    ((size_is _ is.sized).2, below _ _ is)
 
 pub returns-then-claim_holders : goal.returns-then-claim_holders
 returns-then-claim_holders c = record { value = sym (two_holders _ _ (passed (goal.at.returns-then-claim_holders c).Else-not-catalogues_rule) (twice_is (goal.at.returns-then-claim_holders c).After-claim_holders ∙ c.if-claim_holders.true)); map_after = λ e. absurd (omega (arith, e)) }
 
 pub returns : goal.returns
 returns c =
-    let is = passed (goal.at.returns c).Else-not-catalogues_rule in record { value = sym (can_mend _ _ is (twice_is (goal.at.returns c).After-claim_holders ∙ c.if-claim_holders.false)); map_after = λ e. claimed_map _ _ _ c.lay_map.ensures is.sized (below _ _ is) _ c.claim_holders.ensures.value c.if-claim_holders.false _ (c.claim_holders.ensures.marks_after c.if-claim_holders.false) (c.claim_holders.auto.marks ∙ long (goal.at.returns c).After-lay_map) }
+    let is = passed (goal.at.returns c).Else-not-catalogues_rule in record { value = sym (can_mend _ _ is (twice_is (goal.at.returns c).After-claim_holders ∙ c.if-claim_holders.false)); map_after = λ e. claimed_map _ _ _ c.lay_map.ensures is.sized (below _ _ is) _ c.claim_holders.ensures.value c.if-claim_holders.false _ (c.claim_holders.ensures.marks_after c.if-claim_holders.false) (omega arith) }

@@ -10,7 +10,7 @@ use Rattle.repairing.proofs.order_index.Goals as goal
 use Rattle.repairing.proofs.order_index.Goals.{After-in_order}
 
 made : (c : After-in_order) → let a = c.args in c.in_order.new.index ≡ index_of (ordered a.image.now (files_in a.image.now a.i))
-made c = c.in_order.ensures.index_after (c.in_order.ensures.value ∙ c.requires.4)
+made c = rw c.from.ensures at (c.in_order.ensures.index_after (c.in_order.ensures.value ∙ rw c.from.ensures c.requires.3))
 
 pub slice_bounds-write_sector-end : goal.slice_bounds-write_sector-end
 slice_bounds-write_sector-end c = sym (ap length (made (goal.at.slice_bounds-write_sector-end c).After-in_order) ∙ index_length _)
@@ -18,6 +18,3 @@ slice_bounds-write_sector-end c = sym (ap length (made (goal.at.slice_bounds-wri
 pub returns : goal.returns
 returns c =
     c.write_sector.ensures ∙ ap (splice _ _) (made (goal.at.returns c).After-in_order)
-
-pub write_sector-requires : goal.write_sector-requires
-write_sector-requires c = c.requires.2

@@ -11,7 +11,7 @@ use Rattle.rules.specs.Outcome.{Report, reported, AnswerSays}
 use Rattle.rules.specs.declared.Layout.{Layout}
 use Rattle.rules.specs.declared.Kind.TheVariants.{Program}
 use Rattle.rules.specs.declared.Row.{Row}
-use Rattle.rules.specs.declared.Entry.{Entry}
+use Rattle.rules.specs.Answers.Entry.{Entry}
 
 unfoldable pub row_of : List ℕ → Row
 row_of descriptor =

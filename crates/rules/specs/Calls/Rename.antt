@@ -10,7 +10,7 @@ use Rattle.rules.specs.Tests.{Test, refuse}
 use Rattle.rules.specs.Outcome.{Outcome, write, tested}
 use Rattle.rules.specs.Opening.{find_in, in_directory, on_sound, under_name, changing, adding}
 use Rattle.rules.specs.declared.Layout.{Layout}
-use Rattle.rules.specs.declared.Opened.{Opened}
+use Rattle.rules.specs.Answers.Opened.{Opened}
 
 -- of the file at k
 unfoldable pub rename_tests : List ℕ → ℕ → List Test

@@ -8,8 +8,8 @@ use Rattle.rules.specs.Tests.{unless_met}
 use Rattle.rules.specs.Verdict.{volume_tests, verdict}
 use Rattle.rules.specs.Outcome.{Report, reported}
 use Rattle.rules.specs.declared.Layout.{Layout}
-use Rattle.rules.specs.declared.Summary.{Summary}
-use Rattle.rules.specs.declared.Summary.TheVariants.{Given, Refused}
+use Rattle.rules.specs.Answers.Summary.{Summary}
+use Rattle.rules.specs.Answers.Summary.{Given, Refused}
 
 unfoldable pub free_count_of : Layout → List ℕ → Report
 free_count_of layout image = reported (volume_tests layout image) (free_count (sector_of image 0)) []

@@ -3,5 +3,4 @@ use Rattle.storing.proofs.Laying.{piece_laid}
 use Rattle.storing.proofs.write_piece.Goals as goal
 
 pub returns : goal.returns
-returns c =
-    piece_laid _ _ _ _ _ c.requires.1 c.lay.ensures c.lay_fill.ensures
+returns c = rw (← c.from-at.ensures) (piece_laid _ _ _ _ _ c.requires c.lay.ensures c.lay_fill.ensures)

@@ -13,29 +13,24 @@ use Rattle.rules.specs.Map.{marked}
 use Rattle.rules.specs.Chain.{blocks, places}
 use Rattle.rules.specs.Kind.{marking}
 use Rattle.rules.specs.Descriptor.{new_descriptor, chain_of, with_chain}
-use Rattle.rules.specs.Choice.{descriptor_choice}
 use Rattle.rules.specs.Calls.Store.{data_writes}
-use Rattle.rules.proofs.Splice.{splice_none, put_back}
-use Rattle.rules.proofs.Choice.{lowest_to, choices_length}
+use Rattle.rules.proofs.Splice.{splice_none}
+use Rattle.rules.proofs.Choice.{choices_length}
 use Rattle.storing.specs.Spread.{Taken, Spread}
-use Rattle.storing.proofs.Programming.{header_long, header_empty, chain_long, chain_in, chain_out, enough_is, places_new, program_written}
-use Rattle.std.proofs.Common.{rules}
+use Rattle.storing.proofs.Programming.{header_empty, chain_long, chain_in, chain_out, enough_is, places_new, program_written}
 use Rattle.storing.proofs.write_program.Goals as goal
-use Rattle.storing.proofs.write_program.Goals.{After-copy-2, After-mark, After-spread, Else-not-spread}
+use Rattle.storing.proofs.write_program.Goals.{After-mark, After-spread, Else-not-spread}
 
 -- sector 0 with the descriptor's sector taken
 marked_is : (c : After-mark) → let a = c.args in c.mark.new.sector0 ≡ marked 1 (sector_of a.image.now 0) a.k
 unfolding sector_of
-marked_is c = c.mark.ensures ∙ ap (λ (s : List ℕ). marked 1 s c.args.k) c.copy.ensures
-
-pub slice_bounds-descriptor-end : goal.slice_bounds-descriptor-end
-slice_bounds-descriptor-end c = omega (arith, header_long _ _ _ _ c.requires.1 c.program_header.ensures)
+marked_is c = rw c.from.ensures at c.mark.ensures ∙ ap (λ (s : List ℕ). marked 1 s c.args.k) c.copy_from_slice.ensures.after
 
 pub spread-requires : goal.spread-requires
 unfolding chain_of
 spread-requires c =
     let pre = c.requires in
-    (search rules, header_empty _ _ _ _ pre.1 c.program_header.ensures, omega (arith, pre.2, pre.3))
+    (header_empty _ _ _ _ pre.1 c.program_header.ensures, omega (arith, pre.2, pre.3))
 
 -- what was spread, in that map
 abbrev SpreadAt : (c : After-spread) → Bool → Type 0
@@ -84,15 +79,6 @@ write_data-requires c = rw (chain_is (goal.at.write_data-requires c).Else-not-sp
 pub slice_bounds-write_sector-end : goal.slice_bounds-write_sector-end
 slice_bounds-write_sector-end c = sym (descriptor_long (goal.at.slice_bounds-write_sector-end c).Else-not-spread)
 
-pub write_sector-requires : goal.write_sector-requires
-unfolding descriptor_choice
-write_sector-requires c =
-    omega (arith, c.requires.4, lowest_to (sector_of c.args.image.now 0) 1598 2)
-
--- sector 0 as it was copied is a whole sector
-copied_long : (c : After-copy-2) → length c.copy-2.new.target ≡ 256
-copied_long c = search rules
-
 pub returns : goal.returns
 unfolding chain_of
 returns c =
@@ -101,8 +87,7 @@ returns c =
     let data-there = c.write_data.ensures.image_after ∙ ap (λ (l : List ℕ). written a.image.now (data_writes a.bytes.now (places l))) (chain_is (goal.at.returns c).Else-not-spread) in record {
       value = (
         enough_is a.image.now a.name.now a.bytes.now a.k a.many c.requires.4 c.requires.3 _ _ true (spread_is (goal.at.returns c).After-spread true (c.if-not-spread.false)),
-        put_back _ _ 0 256 (copied_long (goal.at.returns c).After-copy-2) (search rules)
-            ∙ ap (splice c.write_sector.new.image 0) c.copy-2.ensures
+        c.write_sector-2.ensures
             ∙ program_written a.image.now a.name.now a.bytes.now a.k a.many c.requires.4 c.requires.3 _ chain (taken (goal.at.returns c).Else-not-spread) a.layout _ _ _ data-there c.write_sector.ensures (descriptor_is (goal.at.returns c).Else-not-spread),
       );
       order = c.write_data.ensures.order

@@ -1,50 +1,32 @@
--- `summarizing::file_count` meets its contract. The loop's invariant: the files counted, with those of the directories from `directory` on (`files_from`), are those of all; and a directory has at most 256. The measure is the number of directories ahead. Assumes nothing.
-use mathlib.Core.Path.{◌≡◌, sym, ap, ◌∙◌}
+-- `summarizing::file_count` meets its contract. The loop's invariant: the files counted, with those of the indexes that are still to come, are those of all. Assumes nothing.
+use mathlib.Core.Path.{◌≡◌, ap, ◌∙◌}
 use mathlib.Core.List.{List}
-use Prim.Native.Nat.{ℕ, ◌≤◌}
+use Prim.Native.Nat.{ℕ, ◌+◌}
 use native.Mathlib.Omega.{arith}
 use lib.ListN.{length}
-use Rattle.rules.specs.Sectors.{sector_of}
 use Rattle.rules.specs.Index.{numbers}
-use Rattle.rules.specs.Volume.{index_at, files_in}
-use Rattle.rules.proofs.Sectors.{sector_short}
-use Rattle.summarizing.proofs.Counting.{all_from, none_from, absent_from, there_from}
+use Rattle.rules.specs.Volume.{files_in, files_of}
+use Rattle.sector.specs.Directories.{indexes_left}
+use Rattle.summarizing.proofs.Counting.{all_few, files_first}
 use Rattle.summarizing.proofs.file_count.Goals as goal
-use Rattle.summarizing.proofs.file_count.Goals.{After-index_at-i, then-i-ne0, else-i-ne0}
+use Rattle.summarizing.proofs.file_count.Goals.{After-number_count-files}
 
-pub loop-directory-init : goal.loop-directory-init
-loop-directory-init c = let a = c.args in (omega arith, omega arith, omega (arith, all_from a.layout a.image.now))
+pub loop-i-init : goal.loop-i-init
+loop-i-init c = rw (c.into_iter-i-iterator.ensures.into_iter_gives, c.indexes_of-i-items.ensures) (omega arith)
 
--- the directory's index; the files of one that is there
-index_is : (c : After-index_at-i) → let a = c.args in index_at a.layout a.image.now c.loop-directory.directory ≡ c.index_at-i.result
-index_is c = sym c.index_at-i.ensures.0
-
-counted : (image sector : List ℕ) (i k count : ℕ) → i ≡ k → sector ≡ sector_of image k → (count ≡ length (numbers sector)) × (count ≤ length sector)
-    → (count ≡ length (files_in image i)) × (count ≤ 256)
+-- those of one index more
+counted : (c : After-number_count-files) →
+    let image = c.args.image.now in
+    length (files_of image (indexes_left c.loop-i.i-iterator)) ≡ c.number_count-files.result + length (files_of image (indexes_left c.next.new.self))
 unfolding files_in
-counted image sector i k count is read counts =
-    let there = read ∙ ap (sector_of image) (sym is) in
-    let short = sector_short image k in
-    (counts.0 ∙ ap (λ (l : List ℕ). length (numbers l)) there, omega (arith, counts.1, ap length read, short))
+counted c = files_first c.args.image.now _ _ _ _ c.in-Some.ensures.steps (c.number_count-files.ensures ∙ ap (λ (index : List ℕ). length (numbers index)) c.sector_of.ensures)
 
 pub overflow_add-files : goal.overflow_add-files
-overflow_add-files c = omega (arith, c.loop-directory.invariant, (counted c.args.image.now _ _ _ _ (index_is (goal.at.overflow_add-files c).After-index_at-i) c.sector_of.ensures c.number_count-files.ensures).1)
+overflow_add-files c = omega (arith, c.loop-i.invariant, counted (goal.at.overflow_add-files c).After-number_count-files, all_few c.args.layout c.args.image.now)
 
-pub loop-directory-preserved : goal.loop-directory-preserved
-loop-directory-preserved c =
-    let a = c.args in
-    let inv = c.loop-directory.invariant in
-    elim c.if-i-ne0.branch [
-      | then-i-ne0 taken ↦
-          let more = counted a.image.now _ _ _ _ (index_is (goal.at.loop-directory-preserved c).After-index_at-i) taken.sector_of.ensures taken.number_count-files.ensures in
-          let from = there_from a.layout a.image.now c.loop-directory.directory (λ none. taken.if-i-ne0.true (sym (index_is (goal.at.loop-directory-preserved c).After-index_at-i) ∙ none)) in
-          (omega (arith, c.loop-directory-test.true, c.directory_count-many.ensures.1), omega (arith, inv.1, taken.files-is, more.1), omega (arith, inv.2, taken.files-is, more.0, from))
-      | else-i-ne0 left ↦
-          let from = absent_from a.layout a.image.now c.loop-directory.directory (index_is (goal.at.loop-directory-preserved c).After-index_at-i ∙ left.if-i-ne0.false) in
-          (omega (arith, c.loop-directory-test.true, c.directory_count-many.ensures.1), omega (arith, inv.1, left.files-is), omega (arith, inv.2, left.files-is, from))
-    ]
+pub loop-i-preserved : goal.loop-i-preserved
+loop-i-preserved c = omega (arith, c.loop-i.invariant, counted (goal.at.loop-i-preserved c).After-number_count-files)
 
 pub returns : goal.returns
-returns c =
-    let a = c.args in
-    omega (arith, c.loop-directory.invariant.2, none_from a.layout a.image.now c.loop-directory.directory (rw (c.directory_count-many.ensures.0 a.image.now) at c.loop-directory-test.false))
+unfolding files_of
+returns c = omega (arith, c.loop-i.invariant, ap (λ (is : List ℕ). length (files_of c.args.image.now is)) c.in-None.ensures.steps.0)

@@ -1,5 +1,5 @@
 -- `summarizing::summary` meets its contract: the judge's number, or the counts and the name of sector 0. Assumes nothing.
-use mathlib.Core.Path.{refl, sym, ap, ◌∙◌}
+use mathlib.Core.Path.{◌≡◌, refl, sym, ap, ◌∙◌}
 use mathlib.Core.List.{List, []}
 use Prim.Native.Nat.{ℕ}
 use Rattle.rules.specs.Bytes.{splice, part}
@@ -8,19 +8,21 @@ use Rattle.rules.specs.Verdict.{verdict}
 use Rattle.rules.specs.Calls.Summary.{summary_of, SummarySays}
 use Rattle.rules.proofs.Tests.{unless_passed, unless_met_lem}
 use Rattle.rules.proofs.Splice.{splice_none}
+use Rattle.rules.proofs.Refusals.{fault_some, err_is}
 use Rattle.summarizing.proofs.summary.Goals as goal
 
-pub returns-then-number-ne0 : goal.returns-then-number-ne0
+pub returns-in_err-judge : goal.returns-in_err-judge
 unfolding SummarySays summary_of verdict
-returns-then-number-ne0 c =
-    let j = c.judge-number.ensures in
-    record { said = (j, λ z. c.if-number-ne0.true (j ∙ z)); left = sym (ap (splice _ 0) (unless_met_lem _ _ [] (λ z. c.if-number-ne0.true (j ∙ z))) ∙ splice_none _ 0) }
+returns-in_err-judge c =
+    let j = c.in_err-judge.ensures in
+    let some : verdict c.args.layout c.args.image.now ≡ 0 → ⊥ = λ z. fault_some c.in_err-judge.field-0.0 (j ∙ z) in
+    rw (err_is c.from_residual.result _ c.from_residual.ensures.1) (record { said = (j, some); left = sym (ap (splice _ 0) (unless_met_lem _ _ [] some) ∙ splice_none _ 0) })
 
 pub returns : goal.returns
 unfolding SummarySays summary_of verdict
 returns c =
     let name = c.args.name.now in
-    let whole = sym c.judge-number.ensures ∙ c.if-number-ne0.false in
+    let whole = sym c.in_ok-judge.ensures in
     record {
       said = (
         whole,

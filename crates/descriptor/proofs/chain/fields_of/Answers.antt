@@ -15,7 +15,8 @@ returns c =
     let a = c.args.a in
     let b = c.args.b in
     let d = c.args.c in
-    let sum = a + 256 * b + 65536 * d in (
+    let sum = a + 256 * b + 65536 * d in
+    rw (c.from.ensures, c.from-2.ensures, c.from-3.ensures) (
       same_test (eqb sum 0) (eqb a 0 && (eqb b 0 && eqb d 0))
           (λ e.
           let none = eqb-true sum 0 e in

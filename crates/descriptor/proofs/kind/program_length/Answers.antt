@@ -14,8 +14,8 @@ returns-then-end_offset-eq0 c = let a = c.args in omega (arith, length_full a.c 
 part_length : (c : Else-end_offset-eq0) → let a = c.args in program_length a.c a.end_offset ≡ 256 * (a.c - 1) + a.end_offset
 part_length c = let a = c.args in length_part a.c a.end_offset c.if-end_offset-eq0.false
 
-pub returns-then-c-eq0 : goal.returns-then-c-eq0
-returns-then-c-eq0 c = omega (arith, part_length (goal.at.returns-then-c-eq0 c).Else-end_offset-eq0)
+pub returns-then-sectors-eq0 : goal.returns-then-sectors-eq0
+returns-then-sectors-eq0 c = omega (arith, part_length (goal.at.returns-then-sectors-eq0 c).Else-end_offset-eq0)
 
 pub returns : goal.returns
 returns c = omega (arith, part_length (goal.at.returns c).Else-end_offset-eq0)

@@ -12,17 +12,17 @@ use Rattle.rules.specs.Verdict.{size_rule}
 use Rattle.rules.specs.Tests.{first_of, unless_met}
 use Rattle.rules.specs.Outcome.{NamedSays}
 use Rattle.rules.specs.Calls.Format.{format_tests, format_number, after_format}
-use Rattle.rules.specs.declared.WrongPlace.TheVariants.{At}
-use Rattle.rules.specs.declared.NamedAnswer.TheVariants.{Done, Refused, Misnamed}
+use Rattle.std.specs.Prelude.{Some}
+use Rattle.rules.specs.Answers.NamedAnswer.{Done, Refused, Misnamed}
 use Rattle.rules.proofs.Name.{name_is}
 use Rattle.rules.proofs.Misnamed.{none_rule, place_wrong, wrong_unnamed}
 use Rattle.rules.proofs.Outcome.{bare, made_refused, made_done}
 use Rattle.std.proofs.Common.{rules}
 use Rattle.formatting.proofs.format.format.Goals as goal
-use Rattle.formatting.proofs.format.format.Goals.{Else-sectors-gt1600, In-None}
+use Rattle.formatting.proofs.format.format.Goals.{Else-sectors-gt1600, In_default}
 
 -- a name that is wrong somewhere breaks the rule
-unruled : (name : List ℕ) (place : ℕ) → wrong_place name ≡ At place → name_rule name ≡ false
+unruled : (name : List ℕ) (place : ℕ) → wrong_place name ≡ Some place → name_rule name ≡ false
 unruled name place there = go (name_rule name) refl
   where
     go : (t : Bool) → name_rule name ≡ t → t ≡ false
@@ -71,23 +71,23 @@ sized : (c : Else-sectors-gt1600) → size_rule c.args.image.now ≡ true
 unfolding size_rule
 sized c = rw (eq-eqb _ _ c.if-image-ne0.false, le-leb _ _ c.if-sectors-lt3.false, le-leb _ _ c.if-sectors-gt1600.false)
 
-pub returns-in-At : goal.returns-in-At
+pub returns-in-Some : goal.returns-in-Some
 unfolding after_format NamedSays
-returns-in-At c =
-    let there = sym c.wrong_place-wrong.ensures ∙ c.in-At.is in
-    let both = made_refused (NamedSays _) (Misnamed _) _ _ _ 7 (λ z. omega (arith, z)) (refl, there) (misnamed _ _ _ c.if-n-sectors.false (sized (goal.at.returns-in-At c).Else-sectors-gt1600) (unruled _ _ there)) in
+returns-in-Some c =
+    let there = sym c.wrong_place.ensures ∙ c.in-Some.is in
+    let both = made_refused (NamedSays _) (Misnamed _) _ _ _ 7 (λ z. omega (arith, z)) (refl, there) (misnamed _ _ _ c.if-n-sectors.false (sized (goal.at.returns-in-Some c).Else-sectors-gt1600) (unruled _ _ there)) in
     record { named_says = both.0; image_after = both.1 }
 
-named : (c : In-None) → name_rule c.args.name.now ≡ true
-named c = none_rule _ (sym c.wrong_place-wrong.ensures ∙ c.in-None.is)
+named : (c : In_default) → name_rule c.args.name.now ≡ true
+named c = none_rule _ (sym c.wrong_place.ensures ∙ c.in_default.is)
 
 pub write_volume-requires : goal.write_volume-requires
-write_volume-requires c = (search rules, search rules, search rules, (name_is _ (named (goal.at.write_volume-requires c).In-None)).ten)
+write_volume-requires c = (search rules, search rules, search rules, (name_is _ (named (goal.at.write_volume-requires c).In_default)).ten)
 
-pub returns-in-None : goal.returns-in-None
+pub returns : goal.returns
 unfolding after_format NamedSays
-returns-in-None c =
-    let whole = made_done (NamedSays (wrong_place c.args.name.now)) Done _ _ _ refl (passed _ _ _ c.if-n-sectors.false (sized (goal.at.returns-in-None c).Else-sectors-gt1600) (named (goal.at.returns-in-None c).In-None)) in
+returns c =
+    let whole = made_done (NamedSays (wrong_place c.args.name.now)) Done _ _ _ refl (passed _ _ _ c.if-n-sectors.false (sized (goal.at.returns c).Else-sectors-gt1600) (named (goal.at.returns c).In_default)) in
     record { named_says = whole.0; image_after = c.write_volume.ensures ∙ whole.1 }
 
 pub returns-then-n-sectors : goal.returns-then-n-sectors

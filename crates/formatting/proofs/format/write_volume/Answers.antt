@@ -56,7 +56,7 @@ returns c =
     let image = c.args.image.now in
     let sector0 = c.lay_sector0.new.sector0 in
     let parts = formatted_parts n c.args.name.now (geometry_of c.args.geometry) c.requires.3 in
-    let zeros = c.fill.new.target in
-    let one = filled_one image sector0 n c.requires.0 c.requires.2 (whole (goal.at.returns c).After-lay_sector0) _ zeros (laid (goal.at.returns c).After-lay_sector0) c.fill.ensures in
-    let rest = filled_rest image sector0 n c.requires.0 c.requires.2 (whole (goal.at.returns c).After-lay_sector0) _ zeros c.fill-2.new.target (ap length one.0) one.1 c.fill-2.ensures in
+    let zeros = c.fill.new.self in
+    let one = filled_one image sector0 n c.requires.0 c.requires.2 (whole (goal.at.returns c).After-lay_sector0) _ zeros (laid (goal.at.returns c).After-lay_sector0) (c.fill.ensures.after (λ y same. same)) in
+    let rest = filled_rest image sector0 n c.requires.0 c.requires.2 (whole (goal.at.returns c).After-lay_sector0) _ zeros c.fill-2.new.self (ap length one.0) one.1 (c.fill-2.ensures.after (λ y same. same)) in
     rest.1 ∙ three_parts c.lay_sector0.ensures one.0 rest.0 ∙ sym parts

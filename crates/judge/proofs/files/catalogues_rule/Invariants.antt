@@ -1,15 +1,17 @@
 use mathlib.Core.Path.{◌≡◌}
+use mathlib.Core.Bool.{true}
 use mathlib.Core.List.{[]}
-use Prim.Native.Nat.{◌-◌}
+use Rattle.rules.specs.Sectors.{sector_of}
+use Rattle.rules.specs.Index.{index_rule}
 use Rattle.rules.specs.Volume.{indexes, every, files_in}
 use Rattle.rules.specs.Verdict.{descriptors_rule}
-use Rattle.sector.specs.Directories.{indexes_from}
+use Rattle.sector.specs.Directories.{indexes_left}
+use Rattle.judge.specs.Claim.{Below}
 use Rattle.judge.proofs.files.catalogues_rule.Given as goal
 
-abbrev pub invariant-loop-directory : goal.invariant-loop-directory
-invariant-loop-directory l =
-    every (λ i. descriptors_rule l.layout l.n l.image [] (files_in l.image i)) (indexes_from l.layout l.image l.directory)
-    ≡ every (λ i. descriptors_rule l.layout l.n l.image [] (files_in l.image i)) (indexes l.layout l.image)
-
-abbrev pub decreases-loop-directory : goal.decreases-loop-directory
-decreases-loop-directory l = l.many - l.directory
+abbrev pub invariant-loop-i : goal.invariant-loop-i
+invariant-loop-i l = record {
+  rule : every (λ i. descriptors_rule l.layout l.n l.image [] (files_in l.image i)) (indexes_left l.i-iterator) ≡ every (λ i. descriptors_rule l.layout l.n l.image [] (files_in l.image i)) (indexes l.layout l.image);
+  below : Below l.n (indexes_left l.i-iterator);
+  indexed : every (λ i. index_rule l.n (sector_of l.image i)) (indexes_left l.i-iterator) ≡ true;
+}

@@ -1,12 +1,10 @@
-use mathlib.Core.Path.{◌≡◌}
-use Prim.Native.Nat.{◌≤◌, ◌-◌}
-use lib.ListN.{length}
-use Rattle.rules.specs.Chain.{chain_rule}
-use Rattle.judge.proofs.ChainSteps.{chain_rest}
+use Rattle.std.proofs.Common.{◌≡◌, ◌+◌, ◌*◌, length}
+use Rattle.rules.specs.Chain.{blocks, blocks_rule}
+use Rattle.descriptor.specs.Walk.{blocks_left}
 use Rattle.judge.proofs.files.chain_rule.Given as goal
 
 abbrev pub invariant-loop-block : goal.invariant-loop-block
-invariant-loop-block l = (l.at ≤ length l.chain) × (chain_rest l.n l.c l.chain l.at l.next ≡ chain_rule l.n l.c l.chain)
-
-abbrev pub decreases-loop-block : goal.decreases-loop-block
-decreases-loop-block l = length l.chain - l.at
+invariant-loop-block l = record {
+  behind : l.at + 3 * length (blocks_left l.block-iterator) ≡ 3 * length (blocks l.chain);
+  rule : blocks_rule l.n l.c l.next (blocks_left l.block-iterator) ≡ blocks_rule l.n l.c 0 (blocks l.chain);
+}

@@ -1,79 +1,71 @@
--- `judge::holders::claim_holders` meets its contract. The loop's invariant: what is left to claim from the directory's number on, on the marks as they are, comes to what the whole comes to.
--- The measure is how many numbers are left. Assumes nothing.
-use mathlib.Core.Path.{◌≡◌, refl, ap, ◌∙◌}
+-- `judge::holders::claim_holders` meets its contract. The loop's invariant: what is left to claim for the indexes that are still to come, on the marks as they are, comes to what the whole comes
+-- to. Assumes nothing.
+use mathlib.Core.Path.{ap, ◌∙◌}
 use mathlib.Core.List.{List, ◌++◌}
 use mathlib.Core.Bool.{not}
 use Prim.Native.Nat.{ℕ, ◌+◌, ◌<◌}
 use native.Mathlib.Omega.{arith}
-use lib.ListN.{length}
 use Rattle.rules.specs.Sectors.{sector_count}
 use Rattle.rules.specs.Chain.{run}
 use Rattle.rules.specs.Volume.{indexes, files_in, file_holders}
-use Rattle.rules.proofs.Tests.{absurd_test}
 use Rattle.rules.proofs.Map.{count_append}
+use Rattle.sector.specs.Directories.{indexes_left}
 use Rattle.judge.specs.Claim.{claims}
-use Rattle.sector.specs.Directories.{indexes_from}
-use Rattle.sector.proofs.DirectoryLaws.{from_root, from_past, from_absent, from_there}
 use Rattle.judge.proofs.ClaimSteps.{Left, left_start, left_as, left_none, left_below, left_taken, left_clash, left_behind, left_twice, claims_step, claims_past, run_alone}
 use Rattle.judge.proofs.holders.claim_holders.Goals as goal
-use Rattle.judge.proofs.holders.claim_holders.Goals.{At-loop-directory, Else-i-eq0, Else-not-take}
+use Rattle.judge.proofs.holders.claim_holders.Goals.{After-from-i, At-loop-i, Else-not-take}
 
 -- what is left to claim, of the whole; what the files of the index that stands here hold; and what is left behind it
-abbrev To : At-loop-directory → List ℕ → List ℕ → Type 0
+abbrev To : At-loop-i → List ℕ → List ℕ → Type 0
 To c = Left (sector_count c.args.image.now) c.args.marks.now (claims c.args.image.now (indexes c.args.layout c.args.image.now))
 
-abbrev held : Else-i-eq0 → List ℕ
-held c = file_holders c.args.image.now (files_in c.args.image.now c.index_at-i.result)
+abbrev held : After-from-i → List ℕ
+held c = file_holders c.args.image.now (files_in c.args.image.now c.from-i.result)
+
+abbrev rest : After-from-i → List ℕ
+rest c = claims c.args.image.now (indexes_left c.next.new.self)
 
 -- at an index that is there
-opened : (c : Else-i-eq0) → To (goal.at.Else-i-eq0 c).At-loop-directory c.loop-directory.marks (run c.index_at-i.result (0 + 1) ++ (held c ++ (claims c.args.image.now (indexes_from c.args.layout c.args.image.now (c.loop-directory.directory + 1)))))
-opened c =
-    left_as _ _ _ _ (claims_step _ _ _ _ (from_there _ _ _ _ c.index_at-i.ensures.0 c.if-i-eq0.false) ∙ run_alone _ _) c.loop-directory.invariant.1
+opened : (c : After-from-i) → To (goal.at.After-from-i c).At-loop-i c.loop-i.marks (run c.from-i.result (0 + 1) ++ (held c ++ rest c))
+opened c = rw c.from-i.ensures (left_as _ _ _ _ (claims_step _ _ _ _ c.in-Some.ensures.steps ∙ run_alone _ _) c.loop-i.invariant)
 
 -- its own sector taken
-behind : (c : Else-not-take) → To (goal.at.Else-not-take c).At-loop-directory c.take.new.marks (held (goal.at.Else-not-take c).Else-i-eq0 ++ (claims c.args.image.now (indexes_from c.args.layout c.args.image.now (c.loop-directory.directory + 1))))
+behind : (c : Else-not-take) → let at = (goal.at.Else-not-take c).After-from-i in To (goal.at.Else-not-take c).At-loop-i c.take.new.marks (held at ++ rest at)
 behind c =
     let t = c.take in
-    left_taken _ _ _ _ _ _ _ (opened (goal.at.Else-not-take c).Else-i-eq0) _ t.result t.ensures.0 t.ensures.1 (ap not c.if-not-take.false)
+    left_taken _ _ _ _ _ _ _ (opened (goal.at.Else-not-take c).After-from-i) _ t.result t.ensures.0 t.ensures.1 (ap not c.if-not-take.false)
 
 -- the number that stands here is a sector of the volume
-inside : (c : Else-i-eq0) → c.index_at-i.result < sector_count c.args.image.now
+inside : (c : After-from-i) → c.from-i.result < sector_count c.args.image.now
 inside c = omega (arith, left_below _ _ _ _ _ _ _ (opened c) 0 (omega arith))
 
-pub loop-directory-init : goal.loop-directory-init
-loop-directory-init c = (refl, rw from_root (left_start _ _ _ c.requires.2))
-
-pub loop-directory-preserved-then-i-eq0 : goal.loop-directory-preserved-then-i-eq0
-loop-directory-preserved-then-i-eq0 c =
-    (c.loop-directory.invariant.0, left_as _ _ _ _ (ap (claims c.args.image.now) (from_absent _ _ _ _ c.index_at-i.ensures.0 c.if-i-eq0.true)) c.loop-directory.invariant.1)
+pub loop-i-init : goal.loop-i-init
+loop-i-init c = rw (c.into_iter-i-iterator.ensures.into_iter_gives, c.indexes_of-i-items.ensures) (left_start _ _ _ c.requires.1)
 
 pub take-requires : goal.take-requires
-take-requires c =
-    (c.loop-directory.invariant.0 ∙ c.requires.0, omega (arith, inside (goal.at.take-requires c).Else-i-eq0, c.requires.1), omega arith)
+take-requires c = (omega (arith, inside (goal.at.take-requires c).After-from-i, c.requires.0), omega arith)
 
--- the marks stay as long as they were
-long : (c : Else-not-take) → length c.take.new.marks ≡ length c.args.marks.now
-long c = c.take.auto.marks ∙ c.loop-directory.invariant.0
-
-pub returns-then-not-take : goal.returns-then-not-take
-returns-then-not-take c =
+pub returns-then-not-take-clause-value : goal.returns-then-not-take-clause-value
+returns-then-not-take-clause-value c =
     let t = c.take in
-    record { value = left_clash _ _ _ _ _ _ _ (opened (goal.at.returns-then-not-take c).Else-i-eq0) _ t.result t.ensures.0 t.ensures.1 (ap not c.if-not-take.true); marks_after = λ e. absurd_test e }
+    left_clash _ _ _ _ _ _ _ (opened (goal.at.returns-then-not-take-clause-value c).After-from-i) _ t.result t.ensures.0 t.ensures.1 (ap not c.if-not-take.true)
 
 pub claim_files-requires : goal.claim_files-requires
 claim_files-requires c =
-    (long (goal.at.claim_files-requires c).Else-not-take ∙ c.requires.0, inside (goal.at.claim_files-requires c).Else-i-eq0, c.requires.1, λ k some. (behind (goal.at.claim_files-requires c).Else-not-take).below k (omega (arith, some, count_append k (held (goal.at.claim_files-requires c).Else-i-eq0) (claims c.args.image.now (indexes_from c.args.layout c.args.image.now (c.loop-directory.directory + 1))))))
+    let at = (goal.at.claim_files-requires c).After-from-i in
+    (inside at, c.requires.0, λ k some. (behind (goal.at.claim_files-requires c).Else-not-take).below k (omega (arith, some, count_append k (held at) (rest at))))
 
-pub returns-then-claim_files : goal.returns-then-claim_files
-returns-then-claim_files c =
-    record { value = left_twice _ _ _ _ _ _ (behind (goal.at.returns-then-claim_files c).Else-not-take) c.claim_files.result c.claim_files.ensures.value c.if-claim_files.true; marks_after = λ e. absurd_test e }
+pub returns-then-claim_files-clause-value : goal.returns-then-claim_files-clause-value
+returns-then-claim_files-clause-value c =
+    left_twice _ _ _ _ _ _ (behind (goal.at.returns-then-claim_files-clause-value c).Else-not-take) c.claim_files.result c.claim_files.ensures.value c.if-claim_files.true
 
-pub loop-directory-preserved : goal.loop-directory-preserved
-loop-directory-preserved c =
+pub loop-i-preserved : goal.loop-i-preserved
+loop-i-preserved c =
     let r = c.claim_files in
-    (r.auto.marks ∙ long (goal.at.loop-directory-preserved c).Else-not-take, left_behind _ _ _ _ _ _ (behind (goal.at.loop-directory-preserved c).Else-not-take) r.result r.ensures.value c.if-claim_files.false _ (r.ensures.marks_after c.if-claim_files.false))
+    left_behind _ _ _ _ _ _ (behind (goal.at.loop-i-preserved c).Else-not-take) r.result r.ensures.value c.if-claim_files.false _ (r.ensures.marks_after c.if-claim_files.false)
 
-pub returns : goal.returns
-returns c =
-    let none = left_none _ _ _ _ (claims_past _ _ (from_past _ _ _ (rw (c.directory_count-many.ensures.0 c.args.image.now) at c.loop-directory-test.false))) c.loop-directory.invariant.1 in
-    record { value = none.0; marks_after = λ e. none.1 }
+pub returns-clause-value : goal.returns-clause-value
+returns-clause-value c = (left_none _ _ _ _ (claims_past _ _ c.in-None.ensures.steps.0) c.loop-i.invariant).0
+
+pub returns-clause-marks_after : goal.returns-clause-marks_after
+returns-clause-marks_after c = λ e. (left_none _ _ _ _ (claims_past _ _ c.in-None.ensures.steps.0) c.loop-i.invariant).1

@@ -1,57 +1,45 @@
--- `judge::system::index_rule` meets its contract. The loop's invariant: what is left from byte `at` on keeps the rule exactly where the sector does.
--- The measure is what is left of the length. Assumes nothing.
-use mathlib.Core.Path.{◌≡◌, sym, ◌∙◌}
-use mathlib.Core.Bool.{◌&&◌}
-use Prim.Native.Nat.{◌≤◌, ◌+◌, ◌*◌}
+-- `judge::system::index_rule` meets its contract. The loop's invariant: the numbers that are left are in range exactly where all are, and with the bytes before `at` they are all. Assumes nothing.
+use mathlib.Core.Path.{◌≡◌, ap}
+use Prim.Native.Nat.{◌*◌, ◌≤◌, ◌<◌}
 use native.Mathlib.Omega.{arith}
-use lib.Dec.{leb, ltb}
-use lib.ListN.{length, drop}
+use lib.ListN.{length}
 use borrow.Author.Tests.{le-leb, lt-leb, lt-ltb, le-ltb}
 use Rattle.rules.specs.Index.{numbers, range_rule, index_rule}
-use Rattle.judge.proofs.IndexSteps.{index_end, index_rest, index_start, index_step, index_past}
-use Rattle.std.proofs.Common.{rules}
+use Rattle.rules.proofs.Index.{numbers_inside}
 use Rattle.judge.proofs.system.index_rule.Goals as goal
-use Rattle.judge.proofs.system.index_rule.Goals.{Else-k-eq0, Then-k-eq0}
-
-pub loop-n-init : goal.loop-n-init
-loop-n-init c = (search rules, index_start _ _)
-
--- the whole rule where the numbers end
-past : (c : Then-k-eq0) →
-    let a = c.args in
-    index_rule a.n a.index.now ≡ index_end a.index.now c.loop-n.at
-past c = sym c.loop-n.invariant.1 ∙ index_past _ _ _ (c.number_at-k.ensures.none c.if-k-eq0.true)
-
-pub returns-then-at-ge256 : goal.returns-then-at-ge256
-returns-then-at-ge256 c = sym (past (goal.at.returns-then-at-ge256 c).Then-k-eq0 ∙ rw (le-ltb _ _ c.if-at-ge256.true))
-
-pub returns-then-k-eq0 : goal.returns-then-k-eq0
-returns-then-k-eq0 c = c.all_are.ensures ∙ sym (past (goal.at.returns-then-k-eq0 c).Then-k-eq0 ∙ rw (lt-ltb _ _ c.if-at-ge256.false))
-
--- the whole rule, with the number that stands here taken off
-stepped : (c : Else-k-eq0) →
-    let a = c.args in
-    let k = c.number_at-k.result in
-    let more = numbers (drop (c.loop-n.at + 2) a.index.now) in
-    index_rule a.n a.index.now ≡ ((leb 2 k && (ltb k a.n && range_rule a.n more)) && index_end a.index.now (c.loop-n.at + 2 + 2 * length more))
-stepped c = sym c.loop-n.invariant.1 ∙ index_step _ _ _ _ (c.number_at-k.ensures.some c.if-k-eq0.false)
+use Rattle.judge.proofs.system.index_rule.Goals.{In-None}
 
 pub returns-then-k-lt2 : goal.returns-then-k-lt2
-returns-then-k-lt2 c = sym (stepped (goal.at.returns-then-k-lt2 c).Else-k-eq0 ∙ rw (lt-leb _ _ c.if-k-lt2.true))
+unfolding index_rule range_rule
+returns-then-k-lt2 c = rw (← c.loop-k.invariant.rule, c.in-Some.ensures.steps, lt-leb _ _ c.if-k-lt2.true)
 
--- two bytes are there
-inside : (c : Else-k-eq0) → c.loop-n.at + 2 ≤ length c.args.index.now
-inside c = c.number_at-k.ensures.inside c.if-k-eq0.false
+pub returns-then-from-n : goal.returns-then-from-n
+unfolding index_rule range_rule
+returns-then-from-n c = rw (← c.loop-k.invariant.rule, c.in-Some.ensures.steps, ← c.from.ensures, le-leb 2 c.from.result (omega arith), le-ltb _ _ c.if-from-n.true)
 
 pub overflow_add-at : goal.overflow_add-at
-overflow_add-at c = omega (arith, inside (goal.at.overflow_add-at c).Else-k-eq0)
+overflow_add-at c = omega (arith, c.loop-k.invariant.behind, ap length c.in-Some.ensures.steps, numbers_inside c.args.index.now)
 
-pub loop-n-smaller : goal.loop-n-smaller
-loop-n-smaller c = omega (arith, inside (goal.at.loop-n-smaller c).Else-k-eq0)
+pub loop-k-preserved : goal.loop-k-preserved
+unfolding range_rule
+loop-k-preserved c = record {
+  behind = omega (arith, c.loop-k.invariant.behind, ap length c.in-Some.ensures.steps);
+  rule = rw (← c.loop-k.invariant.rule, c.in-Some.ensures.steps, ← c.from.ensures, le-leb 2 c.from.result (omega arith), lt-ltb _ _ c.if-from-n.false);
+}
 
-pub loop-n-preserved : goal.loop-n-preserved
-unfolding index_rest
-loop-n-preserved c = (inside (goal.at.loop-n-preserved c).Else-k-eq0, sym (stepped (goal.at.loop-n-preserved c).Else-k-eq0 ∙ rw (le-leb _ _ c.if-k-lt2.false, lt-ltb _ _ c.if-k-n.false)))
+-- how many numbers there are
+all : (c : In-None) → 2 * length (numbers c.args.index.now) ≡ c.loop-k.at
+all c = omega (arith, c.loop-k.invariant.behind, ap length c.in-None.ensures.steps.0)
 
-pub returns-then-k-n : goal.returns-then-k-n
-returns-then-k-n c = sym (stepped (goal.at.returns-then-k-n c).Else-k-eq0 ∙ rw (le-leb _ _ c.if-k-lt2.false, le-ltb _ _ c.if-k-n.true))
+pub returns-then-at-ge256 : goal.returns-then-at-ge256
+unfolding index_rule range_rule
+returns-then-at-ge256 c =
+    let many : 128 ≤ length (numbers c.args.index.now) = omega (arith, all (goal.at.returns-then-at-ge256 c).In-None, c.if-at-ge256.true) in
+    rw (← c.loop-k.invariant.rule, c.in-None.ensures.steps.0, le-ltb _ _ many)
+
+pub returns : goal.returns
+unfolding index_rule range_rule
+returns c =
+    let same = all (goal.at.returns c).In-None in
+    let few : length (numbers c.args.index.now) < 128 = omega (arith, same, c.if-at-ge256.false) in
+    rw (c.all_are.ensures, ← c.loop-k.invariant.rule, c.in-None.ensures.steps.0, lt-ltb _ _ few, same)

@@ -1,12 +1,10 @@
-use mathlib.Core.Path.{◌≡◌}
-use Prim.Native.Nat.{◌≤◌, ◌-◌}
-use lib.ListN.{length}
-use Rattle.rules.specs.Index.{index_rule}
-use Rattle.judge.proofs.IndexSteps.{index_rest}
+use Rattle.std.proofs.Common.{◌≡◌, ◌+◌, ◌*◌, length}
+use Rattle.rules.specs.Index.{numbers, range_rule}
+use Rattle.sector.specs.Numbers.{numbers_left}
 use Rattle.judge.proofs.system.index_rule.Given as goal
 
-abbrev pub invariant-loop-n : goal.invariant-loop-n
-invariant-loop-n l = (l.at ≤ length l.index) × (index_rest l.n l.index l.at ≡ index_rule l.n l.index)
-
-abbrev pub decreases-loop-n : goal.decreases-loop-n
-decreases-loop-n l = length l.index - l.at
+abbrev pub invariant-loop-k : goal.invariant-loop-k
+invariant-loop-k l = record {
+  behind : l.at + 2 * length (numbers_left l.k-iterator) ≡ 2 * length (numbers l.index);
+  rule : range_rule l.n (numbers_left l.k-iterator) ≡ range_rule l.n (numbers l.index);
+}

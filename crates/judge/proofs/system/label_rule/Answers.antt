@@ -19,28 +19,28 @@ pub returns-then-not-name_rule : goal.returns-then-not-name_rule
 unfolding label_rule
 returns-then-not-name_rule c = rw (named (goal.at.returns-then-not-name_rule c).After-name_rule, c.if-not-name_rule.true)
 
-pub returns-then-word-n : goal.returns-then-word-n
+pub returns-then-from-n : goal.returns-then-from-n
 unfolding label_rule
-returns-then-word-n c =
-    rw (good (goal.at.returns-then-word-n c).Else-not-name_rule, unequal_by c.word.ensures.0 c.if-word-n.true)
+returns-then-from-n c =
+    rw (good (goal.at.returns-then-from-n c).Else-not-name_rule, unequal_by (c.from.ensures ∙ c.word.ensures) c.if-from-n.true)
 
 pub returns-then-byte-ne68 : goal.returns-then-byte-ne68
 unfolding label_rule
 returns-then-byte-ne68 c =
-    rw (good (goal.at.returns-then-byte-ne68 c).Else-not-name_rule, equal_by c.word.ensures.0 c.if-word-n.false, unequal_by c.byte.ensures.0 c.if-byte-ne68.true)
+    rw (good (goal.at.returns-then-byte-ne68 c).Else-not-name_rule, equal_by (c.from.ensures ∙ c.word.ensures) c.if-from-n.false, unequal_by c.byte.ensures c.if-byte-ne68.true)
 
 pub returns-then-byte-ne83 : goal.returns-then-byte-ne83
 unfolding label_rule
 returns-then-byte-ne83 c =
-    rw (good (goal.at.returns-then-byte-ne83 c).Else-not-name_rule, equal_by c.word.ensures.0 c.if-word-n.false, equal_by c.byte.ensures.0 c.if-byte-ne68.false, unequal_by c.byte-2.ensures.0 c.if-byte-ne83.true)
+    rw (good (goal.at.returns-then-byte-ne83 c).Else-not-name_rule, equal_by (c.from.ensures ∙ c.word.ensures) c.if-from-n.false, equal_by c.byte.ensures c.if-byte-ne68.false, unequal_by c.byte-2.ensures c.if-byte-ne83.true)
 
 pub returns : goal.returns
 unfolding label_rule
 returns c =
     rw (
-      c.byte-3.ensures.0,
+      c.byte-3.ensures,
       good (goal.at.returns c).Else-not-name_rule,
-      equal_by c.word.ensures.0 c.if-word-n.false,
-      equal_by c.byte.ensures.0 c.if-byte-ne68.false,
-      equal_by c.byte-2.ensures.0 c.if-byte-ne83.false,
+      equal_by (c.from.ensures ∙ c.word.ensures) c.if-from-n.false,
+      equal_by c.byte.ensures c.if-byte-ne68.false,
+      equal_by c.byte-2.ensures c.if-byte-ne83.false,
     )

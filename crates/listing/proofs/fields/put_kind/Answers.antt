@@ -4,27 +4,27 @@ use Rattle.rules.specs.Calls.Listing.{kind_word}
 use Rattle.line.proofs.LaidLaws.{laid_as}
 use Rattle.listing.proofs.fields.put_kind.Goals as goal
 
-pub returns-then-internal : goal.returns-then-internal
-unfolding kind_word
-returns-then-internal c =
-    laid_as (rw (c.in-Fixed.is, c.if-internal.true)) (omega arith) c.put-then-internal.ensures
-
-pub returns-then-internal-2 : goal.returns-then-internal-2
-unfolding kind_word
-returns-then-internal-2 c =
-    laid_as (rw (c.in-Variable.is, c.if-internal-2.true)) (omega arith) c.put-then-internal-2.ensures
-
 pub returns-in-Program : goal.returns-in-Program
 unfolding kind_word
 returns-in-Program c =
     laid_as (rw c.in-Program.is) (omega arith) c.put.ensures
 
-pub returns-else-internal : goal.returns-else-internal
+pub returns-in-Fixed-default-true : goal.returns-in-Fixed-default-true
 unfolding kind_word
-returns-else-internal c =
-    laid_as (rw (c.in-Fixed.is, c.if-internal.false)) (omega arith) c.put-in-Fixed.ensures
+returns-in-Fixed-default-true c =
+    laid_as (rw (c.in-Fixed-default-true.is, c.in-Fixed-default-true.internal-test)) (omega arith) c.put-in-Fixed-default-true.ensures
 
-pub returns-else-internal-2 : goal.returns-else-internal-2
+pub returns-in-Fixed-default-false : goal.returns-in-Fixed-default-false
 unfolding kind_word
-returns-else-internal-2 c =
-    laid_as (rw (c.in-Variable.is, c.if-internal-2.false)) (omega arith) c.put-in-Variable.ensures
+returns-in-Fixed-default-false c =
+    laid_as (rw (c.in-Fixed-default-false.is, c.in-Fixed-default-false.internal-test)) (omega arith) c.put-in-Fixed-default-false.ensures
+
+pub returns-in-Variable-default-true : goal.returns-in-Variable-default-true
+unfolding kind_word
+returns-in-Variable-default-true c =
+    laid_as (rw (c.in-Variable-default-true.is, c.in-Variable-default-true.internal-test)) (omega arith) c.put-in-Variable-default-true.ensures
+
+pub returns-in-Variable-default-false : goal.returns-in-Variable-default-false
+unfolding kind_word
+returns-in-Variable-default-false c =
+    laid_as (rw (c.in-Variable-default-false.is, c.in-Variable-default-false.internal-test)) (omega arith) c.put-in-Variable-default-false.ensures

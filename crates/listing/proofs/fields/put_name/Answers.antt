@@ -10,13 +10,6 @@ use Rattle.listing.proofs.fields.put_name.Goals.{After-unpadded}
 few : (c : After-unpadded) → length c.unpadded.result.now ≤ 10
 few c = rw c.unpadded.ensures (omega (arith, unpadded_short c.args.name.now, c.requires.1))
 
-pub put-next-requires : goal.put-next-requires
-put-next-requires c = omega (arith, few (goal.at.put-next-requires c).After-unpadded, c.requires.0)
-
-pub put-requires : goal.put-requires
-put-requires c =
-    omega (arith, few (goal.at.put-requires c).After-unpadded, c.requires.0, c.put-next.ensures.ends)
-
 pub returns : goal.returns
 returns c =
     laid_then (laid_as {k = 10} c.unpadded.ensures (few (goal.at.returns c).After-unpadded) c.put-next.ensures) c.put.ensures

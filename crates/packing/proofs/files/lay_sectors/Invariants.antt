@@ -1,10 +1,9 @@
 use mathlib.Core.List.{List, map}
 use Prim.Native.Nat.{ℕ}
-use lib.ListN.{length}
 use Rattle.rules.specs.Sectors.{sector_of, joined}
 use Rattle.rules.specs.Chain.{places}
 use Rattle.rules.proofs.Pieces.{Pieces}
-use Rattle.descriptor.specs.Cursor.{ahead, Steady}
+use Rattle.descriptor.specs.Ahead.{places_left}
 use Rattle.packing.proofs.files.lay_sectors.Given as goal
 
 -- the bytes of the sectors at these places
@@ -12,7 +11,4 @@ abbrev pub sectors : List ℕ → List ℕ → List ℕ
 sectors source ps = joined (map (sector_of source) ps)
 
 abbrev pub invariant-loop-place : goal.invariant-loop-place
-invariant-loop-place l = Steady l.chain l.cursor × Pieces (sectors l.source (places l.chain)) l.initial.target l.at (sectors l.source (ahead l.chain l.cursor)) l.target l.to
-
-abbrev pub decreases-loop-place : goal.decreases-loop-place
-decreases-loop-place l = length (ahead l.chain l.cursor)
+invariant-loop-place l = Pieces (sectors l.source (places l.chain)) l.initial.target l.at (sectors l.source (places_left l.place-iterator)) l.target l.to

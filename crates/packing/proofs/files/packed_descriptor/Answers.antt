@@ -41,6 +41,6 @@ pub returns : goal.returns
 returns c =
     let a = c.args in
     c.lay-2.ensures
-    ∙ ap (splice c.lay.new.buffer 28) c.block_bytes-block.ensures
+    ∙ ap (splice c.lay.new.buffer 28) (rw (c.from.ensures, c.from-2.ensures) at c.block_bytes-block.ensures)
     ∙ ap (λ (d : List ℕ). splice d 28 (block_bytes (record { start = a.start; last = a.sectors - 1 }))) (headed (goal.at.returns c).After-lay)
     ∙ one a.header.now a.start a.sectors c.requires.1 c.if-sectors-eq0.false

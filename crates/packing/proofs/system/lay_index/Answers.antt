@@ -1,49 +1,44 @@
--- `packing::system::lay_index` meets its contract. The loop's invariant: as many numbers from `number` on as the old index has from byte `at` on are left, and go to byte `at` of what began as
--- zeros (`Numbered`). The measure is what is left of the old index. Assumes nothing.
-use mathlib.Core.Path.{sym, ap, ◌∙◌}
-use Prim.Native.Nat.{ℕ, ◌+◌}
+-- `packing::system::lay_index` meets its contract. The loop's invariant: the numbers from `number` on are left, and go behind those before them, into what began as zeros (`Numbered`). Assumes nothing.
+use mathlib.Core.Path.{◌≡◌, ap, ◌∙◌}
+use mathlib.Core.Logic.{inl}
+use mathlib.Core.List.{List}
+use Prim.Native.Nat.{ℕ, ◌+◌, ◌≤◌}
 use native.Mathlib.Omega.{arith}
-use lib.ListN.{replicate}
-use Rattle.packing.proofs.IndexSteps.{Numbered, numbered_start, numbered_step, numbered_end}
+use lib.ListN.{length, replicate}
+use Rattle.std.proofs.lemmas.Iterator.Consumers.{YieldsList-from_first, count_from_yields_List}
+use Rattle.rules.specs.Index.{numbers}
+use Rattle.rules.proofs.Index.{numbers_inside}
+use Rattle.sector.specs.Numbers.{numbers_left}
+use Rattle.packing.proofs.IndexSteps.{numbered_start, numbered_step, numbered_end}
 use Rattle.packing.proofs.system.lay_index.Goals as goal
-use Rattle.packing.proofs.system.lay_index.Goals.{After-lay_number}
+use Rattle.packing.proofs.system.lay_index.Goals.{After-count}
 
--- a number more
-stepped : (c : After-lay_number) →
-    Numbered c.args.old.now c.args.first c.lay_number.new.buffer (c.loop-first.number + 1) (c.loop-first.at + 2)
-stepped c =
-    numbered_step c.loop-first.invariant c.number_at.ensures c.if-number_at-eq0.false c.lay_number.ensures
+-- the numbers of the source's index, and that they are few
+many : (c : After-count) → c.count.result ≡ length (numbers c.args.old.now)
+many c = count_from_yields_List _ _ c.count.ensures.ran (YieldsList-from_first (λ x. x) numbers_left _ c.numbers_of.ensures)
 
-pub loop-first-init : goal.loop-first-init
-loop-first-init c =
-    numbered_start _ _ _ (c.fill.ensures ∙ ap (λ (many : ℕ). replicate many 0) c.requires.0)
+few : (c : After-count) → c.count.result ≤ 128
+few c = omega (arith, many c, numbers_inside c.args.old.now, c.requires.1)
 
-pub number_at-requires : goal.number_at-requires
-number_at-requires c = c.loop-first.invariant.inside
+pub count-requires-clause-fits : goal.count-requires-clause-fits
+count-requires-clause-fits c =
+    let same = ap (λ (ks : List ℕ). length ks) c.numbers_of.ensures in
+    inl (omega (arith, same, numbers_inside c.args.old.now, c.requires.1))
 
-pub shape_of-index-then-number_at-eq0 : goal.shape_of-index-then-number_at-eq0
-shape_of-index-then-number_at-eq0 c =
-    c.loop-first.invariant.pieces.kept ∙ sym c.requires.0
+pub overflow_cast-end : goal.overflow_cast-end
+overflow_cast-end c = omega (arith, few (goal.at.overflow_cast-end c).After-count)
 
-pub returns-then-number_at-eq0 : goal.returns-then-number_at-eq0
-returns-then-number_at-eq0 c =
-    let end = numbered_end c.loop-first.invariant c.number_at.ensures c.if-number_at-eq0.true in
-    record { value = end.0; index_after = end.1 }
+pub overflow_add-end : goal.overflow_add-end
+overflow_add-end c = omega (arith, few (goal.at.overflow_add-end c).After-count, c.requires.2)
 
-pub lay_number-requires : goal.lay_number-requires
-lay_number-requires c =
-    omega (arith, c.loop-first.invariant.few, c.loop-first.invariant.inside, c.requires.1, c.requires.2)
+pub loop-number-init : goal.loop-number-init
+loop-number-init c = numbered_start _ _ _ (c.fill.ensures.after (λ y same. same) ∙ ap (λ (n : ℕ). replicate n 0) c.requires.0)
 
-pub overflow_add-number : goal.overflow_add-number
-overflow_add-number c =
-    omega (arith, c.loop-first.invariant.few, c.loop-first.invariant.inside, c.requires.1, c.requires.2)
+pub loop-number-preserved : goal.loop-number-preserved
+loop-number-preserved c = numbered_step c.loop-number.invariant (omega arith) (omega arith) c.from.ensures c.lay_number.ensures
 
-pub overflow_add-at : goal.overflow_add-at
-overflow_add-at c =
-    omega (arith, (stepped (goal.at.overflow_add-at c).After-lay_number).inside, c.requires.1)
-
-pub loop-first-smaller : goal.loop-first-smaller
-loop-first-smaller c = omega (arith, (stepped (goal.at.loop-first-smaller c).After-lay_number).inside)
-
-pub loop-first-preserved : goal.loop-first-preserved
-loop-first-preserved c = stepped (goal.at.loop-first-preserved c).After-lay_number
+pub returns : goal.returns
+returns c =
+    let all = many (goal.at.returns c).After-count in
+    let end = ap (λ (n : ℕ). c.args.first + n) all in
+    record { value = end; index_after = numbered_end c.loop-number.invariant _ end c.loop-number-test.false }

@@ -1,9 +1,5 @@
-use Prim.Native.Nat.{◌-◌, ◌≤◌}
 use Rattle.packing.proofs.LabelSteps.{Labelled}
 use Rattle.packing.proofs.system.lay_label.Given as goal
 
 abbrev pub invariant-loop-directory : goal.invariant-loop-directory
-invariant-loop-directory l = (l.directory ≤ 4) × Labelled l.layout l.source l.initial.target l.target l.number l.directory
-
-abbrev pub decreases-loop-directory : goal.decreases-loop-directory
-decreases-loop-directory l = 4 - l.directory
+invariant-loop-directory l = Labelled l.layout l.source l.initial.target l.target l.number l.directory

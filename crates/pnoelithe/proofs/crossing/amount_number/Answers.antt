@@ -3,10 +3,10 @@ use Rattle.rules.specs.Outcome.{AmountSays}
 use Rattle.pnoelithe.proofs.Crossings.{given_crosses, refused_crosses}
 use Rattle.pnoelithe.proofs.crossing.amount_number.Goals as goal
 
-pub returns-in-Given : goal.returns-in-Given
+pub returns-in-Ok : goal.returns-in-Ok
 unfolding AmountSays
-returns-in-Given c report said = given_crosses report _ _ (rw c.in-Given.is at said)
+returns-in-Ok c report said = given_crosses report _ _ (rw c.in-Ok.is at said)
 
-pub returns-in-Refused : goal.returns-in-Refused
+pub returns-in-Err : goal.returns-in-Err
 unfolding AmountSays
-returns-in-Refused c report said = refused_crosses report _ _ (rw c.in-Refused.is at said)
+returns-in-Err c report said = rw c.from.ensures (refused_crosses report _ _ (rw c.in-Err.is at said))

@@ -1,12 +1,12 @@
 -- `pnoelithe::crossing::answer_number` meets its contract: a case of the code for each case of the answer. Assumes nothing.
-use mathlib.Core.Path.{sym}
+use mathlib.Core.Path.{sym, ◌∙◌}
 use Rattle.rules.specs.Outcome.{AnswerSays}
 use Rattle.pnoelithe.proofs.crossing.answer_number.Goals as goal
 
-pub returns-in-Done : goal.returns-in-Done
+pub returns-in-Ok : goal.returns-in-Ok
 unfolding AnswerSays
-returns-in-Done c number said = sym (rw c.in-Done.is at said)
+returns-in-Ok c number said = sym (rw c.in-Ok.is at said)
 
-pub returns-in-Refused : goal.returns-in-Refused
+pub returns-in-Err : goal.returns-in-Err
 unfolding AnswerSays
-returns-in-Refused c number said = (rw c.in-Refused.is at said).0
+returns-in-Err c number said = c.from.ensures ∙ (rw c.in-Err.is at said).0

@@ -2,21 +2,12 @@
 use mathlib.Core.Path.{refl, sym}
 use Rattle.rules.specs.Outcome.{NamedSays}
 use Rattle.pnoelithe.specs.Crossing.{behind_seven}
-use Rattle.pnoelithe.proofs.Crossings.{bare_kept, place_behind_lem}
+use Rattle.pnoelithe.proofs.Crossings.{told_named}
 use Rattle.pnoelithe.proofs.crossing.named_number.Goals as goal
 
-pub returns-in-Done : goal.returns-in-Done
+pub returns-in-Ok : goal.returns-in-Ok
 unfolding NamedSays behind_seven
-returns-in-Done c misnamed number said = (sym (rw c.in-Done.is at said), refl)
+returns-in-Ok c misnamed number said = (sym (rw c.in-Ok.is at said), refl)
 
-pub returns-in-Refused : goal.returns-in-Refused
-unfolding NamedSays
-returns-in-Refused c misnamed number said =
-    let refused = rw c.in-Refused.is at said in
-    (refused.0, bare_kept _ number _ _ refused)
-
-pub returns-in-Misnamed : goal.returns-in-Misnamed
-unfolding NamedSays
-returns-in-Misnamed c misnamed number said =
-    let seven = rw c.in-Misnamed.is at said in
-    (sym seven.0, place_behind_lem misnamed _ _ seven.1)
+pub returns-in-Err : goal.returns-in-Err
+returns-in-Err c misnamed number said = rw (c.named_refusal.ensures.0, c.named_refusal.ensures.1) (told_named misnamed _ c.in-Err.refusal number (rw c.in-Err.is at said))

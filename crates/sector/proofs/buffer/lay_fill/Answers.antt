@@ -33,12 +33,12 @@ returns-then-many-room c =
     let a = c.args in
     let f = c.fill in
     let z : a.at + a.many - a.at ≡ a.many = omega arith in
-    rw z (filled a.buffer.now f.new.target a.at a.many a.value (omega arith) (rw z at f.ensures))
+    rw z (filled a.buffer.now f.new.self a.at a.many a.value (omega arith) (rw z at (f.ensures.after (λ y same. same))))
 
 pub returns : goal.returns
 returns c =
     let a = c.args in
     let f = c.fill-2 in
     let room = length a.buffer.now - a.at in
-    filled a.buffer.now f.new.target a.at room a.value (omega arith) f.ensures
+    filled a.buffer.now f.new.self a.at room a.value (omega arith) (f.ensures.after (λ y same. same))
     ∙ no_more a.buffer.now a.at room a.many a.value (omega arith) (omega arith)

@@ -10,7 +10,7 @@ returns-then-bytes-i c =
     let a = c.args in
     let high = get_or-eq_default a.bytes.now 0 c.if-bytes-i.true in
     let low = get_or-eq_default a.bytes.now 0 {n = a.i + 1} (omega arith) in
-    (omega arith, omega arith)
+    omega arith
 
 pub returns : goal.returns
 returns c = search rules

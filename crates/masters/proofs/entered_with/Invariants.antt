@@ -1,8 +1,0 @@
--- The places of a walk fall.
-use Rattle.masters.proofs.entered_with.Given as goal
-
-abbrev pub invariant-loop-place : goal.invariant-loop-place
-invariant-loop-place l = Unit {0}
-
-abbrev pub decreases-loop-place : goal.decreases-loop-place
-decreases-loop-place l = l.place
