@@ -43,7 +43,7 @@ fn put_reason(text: &mut [u8], at: usize, verbose: bool, mark: Mark) -> usize
 {
     if verbose {
         let next = put(text, at, b": ");
-        return put_ground(text, next, mark);
+        return put_ground(text, next, digit_of(mark));
     }
     at
 }
@@ -98,7 +98,7 @@ impl Belt<'_> {
         let size = put_bare_line(self.verbose, mark, self.buffer);
         self.rt.stdout().write_all(part(self.buffer, 0, size))?;
         let mut tally = Tally::default();
-        tally.count(mark);
+        tally.count(digit_of(mark));
         Ok(tally)
     }
 }

@@ -1,4 +1,4 @@
--- The number of a fault has one digit, and the place of its mark among the counts is that number; the numbers of all other refusals are higher. Assumes nothing.
+-- The number of a fault has one digit; the numbers of all other refusals are higher. Assumes nothing.
 use mathlib.Core.Path.{◌≡◌, refl}
 use Prim.Native.Nat.{◌+◌, ◌≤◌}
 use native.Mathlib.Omega.{arith}
@@ -9,7 +9,6 @@ use Rattle.rules.specs.declared.refusal.Fault.TheVariants as fault
 use Rattle.rules.specs.declared.refusal.Refusal.{Refusal}
 use Rattle.rules.specs.declared.refusal.Refusal.TheVariants as refusal
 use Rattle.console.specs.Mark.{number_digit}
-use Rattle.console.specs.Tally.{place_of}
 
 pub fault_small : (f : Fault) → fault_number f ≤ 6
 fault_small fault.Length = omega arith
@@ -18,15 +17,6 @@ fault_small fault.Index = omega arith
 fault_small fault.Descriptor = omega arith
 fault_small fault.Holders = omega arith
 fault_small fault.Map = omega arith
-
-pub fault_place : (f : Fault) → place_of (48 + fault_number f) ≡ fault_number f
-unfolding place_of
-fault_place fault.Length = refl
-fault_place fault.Label = refl
-fault_place fault.Index = refl
-fault_place fault.Descriptor = refl
-fault_place fault.Holders = refl
-fault_place fault.Map = refl
 
 pub fault_digit : (f : Fault) → 48 + fault_number f ≡ number_digit (fault_number f)
 unfolding number_digit

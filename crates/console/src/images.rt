@@ -1,5 +1,5 @@
 // The images that a command line names, one after the other, as a program takes them.
-use crate::mark::Mark;
+use crate::mark::{Mark, digit_of};
 use crate::options::{ARGUMENT_ROOM, read_argument};
 use crate::reason::fail;
 use crate::tally::Tally;
@@ -32,7 +32,7 @@ pub fn each_image<P: Program>(
                 program.take_unread()?
             }
         };
-        tally.count(mark);
+        tally.count(digit_of(mark));
     }
     Ok(tally)
 }

@@ -1,10 +1,8 @@
 // How many images of a run were sound, had each number, or were not read.
 ghost use Rattle.std.specs.Prelude.{◌≡◌, ◌≤◌, length};
 ghost use Rattle.line.specs.Laid.{Laid};
-ghost use Rattle.console.specs.Mark.{digit_of};
 ghost use Rattle.console.specs.Tally.{place_of, counted, count_text, numbers_text, images_text, sound_text, tally_text};
 
-use crate::mark::Mark;
 use line::{put, put_number};
 use sector::bytes::part;
 
@@ -14,15 +12,14 @@ pub struct Tally {
     pub counts: [usize; 8],
 }
 
-// The place of a mark among the counts.
-#[tactic(auto, using(crate::proofs::Marks::fault_place, crate::proofs::Marks::fault_small), unfolding(crate::specs::Tally::place_of, crate::specs::Mark::digit_of))]
-fn place_of(mark: Mark) -> usize
-    ensures { (result ≡ place_of (digit_of mark)) × (result ≤ 7) }
+// The place of a mark among the counts: that of its digit, or the last for any other.
+#[tactic(auto, unfolding(crate::specs::Tally::place_of))]
+fn place_of(mark: u8) -> usize
+    ensures { (result ≡ place_of mark) × (result ≤ 7) }
 {
     match mark {
-        Some(Ok(())) => 0,
-        Some(Err(fault)) => u32::from(fault) as usize,
-        None => 7,
+        b'0'..=b'6' => usize::from(mark - b'0'),
+        _ => 7,
     }
 }
 
@@ -61,10 +58,10 @@ fn put_sound(text: &mut [u8], images: usize, sound: usize) -> usize
 }
 
 impl Tally {
-    // Counts an image. A count stays where it has reached the most that a usize holds.
+    // Counts an image by the digit of its mark, and by any other byte as unread. A count stays where it has reached the most that a usize holds.
     #[tactic(auto, unfolding(crate::specs::Tally::counted, crate::specs::Tally::more))]
-    pub fn count(&mut self, mark: Mark)
-        ensures { self.new.counts ≡ counted self.old.counts (digit_of mark) }
+    pub fn count(&mut self, mark: u8)
+        ensures { self.new.counts ≡ counted self.old.counts mark }
     {
         let place = place_of(mark);
         self.counts[place] = self.counts[place].saturating_add(1);

@@ -284,7 +284,7 @@ impl Finder<'_> {
     {
         let master = self.packer.pack_at(own, packed);
         let mark = mark_of(master);
-        tally.count(mark);
+        tally.count(digit_of(mark));
         let Some(Ok(length)) = master else {
             return self.packer.write_at(own, mark, Middle::Nothing);
         };

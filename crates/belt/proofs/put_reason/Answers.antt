@@ -11,7 +11,7 @@ pub returns-then-verbose : goal.returns-then-verbose
 unfolding reason_of letters
 returns-then-verbose c =
     let laid = laid_then c.put-next.ensures c.put_ground.ensures in
-    laid_as (rw c.if-verbose.true) laid.short laid
+    laid_as (rw (c.if-verbose.true, c.digit_of.ensures)) laid.short laid
 
 pub returns : goal.returns
 unfolding reason_of
