@@ -87,7 +87,7 @@ fn append_at(
     if free_count_of(sector_of(image, 0)) == 0 {
         return Err(Refusal::DiskFull);
     }
-    let new = Search::first().next(sector_of(image, 0)).sector;
+    let new = Search::first().next(sector_of(image, 0)).sector as u16;
     let tip = Tip::of(file.chain());
     if tip.with(usize::from(new)).used > 76 {
         return Err(Refusal::ChainFull);

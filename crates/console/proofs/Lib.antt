@@ -2,3 +2,4 @@
 mod Words
 mod Numbers
 mod Marks
+mod Counts

@@ -1,5 +1,6 @@
 -- The last line of a run: how many images there were, how many were sound, how many had each number, how many were not read. A number that no image had is left out.
 use Rattle.std.specs.Prelude.{cond, List, [], ◌∷◌, ◌++◌, ℕ, ◌+◌, ◌-◌, eqb, ltb, set}
+use Rattle.std.specs.List.{sum_by}
 use Rattle.rules.specs.Bytes.{byte_at}
 use Rattle.rules.specs.Calls.Listing.{decimal}
 use Rattle.line.specs.Letters.{letters}
@@ -14,6 +15,10 @@ more x = cond (ltb x 18446744073709551615) (x + 1) x
 
 unfoldable pub counted : List ℕ → ℕ → List ℕ
 counted tally mark = set tally (place_of mark) (more (byte_at tally (place_of mark)))
+
+-- how many images were counted
+abbrev pub images_in : List ℕ → ℕ
+images_in tally = sum_by (λ count. count) tally
 
 -- ", 9 of number 6"
 unfoldable pub count_text : ℕ → List ℕ → List ℕ

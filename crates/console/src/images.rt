@@ -1,4 +1,7 @@
 // The images that a command line names, one after the other, as a program takes them.
+ghost use Rattle.std.specs.Prelude.{◌≡◌, ◌-◌, IfOk};
+ghost use Rattle.console.specs.Tally.{images_in};
+
 use crate::mark::{Mark, digit_of};
 use crate::options::{ARGUMENT_ROOM, read_argument};
 use crate::reason::fail;
@@ -15,14 +18,16 @@ pub trait Program {
     fn take_unread(&mut self) -> io::Result<Mark>;
 }
 
-// Has the program take the image at each of these places of the command line, and counts them. A line that cannot be written ends the
-// run: no later one would do better.
+// Has the program take the image at each of these places of the command line, and counts them, each once. A line that cannot be written
+// ends the run: no later one would do better.
 pub fn each_image<P: Program>(
     rt: HostRuntime,
     places: Range<usize>,
     argument: &mut [u8; ARGUMENT_ROOM],
     program: &mut P,
-) -> io::Result<Tally> {
+) -> io::Result<Tally>
+    ensures { IfOk result (λ tally. images_in tally.counts ≡ places.end - places.start) }
+{
     let mut tally = Tally::default();
     for position in places {
         let mark = match read_argument(rt, position, argument) {

@@ -57,14 +57,26 @@ fn put_sound(text: &mut [u8], images: usize, sound: usize) -> usize
     put(text, next, b"sound")
 }
 
+// Counts an image by the digit of its mark, and by any other byte as unread. A count stays where it has reached the most that a usize holds.
+#[tactic(auto, unfolding(crate::specs::Tally::counted, crate::specs::Tally::more))]
+pub fn count(tally: &mut [usize; 8], mark: u8)
+    ensures { tally.new ≡ counted tally.old mark }
+{
+    let place = place_of(mark);
+    tally[place] = tally[place].saturating_add(1);
+}
+
+// Writes the last line of a run to standard error.
+pub fn tell(rt: HostRuntime, images: usize, tally: &[usize; 8]) {
+    Tally { counts: *tally }.tell(rt, images)
+}
+
 impl Tally {
-    // Counts an image by the digit of its mark, and by any other byte as unread. A count stays where it has reached the most that a usize holds.
-    #[tactic(auto, unfolding(crate::specs::Tally::counted, crate::specs::Tally::more))]
+    // Counts an image, as `count` does.
     pub fn count(&mut self, mark: u8)
         ensures { self.new.counts ≡ counted self.old.counts mark }
     {
-        let place = place_of(mark);
-        self.counts[place] = self.counts[place].saturating_add(1);
+        count(&mut self.counts, mark);
     }
 
     // Those of the numbers 1 to 6.

@@ -1,4 +1,4 @@
-// The leaves of a descriptor: names, status and kind, blocks, and the cursor over a chain. Each answers for any bytes with
+// The leaves of a descriptor: names, status and kind, fields, and the blocks and places of a chain. Each answers for any bytes with
 // what the rules' definition of the same name says; those with a `requires` ask a bound on a number alone.
 #![tactic(auto)]
 

@@ -33,6 +33,12 @@ other_case status c end_offset record_length kind e none = go (is_program status
     go true is e = absurd (none (program_length c end_offset) (sym e))
     go false is e = is
 
+pub fixed_apart : (record_length : ℕ) (internal : Bool) (size : ℕ) → Fixed record_length internal ≡ Program size → ⊥
+fixed_apart record_length internal size q = let z : ◌≡◌ {A = ℕ} 0 1 = cc in omega arith
+
+pub variable_apart : (record_length : ℕ) (internal : Bool) (size : ℕ) → Variable record_length internal ≡ Program size → ⊥
+variable_apart record_length internal size q = let z : ◌≡◌ {A = ℕ} 0 1 = cc in omega arith
+
 module _ (image : List ℕ) (room k : ℕ) where
   pub load_data : (kind : Kind) → file_kind (sector_of image k) ≡ kind → ((size : ℕ) → kind ≡ Program size → ⊥) → loading image room k ≡ refuses 14
   unfolding loading load_tests first_of unless_met file_kind

@@ -35,7 +35,7 @@ pub fn descriptor_choice(sector0: &[u8]) -> u16
 // The search for data: the sector that it found, and how far it has come, so that the next one does not begin anew.
 #[derive(Clone, Copy, Debug, PartialEq, Eq)]
 pub struct Search {
-    pub sector: u16,
+    pub sector: usize,
     pub high: usize,
     pub low: usize,
 }
@@ -61,14 +61,14 @@ impl Search {
         let high = lowest_free(sector0, self.high, 1600);
         if high < 1600 {
             return Search {
-                sector: high as u16,
+                sector: high,
                 high,
                 low,
             };
         }
         let lowest = lowest_free(sector0, low, 34);
         Search {
-            sector: lowest as u16,
+            sector: lowest,
             high,
             low: lowest,
         }

@@ -15,7 +15,7 @@
 ghost use Rattle.std.specs.Prelude.{◌≡◌, ◌+◌, ◌<◌, length};
 ghost use Rattle.rules.specs.Bytes.{splice};
 ghost use Rattle.line.specs.Laid.{Laid};
-ghost use Rattle.sums.specs.Lent.{AllBelow};
+ghost use Rattle.sums.specs.Lent.{AllBelow, SameArrays};
 ghost use Rattle.console.specs.Mark.{digit_of};
 ghost use Rattle.masters.specs.Packed.{mastered, master_of, packed_over};
 ghost use Rattle.masters.specs.Line.{mark_of, hex_digit, sum_text, middle_of, line_of};
@@ -86,6 +86,7 @@ fn pack_received(
 }
 
 // What a line begins with. Packing into as many bytes is refused for a fault of the image alone.
+#[tactic(auto, unfolding(console::specs::Mark::digit_of, console::specs::Mark::answer_digit, console::specs::Mark::number_digit, crate::specs::Line::mark_of))]
 fn mark_of(master: Master) -> Mark
     ensures { digit_of result ≡ mark_of (mastered master) }
 {
@@ -243,7 +244,8 @@ impl Finder<'_> {
     // entered into the table, so that under a sum no two are equal.
     fn first_with(&mut self, own: usize, form: &[u8], table: &mut Table<'_>) -> usize
         requires { AllBelow table.old own }
-        ensures { AllBelow table.new (own + 1) }
+        ensures below { AllBelow table.new (own + 1) }
+        ensures same_arrays { SameArrays table.old table.new }
     {
         let sum = sum_of(form);
         if let Some(place) = self.entered_with(sum, form, table) {
@@ -262,7 +264,8 @@ impl Finder<'_> {
         table: &mut Table<'_>,
     ) -> Middle
         requires { AllBelow table.old own }
-        ensures { AllBelow table.new (own + 1) }
+        ensures below { AllBelow table.new (own + 1) }
+        ensures same_arrays { SameArrays table.old table.new }
     {
         if only_sums {
             return Middle::Sum(sum_of(form));
@@ -280,7 +283,8 @@ impl Finder<'_> {
         tally: &mut Tally,
     ) -> io::Result<()>
         requires { AllBelow table.old own }
-        ensures { AllBelow table.new (own + 1) }
+        ensures below { AllBelow table.new (own + 1) }
+        ensures same_arrays { SameArrays table.old table.new }
     {
         let master = self.packer.pack_at(own, packed);
         let mark = mark_of(master);

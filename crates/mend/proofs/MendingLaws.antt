@@ -2,7 +2,7 @@
 use mathlib.Core.Path.{◌≡◌, refl, sym, ap, ◌∙◌}
 use mathlib.Core.List.{List, []}
 use mathlib.Core.Bool.{true, false}
-use Rattle.std.specs.Prelude.{Option, Some, Result, Ok, Err, is_ok}
+use Rattle.std.specs.Prelude.{Option, Some, None, Result, Ok, Err, is_ok}
 use Prim.Native.Nat.{ℕ, ◌+◌, ◌≤◌}
 use native.Mathlib.Omega.{arith}
 use lib.ListN.{length, take}
@@ -53,10 +53,14 @@ module _ (layout : Layout) (buffer : List ℕ) {received : Option ℕ} (count : 
   abbrev number : ℕ
   number = verdict layout (part buffer 0 count)
 
-  -- its mark, by what the judge said of it
-  pub marked : (said : Result (Unit {0}) Fault) (image : List ℕ) → judged said ≡ verdict layout image → image ≡ part buffer 0 count → digit_of (Some said) ≡ mark_of layout received buffer
+  -- its mark, and the same by what the judge said of it
+  pub marked : (mark : ℕ) → mark ≡ mark_of layout received buffer → mark ≡ 48 + number
+  unfolding mark_of
+  marked mark is = is ∙ rw gave refl
+
+  pub judged_mark : (said : Result (Unit {0}) Fault) (image : List ℕ) → judged said ≡ verdict layout image → image ≡ part buffer 0 count → digit_of (Some said) ≡ mark_of layout received buffer
   unfolding mark_of digit_of
-  marked said image is cut = rw (gave, is, cut)
+  judged_mark said image is cut = rw (gave, is, cut)
 
   -- a sound one
   module _ (sound : number ≡ 0) where
@@ -95,3 +99,14 @@ module _ (layout : Layout) (buffer : List ℕ) {received : Option ℕ} (count : 
           ∙ ap (λ (m : ℕ). verdict layout (take m (splice buffer 0 after))) (sym long)
           ∙ ap (verdict layout) (splice_front buffer after (omega (arith, long)) ∙ left)
           ∙ repaired_sound layout (part buffer 0 count) done
+
+-- by the mark alone: that of a sound volume, which nothing has that was not read
+pub sound_by_mark : (layout : Layout) (received : Option ℕ) (buffer : List ℕ) → mark_of layout received buffer ≡ 48 → fate_of layout received buffer ≡ Sound
+unfolding mark_of
+sound_by_mark layout (Some count) buffer is = sym (sound_fate layout buffer count refl (omega (arith, is)))
+sound_by_mark layout None buffer is = absurd (omega (arith, is))
+
+pub stays_by_mark : (layout : Layout) (received : Option ℕ) (buffer : List ℕ) → mark_of layout received buffer ≡ 48 → mended_over layout received buffer ≡ buffer
+unfolding mark_of
+stays_by_mark layout (Some count) buffer is = sym (sound_stays layout buffer count refl (omega (arith, is)))
+stays_by_mark layout None buffer is = absurd (omega (arith, is))

@@ -15,6 +15,7 @@ use descriptor::fields::descriptor_of;
 use descriptor::header::mark_descriptor;
 use opening::find;
 use rules::{Layout, Refusal};
+use sector::buffer::copy;
 use sector::order::list;
 
 // The data sector, and by the rule with marks the descriptor before it.
@@ -57,7 +58,7 @@ fn overwrite_at(
     let at = 256 * usize::from(place);
     let end = at + 256;
     mark_descriptor(layout, image, usize::from(k));
-    image[at..end].copy_from_slice(bytes);
+    copy(&mut image[at..end], bytes);
     list_overwrite(layout, k, place, changes);
     Ok(())
 }

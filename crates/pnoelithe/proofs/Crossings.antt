@@ -15,7 +15,7 @@ use Rattle.rules.specs.Answers.NamedAnswer as named
 use Rattle.rules.specs.Answers.NamedAmount as loaded
 use Rattle.rules.specs.declared.refusal.Refusal.{Refusal}
 use Rattle.rules.specs.declared.refusal.Refusal.TheVariants as refusal
-use Rattle.std.specs.Prelude.{Option, Some}
+use Rattle.std.specs.Prelude.{Option, Some, Result, Ok, Err}
 use Rattle.rules.proofs.Splice.{splice_none, splice_covered}
 use Rattle.rules.proofs.Refusals.{refusal_some, refused_cases}
 use Rattle.rules.proofs.Outcome.{MeetsInOrder, wrong-there, behind_given, behind_kept}
@@ -44,6 +44,13 @@ pub reading_crosses : {Given : Type 0} (Says : Given → Report → Type 0) (Beh
 reading_crosses Says Behind report given r before after crossing gives =
     let crossed = crossing gives.said in
     (record { returned = crossed.0; left = gives.left }, crossed.1)
+
+-- a result that is given is none that is refused, and what is refused is refused for one reason
+pub given_unrefused : {A E : Type 0} (a : Result A E) (x : A) (e : E) → a ≡ Ok x → a ≡ Err e → ⊥
+given_unrefused {A} {E} a x e given refused = let z : ◌≡◌ {A = Result A E} (Ok x) (Err e) = sym given ∙ refused in cc
+
+pub one_refusal : {A E : Type 0} (a : Result A E) (d e : E) → a ≡ Err d → a ≡ Err e → d ≡ e
+one_refusal {A} {E} a d e here there = let z : ◌≡◌ {A = Result A E} (Err d) (Err e) = sym here ∙ there in cc
 
 -- an amount: its number, and its value behind the pointer
 pub given_crosses : (report : Report) (value before : ℕ) → (report.number ≡ 0) × (value ≡ report.value) → AmountCrosses report 0 before value

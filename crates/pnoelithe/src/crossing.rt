@@ -1,5 +1,5 @@
 // How layouts and answers cross to C, which has no enums and no bools: as numbers, and values behind pointers.
-ghost use Rattle.std.specs.Prelude.{◌≡◌, ℕ, Option};
+ghost use Rattle.std.specs.Prelude.{◌≡◌, ℕ, Option, Err};
 ghost use Rattle.rules.specs.Outcome.{Report, AnswerSays, AmountSays, NamedSays, NamedAmountSays, RenameSays};
 ghost use Rattle.rules.specs.Refusal.{refusal_number, refused, judged, answered, amount_answered, named_answered, load_answered, rename_answered};
 ghost use Rattle.pnoelithe.specs.Crossing.{layout_of, kind_number, place_behind, first_wrong, which_behind, AmountCrosses};
@@ -26,9 +26,9 @@ pub(crate) fn judged_number(verdict: Result<(), Fault>) -> u32
     }
 }
 
-// The number that the answer says.
+// The number that the answer says, and of any refusal that of the table.
 pub(crate) fn answer_number(answer: Result<(), Refusal>) -> u32
-    ensures { (number : ℕ) → AnswerSays (answered answer) number → result ≡ number }
+    ensures { ((number : ℕ) → AnswerSays (answered answer) number → result ≡ number) × ((refusal : Refusal) → answer ≡ Err refusal → result ≡ refusal_number refusal) }
 {
     match answer {
         Ok(()) => 0,
@@ -38,7 +38,7 @@ pub(crate) fn answer_number(answer: Result<(), Refusal>) -> u32
 
 // And its value behind `to`.
 pub(crate) fn amount_number(amount: Result<usize, Refusal>, to: &mut usize) -> u32
-    ensures { (report : Report) → AmountSays (amount_answered amount) report → AmountCrosses report result to.old to.new }
+    ensures { ((report : Report) → AmountSays (amount_answered amount) report → AmountCrosses report result to.old to.new) × ((refusal : Refusal) → amount ≡ Err refusal → (result ≡ refusal_number refusal) × (to.new ≡ to.old)) }
 {
     match amount {
         Ok(value) => {
@@ -64,7 +64,7 @@ pub(crate) fn named_number(answer: Result<(), Refusal>, wrong: &mut usize) -> u3
 {
     match answer {
         Ok(()) => 0,
-        Err(refusal) => named_refusal(refusal, wrong),
+        Err(refusal) => named_refusal(refusal, wrong), // there is no value
     }
 }
 

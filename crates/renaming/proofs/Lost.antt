@@ -1,28 +1,14 @@
 -- A directory in which a file is looked for refuses with 8 alone: there is no directory of that number.
-use mathlib.Core.Path.{◌≡◌, refl, sym, ◌∙◌}
+use mathlib.Core.Path.{◌≡◌, sym, ◌∙◌}
 use mathlib.Core.List.{List}
 use Prim.Native.Nat.{ℕ}
 use Rattle.rules.specs.Opening.{in_directory}
 use Rattle.rules.specs.Refusal.{refused, refusal_number}
 use Rattle.rules.specs.declared.Layout.{Layout}
 use Rattle.rules.specs.declared.refusal.Refusal.{Refusal}
-use Rattle.rules.specs.declared.refusal.Refusal.TheVariants as refusal
 use Rattle.rules.specs.Answers.Opened.{Refused, Misnamed}
 use Rattle.rules.proofs.Opening.{InDirectory, in_index, nowhere, directory_looked, directory_misnamed, find_refused}
-use Rattle.rules.proofs.Refusals.{refused_cases}
-
--- a refusal's number, with 7 for a wrong name
-number_is : (r : Refusal) → refusal_number r ≡ refused (λ place. 7) (λ number. number) r
-number_is (refusal.Unsound f) = refl
-number_is (refusal.Misnamed place) = refl
-number_is refusal.Absent = refl
-number_is refusal.Present = refl
-number_is refusal.Protected = refl
-number_is refusal.DirectoryFull = refl
-number_is refusal.DiskFull = refl
-number_is refusal.ChainFull = refl
-number_is refusal.OtherKind = refl
-number_is refusal.Argument = refl
+use Rattle.rules.proofs.Refusals.{refused_cases, number_is}
 
 module _ (layout : Layout) (image : List ℕ) (directory : ℕ) (name : List ℕ) where
   numbered : (number : ℕ) → Refused number ≡ in_directory layout image directory name → (number ≡ 8) × (in_directory layout image directory name ≡ Refused 8)

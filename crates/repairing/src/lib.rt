@@ -21,7 +21,7 @@ use judge::holders::claim_holders;
 use judge::system::label_rule;
 use map::laid::lay_map;
 use rules::{Fault, Layout, Refusal};
-use sector::buffer::write_sector;
+use sector::buffer::{copy, write_sector};
 use sector::bytes::sector_in;
 use sector::directories::{directory_count, index_at, indexes_of};
 use sector::numbers::numbers_of;
@@ -46,7 +46,7 @@ fn in_order(index: &mut [u8; 256], image: &[u8], i: usize) -> bool
     ensures value { result ≡ distinct_rule image.now [] (files_in image.now i) }
     ensures index_after { result ≡ true → index.new ≡ index_of (ordered image.now (files_in image.now i)) }
 {
-    index.copy_from_slice(sector_in(image, i));
+    copy(index, sector_in(image, i));
     order_numbers(index, image)
 }
 

@@ -60,6 +60,10 @@ refused misnamed number refusal.ChainFull = number 13
 refused misnamed number refusal.OtherKind = number 14
 refused misnamed number refusal.Argument = number 15
 
+-- the number of a refusal of a call that takes no name. None of them is of a wrong name: that has the number 0, which no answer says
+abbrev pub bare_number : Refusal → ℕ
+bare_number refusal = refused (λ place. 0) (λ number. number) refusal
+
 -- the number of an image that was judged, 0 of a sound volume
 abbrev pub judged : Result (Unit {0}) Fault → ℕ
 judged (Ok sound) = 0
@@ -67,7 +71,7 @@ judged (Err fault) = fault_number fault
 
 abbrev pub answered : Result (Unit {0}) Refusal → Answer
 answered (Ok done) = answer.Done
-answered (Err refusal) = answer.Refused (refusal_number refusal)
+answered (Err refusal) = answer.Refused (bare_number refusal)
 
 abbrev pub named_answered : Result (Unit {0}) Refusal → NamedAnswer
 named_answered (Ok done) = named.Done
@@ -81,7 +85,7 @@ rename_answered (Err (rename.Other refusal)) = renamed.Refused (refusal_number r
 
 abbrev pub amount_answered : Result ℕ Refusal → Amount
 amount_answered (Ok value) = amount.Given value
-amount_answered (Err refusal) = amount.Refused (refusal_number refusal)
+amount_answered (Err refusal) = amount.Refused (bare_number refusal)
 
 abbrev pub load_answered : Result ℕ Refusal → NamedAmount
 load_answered (Ok value) = loaded.Given value
@@ -89,11 +93,11 @@ load_answered (Err refusal) = refused loaded.Misnamed loaded.Refused refusal
 
 abbrev pub summary_answered : Result Totals Refusal → Summary
 summary_answered (Ok totals) = summary.Given totals.sectors totals.files totals.free
-summary_answered (Err refusal) = summary.Refused (refusal_number refusal)
+summary_answered (Err refusal) = summary.Refused (bare_number refusal)
 
 abbrev pub entry_answered : Result Row Refusal → Entry
 entry_answered (Ok row) = record { answer = answer.Done; row = row }
-entry_answered (Err refusal) = record { answer = answer.Refused (refusal_number refusal); row = no_row }
+entry_answered (Err refusal) = record { answer = answer.Refused (bare_number refusal); row = no_row }
 
 -- a name that was looked for in an index: at a place, or absent
 abbrev pub looked_for : ℕ → Option FileAt → Opened

@@ -1,6 +1,16 @@
-// Writing into a lent buffer: bytes laid over it from a place on, as many as there is room for.
+// Writing into a lent buffer: a copy, and bytes laid over it from a place on, as many as there is room for.
 ghost use Rattle.std.specs.Prelude.{◌≡◌, ◌*◌, length, replicate};
 ghost use Rattle.rules.specs.Bytes.{splice};
+
+// A copy byte by byte: the slices' `copy_from_slice` would have a host provide `memmove` too.
+pub fn copy(target: &mut [u8], source: &[u8])
+    requires { length target.old ≡ length source.now }
+    ensures { target.new ≡ source.now }
+{
+    for (i, byte) in source.iter().enumerate() {
+        target[i] = *byte;
+    }
+}
 
 // As many of the bytes as there is room for from `at` on.
 pub fn lay(buffer: &mut [u8], at: usize, bytes: &[u8])
@@ -12,10 +22,10 @@ pub fn lay(buffer: &mut [u8], at: usize, bytes: &[u8])
     let room = buffer.len() - at;
     if bytes.len() <= room {
         let end = at + bytes.len();
-        buffer[at..end].copy_from_slice(bytes);
+        copy(&mut buffer[at..end], bytes);
         return;
     }
-    buffer[at..].copy_from_slice(&bytes[0..room]);
+    copy(&mut buffer[at..], &bytes[0..room]);
 }
 
 // `many` bytes of that value from `at` on, as far as there is room.

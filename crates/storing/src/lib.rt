@@ -42,7 +42,7 @@ fn spread(sector0: &mut [u8; 256], chain: &mut [u8], many: usize) -> bool
     let mut tip = Tip::default();
     for _ in 0..many {
         search = search.next(sector0);
-        let k = usize::from(search.sector);
+        let k = search.sector;
         if tip.with(k).used > 76 {
             return false;
         }

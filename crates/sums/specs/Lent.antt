@@ -20,9 +20,9 @@ places_on table sum start = let place = unwrap_or start 0 in lists.chain sum tab
 abbrev pub places_from : Table → (sum : ℕ) → Option ℕ → List ℕ
 places_from table sum place = lists.walk (unwrap_or place 0) sum table.earlier.now table.sums.now
 
--- what is left of a walk
+-- what is left of a walk: the places with its sum, from where it goes on
 abbrev pub places_left : Places → List ℕ
-places_left walk = places_from walk.table.now walk.sum walk.next
+places_left walk = places_on walk.table.now walk.sum walk.from
 
 -- a place entered under a sum
 abbrev pub EnteredInto : (old new : Table) (place sum : ℕ) (done : Bool) → Type 0

@@ -14,6 +14,7 @@ use Rattle.rules.specs.Refusal.{answered}
 use Rattle.rules.specs.declared.Layout.{Layout}
 use Rattle.rules.specs.declared.refusal.Refusal.{Refusal}
 use Rattle.rules.proofs.Verdict.{verdict_small}
+use Rattle.rules.proofs.Refusals.{bare_said}
 use Rattle.console.specs.Mark.{number_digit, answer_digit}
 use Rattle.listing.proofs.Showing.{is_listed, at_front}
 use Rattle.listings.proofs.put_listing.Goals as goal
@@ -25,7 +26,7 @@ module _ (layout : Layout) (image text : List ℕ) (small : (i : ℕ) → byte_a
   digit_is (Ok done) says = let is = (is_listed layout image (length text) small room).number in omega (arith, is, says)
   digit_is (Err refusal) says =
       let is = (is_listed layout image (length text) small room).number in
-      rw (says.0, is, le-ltb 6 (verdict layout image) (verdict_small layout image)) refl
+      rw ((bare_said refusal _ says).0, is, le-ltb 6 (verdict layout image) (verdict_small layout image)) refl
 
   text_is : {after : List ℕ} {size : ℕ} → (size ≡ length (shown layout image (length text))) × (after ≡ splice text 0 (shown layout image (length text)))
       → (part after 0 size ≡ listed layout image) × ((size ≡ length (listed layout image)) × (after ≡ splice text 0 (listed layout image)))

@@ -6,10 +6,11 @@ use Rattle.rules.specs.Bytes.{part, splice}
 use Rattle.rules.specs.Outcome.{AnswerSays}
 use Rattle.rules.specs.Calls.Pack.{pack_number, after_pack}
 use Rattle.rules.specs.declared.Layout.{Layout}
-use Rattle.rules.specs.Answers.Answer.{Answer}
+use Rattle.rules.specs.Answers.Answer.{Answer, Refused}
 use Rattle.rules.proofs.Bytes.{part_length}
 use Rattle.rules.proofs.Splice.{put_back}
 use Rattle.rules.proofs.Outcome.{says_answer}
+use Rattle.rules.proofs.Refusals.{bare_said}
 use Rattle.masters.specs.Packed.{master_by, master_of, packed_over}
 use Rattle.masters.proofs.pack_received.Goals as goal
 
@@ -56,9 +57,10 @@ returns-in-Ok-clause-packed_after c =
     c.pack.new.target c.pack.ensures.target_after c.pack.auto.target
 
 pub returns-in-Err-clause-value : goal.returns-in-Err-clause-value
-unfolding master_by
+unfolding master_by AnswerSays
 returns-in-Err-clause-value c =
-    by_answer c.args.layout c.args.source.now c.args.packed.now c.in_ok-length.length c.in_ok-length.was c.if-length-packed.false c.part.ensures _ c.in-Err.ensures.answer_says
+    by_answer c.args.layout c.args.source.now c.args.packed.now c.in_ok-length.length c.in_ok-length.was c.if-length-packed.false c.part.ensures (Refused _)
+    (bare_said _ _ c.in-Err.ensures.answer_says)
 
 pub returns-in-Err-clause-packed_after : goal.returns-in-Err-clause-packed_after
 returns-in-Err-clause-packed_after c =

@@ -8,7 +8,7 @@ use Rattle.rules.specs.Bytes.{part}
 use Rattle.rules.specs.Verdict.{verdict}
 use Rattle.rules.specs.Outcome.{AnswerSays}
 use Rattle.input.specs.Filled.{Filled}
-use Rattle.mend.proofs.MendingLaws.{judged_sound, judged_fault, marked, sound_fate, sound_stays, mended_fate, refused_fate, mended_over_lem, mended_now}
+use Rattle.mend.proofs.MendingLaws.{judged_sound, judged_fault, judged_mark, sound_fate, sound_stays, mended_fate, refused_fate, mended_over_lem, mended_now}
 use Rattle.mend.proofs.mend_received.Goals as goal
 use Rattle.mend.proofs.mend_received.Goals.{After-judge-judged, After-repair, Then-is_ok}
 
@@ -26,7 +26,7 @@ faulty : (c : After-repair) → verdict c.args.layout (part c.args.buffer.now 0 
 faulty c none = judged_fault c.judge-judged.result (sym c.is_ok.ensures.value ∙ c.if-is_ok.false) (c.judge-judged.ensures ∙ judged_is (goal.at.After-repair c).After-judge-judged ∙ none)
 
 pub returns-then-is_ok-clause-mark_value : goal.returns-then-is_ok-clause-mark_value
-returns-then-is_ok-clause-mark_value c = marked _ _ _ c.in-Some.is _ _ c.judge-judged.ensures c.part.ensures
+returns-then-is_ok-clause-mark_value c = judged_mark _ _ _ c.in-Some.is _ _ c.judge-judged.ensures c.part.ensures
 
 pub returns-then-is_ok-clause-fate_value : goal.returns-then-is_ok-clause-fate_value
 returns-then-is_ok-clause-fate_value c = sound_fate _ _ _ c.in-Some.is (sound c)
@@ -35,7 +35,7 @@ pub returns-then-is_ok-clause-buffer_after : goal.returns-then-is_ok-clause-buff
 returns-then-is_ok-clause-buffer_after c = sound_stays _ _ _ c.in-Some.is (sound c)
 
 pub returns-in-Ok-clause-mark_value : goal.returns-in-Ok-clause-mark_value
-returns-in-Ok-clause-mark_value c = marked _ _ _ c.in-Some.is _ _ c.judge-judged.ensures c.part.ensures
+returns-in-Ok-clause-mark_value c = judged_mark _ _ _ c.in-Some.is _ _ c.judge-judged.ensures c.part.ensures
 
 pub returns-in-Ok-clause-fate_value : goal.returns-in-Ok-clause-fate_value
 unfolding AnswerSays
@@ -53,7 +53,7 @@ returns-in-Ok-clause-sound_now c =
     mended_now _ _ _ c.in-Some.is (faulty at) (inside (goal.at.After-repair at).After-judge-judged) _ c.repair.ensures.meets.left c.repair.auto.image c.in-Ok.ensures.meets.said
 
 pub returns-in-Err-clause-mark_value : goal.returns-in-Err-clause-mark_value
-returns-in-Err-clause-mark_value c = marked _ _ _ c.in-Some.is _ _ c.judge-judged.ensures c.part.ensures
+returns-in-Err-clause-mark_value c = judged_mark _ _ _ c.in-Some.is _ _ c.judge-judged.ensures c.part.ensures
 
 pub returns-in-Err-clause-fate_value : goal.returns-in-Err-clause-fate_value
 unfolding AnswerSays

@@ -115,8 +115,8 @@ reaches_marked : (c : After-mark_descriptor) → 256 * c.from-at.result + 256 �
 reaches_marked c =
     omega (arith, c.from-at.ensures, reaches _ _ _ _ _ c.requires.1 _ (there (goal.at.After-mark_descriptor c).In_ok-place), c.mark_descriptor.auto.image)
 
-pub slice_bounds-copy_from_slice-end : goal.slice_bounds-copy_from_slice-end
-slice_bounds-copy_from_slice-end c = omega (arith, reaches_marked (goal.at.slice_bounds-copy_from_slice-end c).After-mark_descriptor)
+pub slice_bounds-copy-end : goal.slice_bounds-copy-end
+slice_bounds-copy-end c = omega (arith, reaches_marked (goal.at.slice_bounds-copy-end c).After-mark_descriptor)
 
 -- what is written and what is listed, by either rule
 module _ (layout : Layout) (image bytes : List ℕ) (offset k place : ℕ) (is : place ≡ get_or (places_in image k) offset 0) where
@@ -146,6 +146,6 @@ returns c =
     let third = lt-leb (sectors_of (sector_of a.image.now a.k)) a.offset (low _ _ _ _ _ c.requires.1 _ here) in
     let whole = eq-eqb _ _ c.if-bytes-ne256.false in
     let both = done_meets a.image.now _ _ (overwrite_writes a.layout a.image.now a.offset a.bytes.now a.k) _ _ refl
-    (left_is _ _ _ _ _ _ is _ _ _ c.from-at.ensures (rw c.from.ensures at c.mark_descriptor.ensures) c.copy_from_slice.ensures.after c.if-bytes-ne256.false (reaches_marked (goal.at.returns c).After-mark_descriptor))
+    (left_is _ _ _ _ _ _ is _ _ _ c.from-at.ensures (rw c.from.ensures at c.mark_descriptor.ensures) c.copy.ensures c.if-bytes-ne256.false (reaches_marked (goal.at.returns c).After-mark_descriptor))
     (c.list_overwrite.ensures ∙ ap (splice _ 1) (order_is _ _ _ _ _ _ is)) in
     record { meets = rw (first, second, third, whole) both.0; order = rw (first, second, third, whole) both.1 }

@@ -6,6 +6,7 @@ use Rattle.rules.specs.Calls.Listing.{kind_length}
 use Rattle.rules.specs.declared.Row.{Row}
 use Rattle.rules.proofs.Tests.{unless_passed}
 use Rattle.rules.proofs.Outcome.{behind_given}
+use Rattle.rules.proofs.Refusals.{bare_said}
 use Rattle.pnoelithe.specs.Crossing.{kind_number, flag}
 use Rattle.pnoelithe.proofs.Crossings.{refused_kept, flag_is}
 use Rattle.pnoelithe.proofs.pno_entry.Goals as goal
@@ -14,7 +15,7 @@ pub returns-in-Err : goal.returns-in-Err
 unfolding AnswerSays
 returns-in-Err c =
     let gives = c.entry.ensures in
-    let said = rw c.in-Err.is at gives.said.said in
+    let said = bare_said _ _ (rw c.in-Err.is at gives.said.said) in
     let number = c.from-in-Err.ensures in
     record {
       header = rw (← c.layout_of.ensures, number) (record { returned = said.0; left = gives.left });

@@ -3,4 +3,4 @@ use Rattle.pnoelithe.proofs.pno_free_count.Goals as goal
 
 pub returns : goal.returns
 returns c =
-    rw (← c.layout_of.ensures) (c.amount_number.ensures _ c.free_count.ensures)
+    rw (← c.layout_of.ensures) (c.amount_number.ensures.0 _ c.free_count.ensures)

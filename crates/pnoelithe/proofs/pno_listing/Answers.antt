@@ -4,5 +4,5 @@ use Rattle.pnoelithe.proofs.pno_listing.Goals as goal
 pub returns : goal.returns
 returns c =
     let called = c.listing.ensures in
-    let crossed = c.amount_number.ensures _ called.said in
+    let crossed = c.amount_number.ensures.0 _ called.said in
     record { bytes = rw (← c.layout_of.ensures) (record { returned = crossed.returned; left = called.left }); size = rw (← c.layout_of.ensures) (crossed) }

@@ -2,4 +2,4 @@
 use Rattle.pnoelithe.proofs.pno_pack.Goals as goal
 
 pub returns : goal.returns
-returns c = rw (← c.layout_of.ensures) (c.answer_number.ensures _ c.pack.ensures.answer_says, c.pack.ensures.target_after)
+returns c = rw (← c.layout_of.ensures) (c.answer_number.ensures.0 _ c.pack.ensures.answer_says, c.pack.ensures.target_after)

@@ -5,6 +5,6 @@ use Rattle.pnoelithe.proofs.pno_repair.Goals as goal
 pub returns : goal.returns
 returns c =
     record {
-      image = rw (← c.layout_of.ensures) (record { returned = c.answer_number.ensures _ c.repair.ensures.meets.said; left = c.repair.ensures.meets.left });
+      image = rw (← c.layout_of.ensures) (record { returned = c.answer_number.ensures.0 _ c.repair.ensures.meets.said; left = c.repair.ensures.meets.left });
       changes = rw (← c.layout_of.ensures) (listed_crosses _ _ _ _ c.list_none.ensures c.repair.ensures.order);
     }

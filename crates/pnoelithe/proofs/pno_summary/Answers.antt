@@ -2,6 +2,7 @@
 use mathlib.Core.Path.{refl, sym, ◌∙◌}
 use Rattle.rules.specs.Calls.Summary.{SummarySays}
 use Rattle.rules.proofs.Outcome.{behind_given}
+use Rattle.rules.proofs.Refusals.{bare_said}
 use Rattle.pnoelithe.proofs.Crossings.{refused_kept}
 use Rattle.pnoelithe.proofs.pno_summary.Goals as goal
 
@@ -9,7 +10,7 @@ pub returns-in-Err : goal.returns-in-Err
 unfolding SummarySays
 returns-in-Err c =
     let gives = c.summary.ensures in
-    let said = rw c.in-Err.is at gives.said in
+    let said = bare_said _ _ (rw c.in-Err.is at gives.said) in
     let number = c.from.ensures in
     record {
       name = rw (← c.layout_of.ensures, number) (record { returned = said.0; left = gives.left });

@@ -1,8 +1,7 @@
 -- `storing::spread` meets its contract. The loop's invariant: what is left to take gives, with what is taken, what all of it gives. Assumes nothing.
-use mathlib.Core.Path.{◌≡◌, ap, ◌∙◌}
+use mathlib.Core.Path.{◌≡◌}
 use Prim.Native.Nat.{◌+◌, ◌-◌, ◌<◌}
 use native.Mathlib.Omega.{arith}
-use Rattle.rules.specs.Map.{marked}
 use Rattle.extension.proofs.Tips.{tip_none}
 use Rattle.storing.proofs.Spreading.{spreading_first, too_many_blocks, room_for, spreading_on, all_taken}
 use Rattle.storing.proofs.spread.Goals as goal
@@ -25,18 +24,18 @@ with-requires c =
 
 pub returns-then-with-gt76 : goal.returns-then-with-gt76
 returns-then-with-gt76 c =
-    too_many_blocks c.loop.invariant (more (goal.at.returns-then-with-gt76 c).After-next-search) c.next-search.ensures.0 (rw c.from-k.ensures at c.with.ensures) c.if-with-gt76.true
+    too_many_blocks c.loop.invariant (more (goal.at.returns-then-with-gt76 c).After-next-search) c.next-search.ensures.0 c.with.ensures c.if-with-gt76.true
 
 pub extend-tip-requires : goal.extend-tip-requires
 extend-tip-requires c =
-    rw c.from-k.ensures (room_for c.loop.invariant (more (goal.at.extend-tip-requires c).After-next-search) c.next-search.ensures.0 c.requires.1 (rw c.from-k.ensures at c.with.ensures) c.if-with-gt76.false)
+    room_for c.loop.invariant (more (goal.at.extend-tip-requires c).After-next-search) c.next-search.ensures.0 c.requires.1 c.with.ensures c.if-with-gt76.false
 
 pub loop-preserved : goal.loop-preserved
 loop-preserved c =
     let l = c.loop in
     let one_less : c.args.many - l.counter - 1 ≡ c.args.many - (l.counter + 1) = omega arith in
-    rw (c.mark.ensures ∙ ap (marked 1 l.sector0) c.from-k.ensures, ← one_less)
-    (spreading_on l.invariant (more (goal.at.loop-preserved c).After-next-search) c.next-search.ensures.0 c.next-search.ensures.1 (rw c.from-k.ensures at c.extend-tip.ensures) (λ i. omega (arith, c.type_inv.chain i)))
+    rw (c.mark.ensures, ← one_less)
+    (spreading_on l.invariant (more (goal.at.loop-preserved c).After-next-search) c.next-search.ensures.0 c.next-search.ensures.1 c.extend-tip.ensures (λ i. omega (arith, c.type_inv.chain i)))
 
 pub returns : goal.returns
 returns c = all_taken c.loop.invariant (omega (arith, c.loop-test.false))

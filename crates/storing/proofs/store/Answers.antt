@@ -1,5 +1,5 @@
 -- `storing::store` meets its contract: a refusal of the opener is passed on, and so is what is said where the name is there or is not. Assumes nothing.
-use mathlib.Core.Path.{◌≡◌, refl, sym}
+use mathlib.Core.Path.{◌≡◌, sym}
 use Rattle.rules.specs.Opening.{open_of}
 use Rattle.rules.specs.Calls.Store.{store_of}
 use Rattle.rules.specs.Answers.Opened.{Absent}

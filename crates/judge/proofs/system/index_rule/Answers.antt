@@ -15,7 +15,7 @@ returns-then-k-lt2 c = rw (← c.loop-k.invariant.rule, c.in-Some.ensures.steps,
 
 pub returns-then-from-n : goal.returns-then-from-n
 unfolding index_rule range_rule
-returns-then-from-n c = rw (← c.loop-k.invariant.rule, c.in-Some.ensures.steps, ← c.from.ensures, le-leb 2 c.from.result (omega arith), le-ltb _ _ c.if-from-n.true)
+returns-then-from-n c = rw (← c.loop-k.invariant.rule, c.in-Some.ensures.steps, ← c.from.ensures, le-leb 2 c.from.result (omega arith), le-ltb c.from.result c.args.n (omega (arith, c.if-from-n.true)))
 
 pub overflow_add-at : goal.overflow_add-at
 overflow_add-at c = omega (arith, c.loop-k.invariant.behind, ap length c.in-Some.ensures.steps, numbers_inside c.args.index.now)
