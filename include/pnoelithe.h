@@ -194,7 +194,7 @@ enum pno_layout {
  * PNO_DIRECTORIES every index of it, is tested for 1, then for 2, and so on. A status with bit 10 hex is 4
  * without PNO_MARKS, and not with it.
  *
- * Stack: at most 440 bytes.
+ * Stack: at most 424 bytes.
  */
 uint32_t pno_judge(const uint8_t *image, size_t image_len, uint32_t layout);
 
@@ -214,7 +214,7 @@ uint32_t pno_format(uint8_t *image, size_t image_len, size_t n, const uint8_t *n
  * the system, the directories and the files hold.
  *
  * Numbers: 1 to 6.
- * Stack: at most 472 bytes.
+ * Stack: at most 456 bytes.
  */
 uint32_t pno_free_count(const uint8_t *image, size_t image_len, uint32_t layout, size_t *free_sectors);
 
@@ -223,7 +223,7 @@ uint32_t pno_free_count(const uint8_t *image, size_t image_len, uint32_t layout,
  * files are those of the root and of all directories together.
  *
  * Numbers: 1 to 6.
- * Stack: at most 520 bytes.
+ * Stack: at most 488 bytes.
  */
 uint32_t pno_summary(const uint8_t *image, size_t image_len, uint32_t layout, uint8_t name[PNO_NAME_BYTES],
                      size_t *n, size_t *files, size_t *free_sectors);
@@ -261,7 +261,7 @@ uint32_t pno_entry(const uint8_t *image, size_t image_len, uint32_t layout, size
  * Reads a sector of a file of any kind, protected or not: its 256 bytes. Offsets count from 0.
  *
  * Numbers: 1 to 6; 7; 8; 15 for an offset past the last sector, or where out_len is below PNO_SECTOR_BYTES.
- * Stack: at most 632 bytes.
+ * Stack: at most 616 bytes.
  */
 uint32_t pno_read(const uint8_t *image, size_t image_len, uint32_t layout, size_t directory,
                   const uint8_t *name, size_t name_len, size_t offset, uint8_t *out, size_t out_len,
@@ -272,7 +272,7 @@ uint32_t pno_read(const uint8_t *image, size_t image_len, uint32_t layout, size_
  *
  * Numbers: 1 to 6; 7; 8; 14; 15 where out_len is below the program's length, which is at most
  * PNO_LOADED_MOST.
- * Stack: at most 712 bytes.
+ * Stack: at most 680 bytes.
  */
 uint32_t pno_load(const uint8_t *image, size_t image_len, uint32_t layout, size_t directory,
                   const uint8_t *name, size_t name_len, uint8_t *out, size_t out_len, size_t *length,
@@ -287,7 +287,7 @@ uint32_t pno_load(const uint8_t *image, size_t image_len, uint32_t layout, size_
  *
  * Numbers: 1 to 6; 8 for no such directory; 15 where out_len is below the text's length, which is at most
  * PNO_LISTING_MOST.
- * Stack: at most 520 bytes.
+ * Stack: at most 504 bytes.
  */
 uint32_t pno_listing(const uint8_t *image, size_t image_len, uint32_t layout, size_t directory, uint8_t *out,
                      size_t out_len, size_t *length);
@@ -342,7 +342,7 @@ struct pno_changes {
  *
  * Writes: descriptor, sector 0, index.
  * Numbers: 1 to 6; 7; 8 for no such directory; 9; 15 for another status; 11; 12.
- * Stack: at most 952 bytes.
+ * Stack: at most 920 bytes.
  */
 uint32_t pno_create(uint8_t *image, size_t image_len, uint32_t layout, size_t directory, const uint8_t *name,
                     size_t name_len, uint8_t status, uint8_t record_length, uint8_t records_per_sector,
@@ -356,7 +356,7 @@ uint32_t pno_create(uint8_t *image, size_t image_len, uint32_t layout, size_t di
  * Writes: the sector, sector 0, descriptor.
  * Numbers: 1 to 6; 7; 8; 10; 14 for a program; 15 where data_len is not PNO_SECTOR_BYTES; 12; 13, which is
  * not due where the sector that is taken follows the file's last one.
- * Stack: at most 1,256 bytes.
+ * Stack: at most 1,240 bytes.
  */
 uint32_t pno_append(uint8_t *image, size_t image_len, uint32_t layout, size_t directory, const uint8_t *name,
                     size_t name_len, const uint8_t *data, size_t data_len, size_t *wrong,
@@ -369,7 +369,7 @@ uint32_t pno_append(uint8_t *image, size_t image_len, uint32_t layout, size_t di
  * Writes: the sector; with PNO_MARKS descriptor, the sector.
  * Numbers: 1 to 6; 7; 8; 10; 14 for a program; 15 for an offset past the last sector, or where data_len is
  * not PNO_SECTOR_BYTES.
- * Stack: at most 648 bytes.
+ * Stack: at most 632 bytes.
  */
 uint32_t pno_overwrite(uint8_t *image, size_t image_len, uint32_t layout, size_t directory,
                        const uint8_t *name, size_t name_len, size_t offset, const uint8_t *data,
@@ -385,7 +385,7 @@ uint32_t pno_overwrite(uint8_t *image, size_t image_len, uint32_t layout, size_t
  * Writes: the program's sectors in the order of the file, descriptor, sector 0, index.
  * Numbers: 1 to 6; 7; 8 for no such directory; 9; 15 where bytes_len is above PNO_PROGRAM_MOST; 11; 12, the
  * descriptor's sector being counted; 13.
- * Stack: at most 1,336 bytes.
+ * Stack: at most 1,320 bytes.
  */
 uint32_t pno_store(uint8_t *image, size_t image_len, uint32_t layout, size_t directory, const uint8_t *name,
                    size_t name_len, const uint8_t *bytes, size_t bytes_len, size_t *wrong,
@@ -397,7 +397,7 @@ uint32_t pno_store(uint8_t *image, size_t image_len, uint32_t layout, size_t dir
  *
  * Writes: index, sector 0.
  * Numbers: 1 to 6; 7; 8; 10.
- * Stack: at most 1,176 bytes.
+ * Stack: at most 1,160 bytes.
  */
 uint32_t pno_delete(uint8_t *image, size_t image_len, uint32_t layout, size_t directory, const uint8_t *name,
                     size_t name_len, size_t *wrong, struct pno_changes *changes);
@@ -421,7 +421,7 @@ uint32_t pno_rename(uint8_t *image, size_t image_len, uint32_t layout, size_t di
  *
  * Writes: descriptor.
  * Numbers: 1 to 6; 7; 8.
- * Stack: at most 616 bytes.
+ * Stack: at most 600 bytes.
  */
 uint32_t pno_protect(uint8_t *image, size_t image_len, uint32_t layout, size_t directory, const uint8_t *name,
                      size_t name_len, size_t *wrong, struct pno_changes *changes);
@@ -435,7 +435,7 @@ uint32_t pno_unprotect(uint8_t *image, size_t image_len, uint32_t layout, size_t
  *
  * Writes: descriptor.
  * Numbers: 1 to 6; 7; 8.
- * Stack: at most 616 bytes.
+ * Stack: at most 600 bytes.
  */
 uint32_t pno_clear_mark(uint8_t *image, size_t image_len, uint32_t layout, size_t directory,
                         const uint8_t *name, size_t name_len, size_t *wrong, struct pno_changes *changes);
@@ -472,7 +472,7 @@ uint32_t pno_repair(uint8_t *image, size_t image_len, uint32_t layout, struct pn
  * changes nothing. The source is read, by the layout, and never changed.
  *
  * Numbers: 1 to 6 for the source; 15 where target_len is not source_len.
- * Stack: at most 888 bytes.
+ * Stack: at most 872 bytes.
  */
 uint32_t pno_pack(const uint8_t *source, size_t source_len, uint32_t layout, uint8_t *target,
                   size_t target_len);
