@@ -57,6 +57,7 @@ fn delete_at(
     Ok(())
 }
 
+#[tactic(auto, using(rules::proofs::Opening::changing_misnamed, rules::proofs::Opening::open_misnamed, rules::proofs::Splice::splice_none), unfolding(rules::specs::Outcome::NamedSays, rules::specs::Outcome::order_of, rules::specs::Sectors::written, rules::specs::Calls::Delete::delete_of))]
 pub fn delete(
     layout: Layout,
     image: &mut [u8],

@@ -9,7 +9,7 @@ use crate::marks::take;
 use descriptor::chain::places_of;
 use rules::Layout;
 use sector::bytes::{part, sector_in};
-use sector::directories::indexes_of;
+use sector::directories::{directory_count, index_at};
 use sector::numbers::numbers_of;
 
 // How many of the `left` sectors behind sector k are taken with it: those that share its byte of the marks.
@@ -57,7 +57,10 @@ pub fn claim_holders(layout: Layout, image: &[u8], marks: &mut [u8; 200]) -> boo
     ensures value { result ≡ clashes (as_map marks.old) (claims image.now (indexes layout image.now)) }
     ensures marks_after { result ≡ false → as_map marks.new ≡ marked_all 1 (as_map marks.old) (claims image.now (indexes layout image.now)) }
 {
-    for i in indexes_of(layout, image) {
+    for directory in 0..directory_count(layout) {
+        let Some(i) = index_at(layout, image, directory) else {
+            continue;
+        };
         let i = usize::from(i);
         if !take(marks, i, 0) {
             return true;

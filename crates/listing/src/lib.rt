@@ -18,6 +18,7 @@ use rules::{Layout, Refusal};
 use sector::directories::index_at;
 
 // The text is laid down twice, first where there is no room, which gives its length: nothing is written where it does not fit.
+#[tactic(auto, using(rules::proofs::Listing::listing_unsound, rules::proofs::Splice::splice_none), unfolding(rules::specs::Outcome::AmountSays))]
 pub fn listing(
     layout: Layout,
     image: &[u8],

@@ -70,7 +70,7 @@ struct Mending {
 }
 
 // Mends what was read, where it stands.
-#[tactic(auto, unfolding(crate::specs::Mending::SoundNow, crate::specs::Mending::fate_of, crate::specs::Mending::mended_over, input::specs::Mark::mark_of, console::specs::Mark::digit_of))]
+#[tactic(auto, using(crate::proofs::MendingLaws::sound_by_mark, crate::proofs::MendingLaws::stays_by_mark, crate::proofs::MendingLaws::judged_sound), unfolding(crate::specs::Mending::SoundNow, crate::specs::Mending::fate_of, crate::specs::Mending::mended_over, input::specs::Mark::mark_of, console::specs::Mark::digit_of))]
 fn mend_received(layout: Layout, received: Option<usize>, buffer: &mut [u8]) -> Mending
     requires { Filled received buffer.old }
     ensures mark_value { digit_of result.mark ≡ mark_of layout received buffer.old }

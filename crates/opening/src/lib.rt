@@ -38,7 +38,9 @@ pub fn in_directory(
 ) -> Result<Looked, Refusal>
     ensures { opened result ≡ in_directory layout image.now directory name.now }
 {
-    let index = index_at(layout, image, directory).ok_or(Refusal::Absent)?;
+    let Some(index) = index_at(layout, image, directory) else {
+        return Err(Refusal::Absent);
+    };
     let file = find_in(image, index, name);
     Ok(Looked { index, file })
 }

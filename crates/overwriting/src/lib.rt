@@ -51,10 +51,14 @@ fn overwrite_at(
     if descriptor.is_program() {
         return Err(Refusal::OtherKind);
     }
-    let place = place_at(descriptor.chain(), offset).ok_or(Refusal::Argument)?;
+    if offset >= usize::from(descriptor.sectors()) {
+        return Err(Refusal::Argument);
+    }
     if bytes.len() != 256 {
         return Err(Refusal::Argument);
     }
+    // An offset below the count has a place.
+    let place = place_at(descriptor.chain(), offset).unwrap_or(0);
     let at = 256 * usize::from(place);
     let end = at + 256;
     mark_descriptor(layout, image, usize::from(k));

@@ -1,5 +1,5 @@
 -- What is left of the directories, from one on: a directory's index and those behind it, or nothing.
-use mathlib.Core.Path.{◌≡◌}
+use mathlib.Core.Path.{◌≡◌, refl, ap, ◌∙◌}
 use mathlib.Core.Logic.{◌⊎◌, inl, inr}
 use mathlib.Core.List.{List, [], ◌∷◌}
 use Prim.Native.Nat.{ℕ, ◌+◌, ◌≤◌, ◌<◌}
@@ -10,7 +10,10 @@ use lib.ListN.{length, drop, drop_of_length-le, get_or-eq_default}
 use lib.Seq.{drop-cons}
 use Rattle.rules.specs.Volume.{directories, index_at}
 use Rattle.rules.specs.declared.Layout.{Layout}
-use Rattle.sector.proofs.DirectoryLaws.{directories_few}
+use Rattle.std.specs.Prelude.{Option, None, Some}
+use Rattle.sector.specs.Directories.{some_index, indexes_from}
+use Rattle.sector.proofs.DirectoryLaws.{directories_few, from_absent, from_there}
+use Rattle.sector.proofs.IndexLaws.{there_none, there_some}
 
 module _ (layout : Layout) (image : List ℕ) where
   abbrev pub left : ℕ → List ℕ
@@ -33,3 +36,14 @@ module _ (layout : Layout) (image : List ℕ) where
 
   pub left_end : (directory : ℕ) → 4 ≤ directory → left directory ≡ []
   left_end directory past = drop_of_length-le (directories layout image) {i = directory} (omega (arith, directories_few layout image))
+
+  -- what was found at a directory, by a number that is its own
+  module _ (directory : ℕ) {number : ℕ} (same : number ≡ directory) {found : Option ℕ} (is : found ≡ some_index (index_at layout image number)) where
+    own : found ≡ some_index (index_at layout image directory)
+    own = is ∙ ap (λ (d : ℕ). some_index (index_at layout image d)) same
+
+    pub found_here : {i : ℕ} → found ≡ Some i → indexes_from layout image directory ≡ i ∷ indexes_from layout image (directory + 1)
+    found_here some = let there = there_some _ _ _ own some in from_there _ _ _ _ there.0 there.1
+
+    pub found_none : found ≡ None → indexes_from layout image directory ≡ indexes_from layout image (directory + 1)
+    found_none none = from_absent _ _ _ _ refl (there_none _ _ own none)

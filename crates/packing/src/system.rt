@@ -11,7 +11,7 @@ ghost use Rattle.rules.specs.Calls.Pack.{label_area, packed_label, packed_indexe
 use rules::Layout;
 use sector::buffer::lay;
 use sector::bytes::{part, sector_of};
-use sector::directories::{index_at, indexes_of};
+use sector::directories::index_at;
 use sector::numbers::{lay_number, numbers_of};
 
 // The label, over the front of the target. Gives the sector behind the indexes.
@@ -54,10 +54,12 @@ pub(crate) fn lay_indexes(layout: Layout, source: &[u8], target: &mut [u8], firs
 {
     let mut next = first;
     let mut to = 256;
-    for i in indexes_of(layout, source) {
-        let end = to + 256;
-        next = lay_index(&mut target[to..end], sector_of(source, i), next);
-        to = end;
+    for directory in 0..4 {
+        if let Some(i) = index_at(layout, source, directory) {
+            let end = to + 256;
+            next = lay_index(&mut target[to..end], sector_of(source, i), next);
+            to = end;
+        }
     }
     next
 }

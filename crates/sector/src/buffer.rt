@@ -35,13 +35,8 @@ pub fn lay_fill(buffer: &mut [u8], at: usize, many: usize, value: u8)
     if at >= buffer.len() {
         return;
     }
-    let room = buffer.len() - at;
-    if many <= room {
-        let end = at + many;
-        buffer[at..end].fill(value);
-        return;
-    }
-    buffer[at..].fill(value);
+    let end = at + usize::min(many, buffer.len() - at);
+    buffer[at..end].fill(value);
 }
 
 // A whole sector of the image.

@@ -29,19 +29,19 @@ piece_laid image at piece laid after short first second =
     second ∙ ap (λ (l : List ℕ). splice l (at + length piece) (replicate (256 - length piece) 0)) first ∙ splice_append image at piece _ ∙ ap (splice image at) (padded 256 piece short)
 
 -- a sector written with the bytes from `at` on, of which 256 zeros have room for 256: the rest goes to the sectors behind it
-pub piece_written : (image bytes : List ℕ) (at : ℕ) {later piece all ks : List ℕ} {k : ℕ} → all ≡ k ∷ ks → piece ≡ part bytes at 256 → later ≡ splice image (256 * k) (over (replicate 256 0) piece)
+pub piece_written : (image bytes : List ℕ) (at : ℕ) {from k : ℕ} {later piece all ks : List ℕ} → all ≡ k ∷ ks → piece ≡ part bytes from 256 → later ≡ splice image (256 * k) (over (replicate 256 0) piece) → from ≡ at
     → written later (data_writes (drop (at + 256) bytes) ks) ≡ written image (data_writes (drop at bytes) all)
 unfolding written data_writes splice
-piece_written image bytes at ahead piece_is later-is =
+piece_written image bytes at ahead piece_is later-is from_is =
     let cut = splice_cut (replicate 256 0) 0 (drop at bytes) 256 (omega (arith, length-replicate {A = ℕ} 256 0)) in
-    rw (ahead, later-is, piece_is, cut, drop-drop 256 at bytes)
+    rw (ahead, later-is, piece_is, from_is, cut, drop-drop 256 at bytes)
 
 pub none_written : {image all : List ℕ} (bytes : List ℕ) → all ≡ [] → written image (data_writes bytes all) ≡ image
 unfolding written data_writes
 none_written bytes none = rw none
 
 -- and listed at the place of its number: those behind it follow
-pub place_listed : (changes : List ℕ) (at : ℕ) {all ks : List ℕ} {k : ℕ} → all ≡ k ∷ ks → splice (set changes (2 + at) k) (2 + (at + 1)) ks ≡ splice changes (2 + at) all
-place_listed changes at {ks = ks} {k = k} ahead =
+pub place_listed : (changes : List ℕ) (at : ℕ) {place k : ℕ} {all ks : List ℕ} → all ≡ k ∷ ks → place ≡ 2 + at → splice (set changes place k) (2 + (at + 1)) ks ≡ splice changes (2 + at) all
+place_listed changes at {k = k} {ks = ks} ahead place_is =
     let further : 2 + (at + 1) ≡ 2 + at + 1 = omega arith in
-    rw (ahead, further, set-splice changes (2 + at) k) (splice_append changes (2 + at) (k ∷ []) ks)
+    rw (ahead, place_is, further, set-splice changes (2 + at) k) (splice_append changes (2 + at) (k ∷ []) ks)

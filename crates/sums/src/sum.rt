@@ -6,7 +6,7 @@ ghost use Rattle.sums.specs.Sum.{prime, sum_of};
 const PRIME: u64 = 71999999999999857;
 
 // The bytes as one number, high byte first and a one in front of them, modulo the prime.
-#[tactic(auto, using(crate::proofs::SumSteps::sum_step, crate::proofs::SumSteps::sum_end))]
+#[tactic(auto, using(crate::proofs::SumSteps::sum_step, crate::proofs::SumSteps::sum_end, crate::proofs::SumSteps::part_whole))]
 pub fn sum_of(bytes: &[u8]) -> u64
     ensures { (result ≡ sum_of bytes.now) × (result < prime) }
 {

@@ -1,12 +1,14 @@
 -- `judge::judge` meets its contract: each way out gives the number of the first test that failed, the tests before it having passed. What the marks say of holders and map
 -- are laws of the claims. Assumes nothing.
 use mathlib.Core.Path.{◌≡◌, refl, sym, ap, ◌∙◌}
-use mathlib.Core.Bool.{true}
+use mathlib.Core.Bool.{Bool, true}
 use mathlib.Core.List.{List}
 use Prim.Native.Nat.{ℕ, ◌%◌, ◌/◌, ◌≤◌}
 use native.Mathlib.Omega.{arith}
-use lib.ListN.{length}
+use lib.ListN.{length, take}
+use lib.Seq.{take_all}
 use borrow.Author.Tests.{eq-eqb, ne_eqb, le-leb, lt-leb}
+use Rattle.rules.specs.Bytes.{same}
 use Rattle.rules.specs.Sectors.{sector_of, sector_count}
 use Rattle.rules.specs.Label.{label_rule}
 use Rattle.rules.specs.Map.{map_rule}
@@ -63,11 +65,17 @@ twice_is c = judged_twice _ _ _ c.lay_map.ensures (passed (goal.at.After-claim_h
 long : (c : After-claim_holders) → length c.claim_holders.new.marks ≡ 200
 long c = omega arith
 
+-- by marks that are these
+compared : (first : List ℕ) {said : Bool} {second marks : List ℕ} → said ≡ same first second → second ≡ marks → said ≡ same first marks
+compared first is whole = is ∙ ap (same first) whole
+
 map_is : (c : After-same) →
     map_rule (sector_count c.args.image.now) (holders c.args.layout c.args.image.now) (sector_of c.args.image.now 0) ≡ c.same.result
 map_is c =
-    sym (c.same.ensures
-    ∙ judged_map _ _ _ c.lay_map.ensures (passed (goal.at.After-same c).Else-not-catalogues_rule) _ c.claim_holders.ensures.value c.if-claim_holders.false _ (c.claim_holders.ensures.marks_after c.if-claim_holders.false) (long (goal.at.After-same c).After-claim_holders) _ _
+    let marks = long (goal.at.After-same c).After-claim_holders in
+    let all : take 200 c.claim_holders.new.marks ≡ c.claim_holders.new.marks = take_all 200 _ (omega (arith, marks)) in
+    sym (compared _ {marks = c.claim_holders.new.marks} c.same.ensures (cc)
+    ∙ judged_map _ _ _ c.lay_map.ensures (passed (goal.at.After-same c).Else-not-catalogues_rule) _ c.claim_holders.ensures.value c.if-claim_holders.false _ (c.claim_holders.ensures.marks_after c.if-claim_holders.false) marks _ _
     c.part.ensures c.sector_in-sector0.ensures (λ i. omega (arith, c.type_inv.image i)))
 
 pub returns-then-image-ne0 : goal.returns-then-image-ne0

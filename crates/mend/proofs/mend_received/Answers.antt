@@ -1,16 +1,17 @@
 -- `mend::mend_received` meets its contract: by what the judge says of the image, and where it is not sound by what repair answers and leaves in the part of the buffer that is lent to it.
 -- Assumes nothing.
-use mathlib.Core.Path.{◌≡◌, sym, ap, subst, ◌∙◌}
-use Rattle.std.specs.Prelude.{Option}
+use mathlib.Core.Path.{◌≡◌, ap, subst, ◌∙◌}
+use mathlib.Core.Bool.{false}
+use Rattle.std.specs.Prelude.{Option, is_ok}
 use Prim.Native.Nat.{ℕ, ◌≤◌}
 use lib.ListN.{length}
 use Rattle.rules.specs.Bytes.{part}
 use Rattle.rules.specs.Verdict.{verdict}
 use Rattle.rules.specs.Outcome.{AnswerSays}
 use Rattle.input.specs.Filled.{Filled}
-use Rattle.mend.proofs.MendingLaws.{judged_sound, judged_fault, judged_mark, sound_fate, sound_stays, mended_fate, refused_fate, mended_over_lem, mended_now}
+use Rattle.mend.proofs.MendingLaws.{judged_fault, judged_mark, mended_fate, refused_fate, mended_over_lem, mended_now}
 use Rattle.mend.proofs.mend_received.Goals as goal
-use Rattle.mend.proofs.mend_received.Goals.{After-judge-judged, After-repair, Then-is_ok}
+use Rattle.mend.proofs.mend_received.Goals.{After-judge-judged, After-repair}
 
 -- what was judged is what was read
 judged_is : (c : After-judge-judged) → verdict c.args.layout c.part.result.now ≡ verdict c.args.layout (part c.args.buffer.now 0 c.in-Some.length)
@@ -19,20 +20,10 @@ judged_is c = ap (verdict c.args.layout) c.part.ensures
 inside : (c : After-judge-judged) → c.in-Some.length ≤ length c.args.buffer.now
 inside c = (subst (λ (r : Option ℕ). Filled r c.args.buffer.now) c.in-Some.is c.requires).0
 
-sound : (c : Then-is_ok) → verdict c.args.layout (part c.args.buffer.now 0 c.in-Some.length) ≡ 0
-sound c = rw (← judged_is (goal.at.Then-is_ok c).After-judge-judged, ← c.judge-judged.ensures) (judged_sound _ (sym c.is_ok.ensures.value ∙ c.if-is_ok.true))
-
 faulty : (c : After-repair) → verdict c.args.layout (part c.args.buffer.now 0 c.in-Some.length) ≡ 0 → ⊥
-faulty c none = judged_fault c.judge-judged.result (sym c.is_ok.ensures.value ∙ c.if-is_ok.false) (c.judge-judged.ensures ∙ judged_is (goal.at.After-repair c).After-judge-judged ∙ none)
-
-pub returns-then-is_ok-clause-mark_value : goal.returns-then-is_ok-clause-mark_value
-returns-then-is_ok-clause-mark_value c = judged_mark _ _ _ c.in-Some.is _ _ c.judge-judged.ensures c.part.ensures
-
-pub returns-then-is_ok-clause-fate_value : goal.returns-then-is_ok-clause-fate_value
-returns-then-is_ok-clause-fate_value c = sound_fate _ _ _ c.in-Some.is (sound c)
-
-pub returns-then-is_ok-clause-buffer_after : goal.returns-then-is_ok-clause-buffer_after
-returns-then-is_ok-clause-buffer_after c = sound_stays _ _ _ c.in-Some.is (sound c)
+faulty c none =
+    let other : is_ok c.judge-judged.result ≡ false = cc in
+    judged_fault c.judge-judged.result other (c.judge-judged.ensures ∙ judged_is (goal.at.After-repair c).After-judge-judged ∙ none)
 
 pub returns-in-Ok-clause-mark_value : goal.returns-in-Ok-clause-mark_value
 returns-in-Ok-clause-mark_value c = judged_mark _ _ _ c.in-Some.is _ _ c.judge-judged.ensures c.part.ensures

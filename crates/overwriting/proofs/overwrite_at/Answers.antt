@@ -1,55 +1,32 @@
 -- `overwriting::overwrite_at` meets its contract: each refusal gives the number of the first test that was met; a place of a sound file is inside the image; by the old rule a descriptor marked where it stands is what it was. Assumes nothing.
 use mathlib.Core.Path.{◌≡◌, refl, sym, ap, ◌∙◌}
-use mathlib.Core.Bool.{true, false, cond}
+use mathlib.Core.Bool.{false, cond}
 use mathlib.Core.List.{List, [], ◌∷◌}
 use Prim.Native.Nat.{ℕ, ◌+◌, ◌-◌, ◌*◌, ◌≤◌, ◌<◌}
 use native.Mathlib.Omega.{arith}
-use native.Mathlib.Decide.{dec_lt}
 use lib.Dec.{leb}
 use lib.ListN.{length, get_or}
 use borrow.Author.Tests.{eq-eqb, ne_eqb, le-leb, lt-leb}
 use borrow.Rule.Slice.PartMut.{put_mid}
-use Rattle.std.specs.Prelude.{None, Some, slice_get}
-use Rattle.std.proofs.lemmas.Option.{none-some, slice_get_within, slice_get-get_or, get_or_from_slice_get}
+use Rattle.std.specs.Prelude.{slice_get, unwrap_or}
+use Rattle.std.proofs.lemmas.Option.{unwrap_or-slice_get}
 use Rattle.rules.specs.Bytes.{splice}
 use Rattle.rules.specs.Sectors.{sectors_in, sector_of, written}
 use Rattle.rules.specs.Kind.{is_program, is_protected}
 use Rattle.rules.specs.Descriptor.{status_of, sectors_of, chain_of, marked_by}
 use Rattle.rules.specs.Chain.{places}
 use Rattle.rules.specs.Volume.{places_in}
-use Rattle.rules.specs.Sound.{IsFile}
 use Rattle.rules.specs.Tests.{first_of, unless_met}
 use Rattle.rules.specs.Outcome.{order_of}
 use Rattle.rules.specs.Calls.Overwrite.{overwrite_tests, overwrite_writes, overwriting}
 use Rattle.rules.specs.declared.Layout.{Layout}
-use Rattle.rules.proofs.Volume.{places_count}
 use Rattle.rules.proofs.Tests.{by_rule}
 use Rattle.rules.proofs.Marks.{overwrite_written}
 use Rattle.rules.proofs.Splice.{put_back}
 use Rattle.rules.proofs.Outcome.{refusal_meets, done_meets}
-use Rattle.rules.proofs.Opening.{in_volume, has_rules, place_in_image}
-use Rattle.rules.proofs.Refusals.{err_is, ok_there, err_absent}
+use Rattle.rules.proofs.Opening.{in_volume, place_in_image}
 use Rattle.overwriting.proofs.overwrite_at.Goals as goal
-use Rattle.overwriting.proofs.overwrite_at.Goals.{After-is_protected, After-is_program, After-mark_descriptor, After-place_at, Else-is_protected, Else-is_program, In_ok-place}
-
--- whether a file has a place of that offset
-module _ (layout : Layout) (image : List ℕ) (i k offset : ℕ) (file : IsFile layout image i k) where
-  past : slice_get (places_in image k) offset ≡ None → leb (sectors_of (sector_of image k)) offset ≡ true
-  past none =
-      elim (dec_lt offset (length (places_in image k))) [
-        | yes h ↦ absurd (none-some _ (sym none ∙ slice_get-get_or (places_in image k) offset 0 h))
-        | no h ↦ le-leb (sectors_of (sector_of image k)) offset (omega (arith, h, places_count _ _ image k (has_rules _ _ _ _ file)))
-      ]
-
-  module _ (place : ℕ) (there : slice_get (places_in image k) offset ≡ Some place) where
-    low : offset < sectors_of (sector_of image k)
-    low = omega (arith, slice_get_within (places_in image k) offset place there, places_count _ _ image k (has_rules _ _ _ _ file))
-
-    place_is : place ≡ get_or (places_in image k) offset 0
-    place_is = sym (get_or_from_slice_get (places_in image k) offset place 0 there)
-
-    reaches : 256 * place + 256 ≤ length image
-    reaches = omega (arith, place_is, place_in_image _ image _ k file offset low)
+use Rattle.overwriting.proofs.overwrite_at.Goals.{After-is_protected, After-is_program, After-from, After-unwrap_or-place, After-mark_descriptor, Else-is_protected, Else-is_program, Else-offset-from}
 
 -- what the tests so far say of the file
 protected_is : (c : After-is_protected) → c.is_protected.result ≡ is_protected (status_of (sector_of c.args.image.now c.args.k))
@@ -64,13 +41,25 @@ open_file c = sym (protected_is (goal.at.Else-is_protected c).After-is_protected
 is_data : (c : Else-is_program) → is_program (status_of (sector_of c.args.image.now c.args.k)) ≡ false
 is_data c = sym (program_is (goal.at.Else-is_program c).After-is_program) ∙ c.if-is_program.false
 
-looked : (c : After-place_at) → c.place_at.result ≡ slice_get (places_in c.args.image.now c.args.k) c.args.offset
-unfolding places_in
-looked c =
-    c.place_at.ensures.value ∙ ap (λ (chain : List ℕ). slice_get (places chain) c.args.offset) (c.chain.ensures ∙ ap chain_of c.descriptor_of-descriptor.ensures)
+count_is : (c : After-from) → sectors_of (sector_of c.args.image.now c.args.k) ≡ c.from.result
+count_is c = ap sectors_of (sym c.descriptor_of-descriptor.ensures) ∙ sym c.sectors.ensures ∙ sym c.from.ensures
 
-there : (c : In_ok-place) → slice_get (places_in c.args.image.now c.args.k) c.args.offset ≡ Some c.in_ok-place.place
-there c = sym (looked (goal.at.In_ok-place c).After-place_at) ∙ ok_there _ c.place_at.result c.in_ok-place.place c.in_ok-place.ensures.value
+inside : (c : Else-offset-from) → c.args.offset < sectors_of (sector_of c.args.image.now c.args.k)
+inside c = omega (arith, count_is (goal.at.Else-offset-from c).After-from, c.if-offset-from.false)
+
+not_past : (c : Else-offset-from) → leb (sectors_of (sector_of c.args.image.now c.args.k)) c.args.offset ≡ false
+not_past c = lt-leb (sectors_of (sector_of c.args.image.now c.args.k)) c.args.offset (inside c)
+
+-- the place of the offset
+place_is : (c : After-unwrap_or-place) → c.unwrap_or-place.result ≡ get_or (places_in c.args.image.now c.args.k) c.args.offset 0
+unfolding places_in
+place_is c =
+    c.unwrap_or-place.ensures
+    ∙ ap (λ o. unwrap_or o 0) (c.place_at.ensures.value ∙ ap (λ (chain : List ℕ). slice_get (places chain) c.args.offset) (c.chain.ensures ∙ ap chain_of c.descriptor_of-descriptor.ensures))
+    ∙ unwrap_or-slice_get (places_in c.args.image.now c.args.k) c.args.offset 0
+
+reaches : (c : After-unwrap_or-place) → 256 * c.unwrap_or-place.result + 256 ≤ length c.args.image.now
+reaches c = omega (arith, place_is c, place_in_image _ c.args.image.now _ c.args.k c.requires.1 c.args.offset (inside (goal.at.After-unwrap_or-place c).Else-offset-from))
 
 pub returns-then-is_protected : goal.returns-then-is_protected
 unfolding overwriting overwrite_tests first_of unless_met
@@ -87,15 +76,15 @@ returns-then-is_program c =
     let both = refusal_meets c.args.image.now c.args.changes.now _ 14 refl refl in
     record { meets = rw (first, test) both.0; order = rw (first, test) both.1 }
 
-pub returns-in_err-place : goal.returns-in_err-place
+pub returns-then-offset-from : goal.returns-then-offset-from
 unfolding overwriting overwrite_tests first_of unless_met
-returns-in_err-place c =
-    let absent = err_absent _ c.place_at.result c.in_err-place.field-0.0 c.in_err-place.ensures.value in
-    let first = open_file (goal.at.returns-in_err-place c).Else-is_protected in
-    let second = is_data (goal.at.returns-in_err-place c).Else-is_program in
-    let test = past _ _ _ _ _ c.requires.1 (sym (looked (goal.at.returns-in_err-place c).After-place_at) ∙ absent.0) in
-    let both = refusal_meets c.args.image.now c.args.changes.now _ 15 refl refl in
-    record { meets = rw (err_is c.from_residual.result _ c.from_residual.ensures.1, absent.1, first, second, test) both.0; order = rw (first, second, test) both.1 }
+returns-then-offset-from c =
+    let a = c.args in
+    let first = open_file (goal.at.returns-then-offset-from c).Else-is_protected in
+    let second = is_data (goal.at.returns-then-offset-from c).Else-is_program in
+    let test = le-leb (sectors_of (sector_of a.image.now a.k)) a.offset (omega (arith, count_is (goal.at.returns-then-offset-from c).After-from, c.if-offset-from.true)) in
+    let both = refusal_meets a.image.now a.changes.now _ 15 refl refl in
+    record { meets = rw (first, second, test) both.0; order = rw (first, second, test) both.1 }
 
 pub returns-then-bytes-ne256 : goal.returns-then-bytes-ne256
 unfolding overwriting overwrite_tests first_of unless_met
@@ -103,17 +92,17 @@ returns-then-bytes-ne256 c =
     let a = c.args in
     let first = open_file (goal.at.returns-then-bytes-ne256 c).Else-is_protected in
     let second = is_data (goal.at.returns-then-bytes-ne256 c).Else-is_program in
-    let third = lt-leb (sectors_of (sector_of a.image.now a.k)) a.offset (low _ _ _ _ _ c.requires.1 _ (there (goal.at.returns-then-bytes-ne256 c).In_ok-place)) in
+    let third = not_past (goal.at.returns-then-bytes-ne256 c).Else-offset-from in
     let test = ne_eqb _ _ c.if-bytes-ne256.true in
     let both = refusal_meets a.image.now a.changes.now _ 15 refl refl in
     record { meets = rw (first, second, third, test) both.0; order = rw (first, second, third, test) both.1 }
 
 pub mark_descriptor-requires : goal.mark_descriptor-requires
-mark_descriptor-requires c = let file = c.requires.1 in omega (arith, c.from.ensures, in_volume _ _ _ _ file, file.sound.whole)
+mark_descriptor-requires c = let file = c.requires.1 in omega (arith, c.from-2.ensures, in_volume _ _ _ _ file, file.sound.whole)
 
 reaches_marked : (c : After-mark_descriptor) → 256 * c.from-at.result + 256 ≤ length c.mark_descriptor.new.image
 reaches_marked c =
-    omega (arith, c.from-at.ensures, reaches _ _ _ _ _ c.requires.1 _ (there (goal.at.After-mark_descriptor c).In_ok-place), c.mark_descriptor.auto.image)
+    omega (arith, c.from-at.ensures, reaches (goal.at.After-mark_descriptor c).After-unwrap_or-place, c.mark_descriptor.auto.image)
 
 pub slice_bounds-copy-end : goal.slice_bounds-copy-end
 slice_bounds-copy-end c = omega (arith, reaches_marked (goal.at.slice_bounds-copy-end c).After-mark_descriptor)
@@ -139,13 +128,12 @@ pub returns : goal.returns
 unfolding overwriting overwrite_tests first_of unless_met
 returns c =
     let a = c.args in
-    let here = there (goal.at.returns c).In_ok-place in
-    let is = place_is _ _ _ _ _ c.requires.1 _ here in
+    let is = place_is (goal.at.returns c).After-unwrap_or-place in
     let first = open_file (goal.at.returns c).Else-is_protected in
     let second = is_data (goal.at.returns c).Else-is_program in
-    let third = lt-leb (sectors_of (sector_of a.image.now a.k)) a.offset (low _ _ _ _ _ c.requires.1 _ here) in
+    let third = not_past (goal.at.returns c).Else-offset-from in
     let whole = eq-eqb _ _ c.if-bytes-ne256.false in
     let both = done_meets a.image.now _ _ (overwrite_writes a.layout a.image.now a.offset a.bytes.now a.k) _ _ refl
-    (left_is _ _ _ _ _ _ is _ _ _ c.from-at.ensures (rw c.from.ensures at c.mark_descriptor.ensures) c.copy.ensures c.if-bytes-ne256.false (reaches_marked (goal.at.returns c).After-mark_descriptor))
+    (left_is _ _ _ _ _ _ is _ _ _ c.from-at.ensures (rw c.from-2.ensures at c.mark_descriptor.ensures) c.copy.ensures c.if-bytes-ne256.false (reaches_marked (goal.at.returns c).After-mark_descriptor))
     (c.list_overwrite.ensures ∙ ap (splice _ 1) (order_is _ _ _ _ _ _ is)) in
     record { meets = rw (first, second, third, whole) both.0; order = rw (first, second, third, whole) both.1 }

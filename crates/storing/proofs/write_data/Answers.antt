@@ -32,8 +32,8 @@ loop-number-preserved c =
     rw (next, c.from.ensures) (
       (step.0.steady, tt, inl (omega (arith, some, is.1, c.requires))),
       omega (arith, some, is.1),
-      rw further (piece_written l.image c.args.bytes.now (256 * number) step.0.is c.part.ensures c.write_piece.ensures) ∙ is.2,
-      place_listed l.changes number step.0.is ∙ is.3,
+      rw further (piece_written l.image c.args.bytes.now (256 * number) step.0.is c.part.ensures c.write_piece.ensures (omega arith)) ∙ is.2,
+      place_listed l.changes number step.0.is (omega arith) ∙ is.3,
     )
 
 pub returns : goal.returns

@@ -1,10 +1,13 @@
 -- `judge::files::chain_rule` meets its contract. The loop's invariant: the blocks that are left keep their rules from file sector `next` on exactly where all do from 0 on,
 -- and with the bytes before `at` they are all. Assumes nothing.
-use mathlib.Core.Path.{◌≡◌, ap}
-use Prim.Native.Nat.{◌*◌}
+use mathlib.Core.Path.{◌≡◌, ap, ◌∙◌}
+use mathlib.Core.Bool.{Bool}
+use mathlib.Core.List.{List}
+use Prim.Native.Nat.{ℕ, ◌*◌}
 use native.Mathlib.Omega.{arith}
-use lib.ListN.{length}
+use lib.ListN.{length, drop}
 use borrow.Author.Tests.{eq-eqb, ne_eqb, le-leb, lt-leb, lt-ltb, le-ltb}
+use Rattle.rules.specs.Bytes.{all_are}
 use Rattle.rules.specs.Chain.{blocks, blocks_rule, chain_rule}
 use Rattle.judge.proofs.ChainSteps.{blocks_inside}
 use Rattle.judge.proofs.files.chain_rule.Goals as goal
@@ -36,8 +39,11 @@ pub returns-then-next-c : goal.returns-then-next-c
 unfolding chain_rule blocks_rule
 returns-then-next-c c = rw (← c.loop-block.invariant.rule, c.in-None.ensures.steps.is.0, ne_eqb _ _ c.if-next-c.true)
 
+-- the bytes from where they are looked at on are those behind the blocks
+behind : (chain : List ℕ) {said : Bool} {from : ℕ} → said ≡ all_are 0 (drop from chain) → from ≡ 3 * length (blocks chain) → said ≡ all_are 0 (drop (3 * length (blocks chain)) chain)
+behind chain is same = is ∙ ap (λ (at : ℕ). all_are 0 (drop at chain)) same
+
 pub returns : goal.returns
 unfolding chain_rule blocks_rule
 returns c =
-    let many : 3 * length (blocks c.args.chain.now) ≡ c.loop-block.at = omega (arith, c.loop-block.invariant.behind, ap length c.in-None.ensures.steps.is.0) in
-    rw (c.all_are.ensures, many, ← c.loop-block.invariant.rule, c.in-None.ensures.steps.is.0, eq-eqb _ _ c.if-next-c.false)
+    rw (behind c.args.chain.now c.all_are.ensures (omega (arith, c.loop-block.invariant.behind, ap length c.in-None.ensures.steps.is.0)), ← c.loop-block.invariant.rule, c.in-None.ensures.steps.is.0, eq-eqb _ _ c.if-next-c.false)

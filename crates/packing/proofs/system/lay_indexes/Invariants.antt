@@ -1,6 +1,6 @@
-use Rattle.sector.specs.Directories.{indexes_left}
+use Rattle.sector.specs.Directories.{indexes_from}
 use Rattle.packing.proofs.IndexSteps.{Indexed}
 use Rattle.packing.proofs.system.lay_indexes.Given as goal
 
-abbrev pub invariant-loop-i : goal.invariant-loop-i
-invariant-loop-i l = Indexed l.fn.layout l.source l.initial.target l.target l.next l.to (indexes_left l.i-iterator)
+abbrev pub invariant-loop-directory : goal.invariant-loop-directory
+invariant-loop-directory l = Indexed l.layout l.source l.initial.target l.target l.next l.to (indexes_from l.layout l.source l.directory)
